@@ -1,4 +1,4 @@
--- Lemmas for the proof that the desk reads enough rows to answer a signed pass.
+-- Lemmas for the proof that the desk reads enough rows to answer a request with a signed pass.
 use Rattle.club_gate.proofs.Common.{◌≡◌, inl, inr, ℕ, true, List, Ok, map, refl, sym, ap, ◌∙◌, Option, Some, None, is_some, option_map, option_and_then}
 use Rattle.club_gate.proofs.Common.{if◌then◌else◌, same_Some, caveat_of, first_fault_of, after_spending, Plain, Key, KeyRow, row_of_key, Request, View}
 use Rattle.club_gate.proofs.Common.{answer_by_view, ask_of, owed_at, verdict_in, Basis, account_named, slot_use, state_of, view_in, view_of, Club, IsSound}
@@ -11,11 +11,11 @@ use Rattle.club_core.specs.{Laws.OwnBookings, Looks.{bare_view, books_anew}, Req
 use Rattle.club_core.specs.declared.account.MemberAccount.{MemberAccount}
 use Rattle.club_core.specs.declared.request.Request.TheVariants as asked
 
--- The view with the use of a slot added.
+-- The view after adding how many places of a slot are taken, and whether the slot is closed.
 abbrev pub with_slot : Club → Slot → View → View
 with_slot club slot view = record view { taken = (slot_use club slot).taken; closed = (slot_use club slot).closed }
 
--- The view with a member's row, balance and number of open bookings added.
+-- The view after adding a member's row, balance and number of open bookings.
 abbrev pub with_account : Club → ℕ → View → MemberAccount → View
 with_account club moment view account = record view {
   member = account.member;
@@ -23,12 +23,13 @@ with_account club moment view account = record view {
   open_count = count_to_come moment (bookings_of account.member.name club);
 }
 
--- The view with the row, balance and number of open bookings of the key's member added. The result
--- is `None` if the club has no such member.
+-- The view after adding the row, balance and number of open bookings of the key's member. The
+-- result is `None` if the club has no such member.
 abbrev pub with_member : Club → ℕ → View → Option View
 with_member club moment view = option_map (with_account club moment view) (account_named view.key.member club)
 
--- The view with the values of a member's account added, and with the points that the key has spent.
+-- The view after adding a member's row, balance and number of open bookings, and the points that
+-- the key has spent.
 abbrev pub with_all : Club → ℕ → View → MemberAccount → View
 with_all club moment view account = record (with_account club moment view account) { spent = spent_under view.key.name club.bookings }
 
@@ -41,10 +42,10 @@ pub sums_read : (club : Club) (moment : ℕ) (view shown : View) (spent : ℕ) (
 sums_read club moment view shown spent None is e = absurd (cc)
 sums_read club moment view shown spent (Some account) is e = rw (is, same_Some shown (with_account club moment view account) e) refl
 
--- The view with the rows and sums added that the decision depends on:
--- - A request to view a slot needs the use of the slot.
--- - A new booking needs the use of the slot and the sums of the member.
--- - A request for the account needs the sums of the member and of the key.
+-- The view after adding the rows and sums that the decision depends on:
+-- - A request to view a slot needs the slot's state (`with_slot`).
+-- - A new booking needs the slot's state and the member's values (`with_account`).
+-- - A request for the account needs the member's values and the points that the key has spent.
 -- - Other requests need no more rows or sums.
 abbrev pub last_view : Club → Request → ℕ → View → Option View
 last_view club (asked.View slot) moment view = Some (with_slot club slot view)
@@ -64,7 +65,7 @@ refused_by_fault view other request moment e (Some (NotUnderstood n)) some = rw 
 refused_by_fault view other request moment e (Some (Denied n)) some = rw e refl
 
 module _ (club : Club) (key : Key) (moment : ℕ) (its : IsOwned club key) where
-  -- The full view of a key of the club.
+  -- The view of a request under the key, with all rows and sums.
   abbrev whole : Request → View
   whole request =
       let bookings = bookings_of its.member.name club in

@@ -1,4 +1,4 @@
--- Lemmas on the key that signed a pass, and on the member who has the key.
+-- Lemmas on the key under which a pass is signed, and on the key's member.
 use Rattle.club_gate.proofs.Common.{◌≡◌, ℕ, zero, suc, Bool, true, false, cond, not, List, [], ◌∷◌, map, refl, sym, ap, ◌∙◌, arith, Option, Some, None, Result}
 use Rattle.club_gate.proofs.Common.{Ok, Err, option_map, option_and_then, Contains, find, bytes_eq, All-contains, option_and_then_some, Plain, Key, KeyRow}
 use Rattle.club_gate.proofs.Common.{row_of_key, KeyRevoked, NotVerified, Request, Verdict, answer_to, verdict_in, basis_under, Club, IsSound, bookings_of}

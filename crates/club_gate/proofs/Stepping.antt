@@ -1,4 +1,4 @@
--- Lemmas on the state of the store after the desk decided an event.
+-- Lemmas on the state of the store after the desk handled an event.
 use Rattle.club_gate.proofs.Common.{◌≡◌, ◌≢◌, inl, inr, ℕ, true, false, List, [], ◌∷◌, Option, Some, None, Result, Ok, Err, refl, sym, ap, ◌∙◌, IsErr, IsBytes}
 use Rattle.club_gate.proofs.Common.{Change, Unavailable, Reply, Request, StoreFault, Verdict, verdict_in, Club, IsSound, IsEvent, office_verdict, Words, Asked}
 use Rattle.club_gate.proofs.Common.{Commanded, after_change, done_answer, ToMember, ToOffice, is_unavailable, NeverUnavailable, IsRead, decoded_words}

@@ -1,4 +1,5 @@
--- A call that reads the store returns values of a sound club.
+-- A lemma about calls that read the store. The proof of such a call may assume that the store's
+-- club is sound.
 use Rattle.club_gate.proofs.Common.{List, ◌∷◌, Option, None, Result, IfOk, All, MatchResult, All-head, Change, StoreFault, Club, IsSound, IsRead, KeepsClub}
 use Rattle.club_gate.proofs.Common.{ReadsStore}
 

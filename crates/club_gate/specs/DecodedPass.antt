@@ -1,5 +1,5 @@
--- Decoding of a text for the rules of the club. The decoded pass is the same whether the text is in
--- form V1, V2 or JSON.
+-- Defines how the text of a pass is decoded for the rules of the club. The decoded pass is the same
+-- whether the text is in form V1, V2 or JSON.
 use Rattle.std.specs.{List.AllZip, Prelude.{◌≡◌, ◌↔◌, ℕ, IsTrue, List, Option, Some, Result, Ok, Err}}
 use Rattle.pass_caveats.specs.{Caveat.Understood, declared.caveat.Caveat.Caveat}
 use Rattle.pass_forms.specs.{Pass.{Plain, IsSigned}, declared.{fault.FormFault.FormFault, form.Form.Form}}
@@ -21,8 +21,8 @@ pub record IsSeenAs (pass : Plain) (seen : Pass) : Type 0 where
       AllZip (λ (text : List ℕ) (one : Option Caveat). (caveat : Caveat) → (one ≡ Some caveat) ↔ Understood text caveat) pass.caveats seen.caveats
   pub signed : (root : List ℕ) → IsTrue (seen.is_signed root) ↔ IsSigned root pass
 
--- Converts the fault of a text for the rules of the club. By the law `ReadsNoLackOfMemory`, no text
--- has the fault `Memory`, so the result for `Memory` doesn't matter.
+-- Converts the fault of a text to the fault that the rules of the club use. By the law
+-- `ReadsNoLackOfMemory`, no text has the fault `Memory`, so the result for `Memory` doesn't matter.
 abbrev pub fault_of : FormFault → PassFault
 fault_of faults.TooLong = TooLong
 fault_of faults.Malformed = Malformed
@@ -30,8 +30,8 @@ fault_of faults.ThirdParty = ThirdParty
 fault_of faults.TooMany = TooMany
 fault_of faults.Memory = Malformed
 
--- The text encodes a pass that decodes to this value, or the text has this fault. The text may be
--- in any form.
+-- The result is the decoded pass of the text, or the fault of the text. The text may be in any
+-- form.
 abbrev pub IsDecoded : List ℕ → Result Pass PassFault → Type 0
 IsDecoded text (Ok seen) = (form : Form) × (pass : Plain) × IsAnyReading text (Ok (form, pass)) × IsSeenAs pass seen
 IsDecoded text (Err fault) = (reason : FormFault) × IsAnyReading text (Err reason) × (fault ≡ fault_of reason)

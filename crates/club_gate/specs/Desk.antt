@@ -28,15 +28,16 @@ abbrev pub FitsIfAny : Option Change → Club → Type 0
 FitsIfAny None club = Unit {0}
 FitsIfAny (Some change) club = FitsClub change club
 
--- The possible crash states after an event, except the current club. A committed change removes all
--- possible crash states. An event without a change leaves the possible crash states unchanged.
+-- The possible crash states after an event. These are the clubs, except the current club, that the
+-- store may have after a crash. A committed change removes all possible crash states. An event
+-- without a change doesn't change the possible crash states.
 abbrev pub others_after : Option Change → List Club → List Club
 others_after None others = others
 others_after (Some change) others = []
 
 -- If the call succeeded, the store represents the changed club. If the call failed, the store
--- represents the same club as before the call, but a crash may leave the changed club. If there is
--- no change, the club stays the same.
+-- represents the same club as before the call, and the changed club is a possible crash state. If
+-- the change is `None`, the changed club is the club before the call.
 abbrev pub Settles : {S A E : Type 0} → (S → Club → List Club → Type 0) → S → Option Change → Result A E → Club → List Club → Type 0
 Settles Represents new change result club others = MatchResult result
     (λ _. Represents new (after_change change club) (others_after change others))
@@ -110,8 +111,8 @@ abbrev pub IsStoreFault : Fault → Type 0
 IsStoreFault (faults.Store failure) = Unit {0}
 IsStoreFault (faults.Refused refusal) = ⊥
 
--- The fault with which printing a day's sheet fails. Either the store failed while it read the
--- rows, or there was no memory for the text of the sheet.
+-- Printing a day's sheet failed with this fault. Either the store failed while it read the rows, or
+-- there was no memory for the text of the sheet.
 abbrev pub IsSheetFault : {S : Type 0} → (Option Change → S → StoreFault → S → Type 0) → S → S → Fault → Type 0
 IsSheetFault Fails old new fault =
     ((failure : StoreFault) × Fails None old failure new × (fault ≡ faults.Store failure)) ⊎ ((fault ≡ faults.Store Memory) × IsRead Fails old new)

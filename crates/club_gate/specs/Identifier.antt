@@ -14,8 +14,8 @@ key_name_in identifier = if bytes_eq (take 4 identifier) (codes "key:") then nam
 abbrev pub key_in : Club → List ℕ → Option Key
 key_in club identifier = option_and_then (λ (name : List ℕ). key_named name club) (key_name_in identifier)
 
--- An identifier names a key if and only if the identifier is `key:` followed by the key's name, and
--- the name is valid.
+-- `key_name_in` finds a name in an identifier if and only if the name is valid and the identifier
+-- is `key:` followed by this name.
 abbrev pub FindsNames : Type 0
 FindsNames =
     (identifier name : List ℕ) → (key_name_in identifier ≡ Some name) ↔ (IsName name × (identifier ≡ identifier_of name))

@@ -23,7 +23,7 @@ Decodes = (text : List ℕ) (seen : Result Pass PassFault) → IsBytes text → 
 abbrev pub SeesEvents : Type 0
 SeesEvents = (events : List Event) (seen : List machine.Event) → All IsEventOfBytes events → AreEventsOf events seen ↔ (machine_events events ≡ seen)
 
--- If a pass is for a key of the club, the basis of the request is the basis of this key. A basis is
+-- If a pass names a key of the club, the basis of the request is computed from this key. A basis is
 -- the set of rows that a reply may depend on.
 abbrev pub NamesItsRows : Type 0
 NamesItsRows =
@@ -32,6 +32,6 @@ NamesItsRows =
     → IsName key.name → pass.identifier ≡ identifier_of key.name → key_named key.name club ≡ Some key
     → basis_of club words ≡ basis_under club words.request key
 
--- The result of reading a text is never the fault `Memory`.
+-- The specified result of reading a text is never the fault `Memory`.
 abbrev pub ReadsNoLackOfMemory : Type 0
 ReadsNoLackOfMemory = (text : List ℕ) → ¬ IsAnyReading text (Err Memory)

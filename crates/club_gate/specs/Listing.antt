@@ -25,7 +25,7 @@ abbrev pub values_of_slot : Slot → List (List ℕ × List ℕ)
 values_of_slot slot =
     (codes "facility", slot.facility) ∷ (codes "day", day_text slot.day) ∷ (codes "hour", decimal slot.hour) ∷ []
 
--- The named values of a slot's facility, and of the use of the slot.
+-- The named values of a slot's facility, the slot's taken places, and whether the slot is closed.
 abbrev pub values_of_state : Kind → ℕ → ℕ → ℕ → Bool → List (List ℕ × List ℕ)
 values_of_state kind price places taken closed =
     (codes "kind", kind_text kind)
@@ -71,8 +71,7 @@ account_with_key club name moment =
 abbrev pub account_listing : Club → List ℕ → ℕ → Option (List ℕ)
 account_listing club name moment = option_map (λ (seen : Key × View). shown_account_text seen.0 seen.1) (account_with_key club name moment)
 
--- The reply that shows a slot, its facility and its use, or `None` if the club has no such
--- facility.
+-- The reply to a request to view a slot, or `None` if the club has no such facility.
 abbrev pub slot_reply : Club → Slot → Option Reply
 slot_reply club slot =
     option_map (λ facility. SlotShown slot facility.kind facility.price facility.places (slot_use club slot).taken (slot_use club slot).closed)
@@ -90,16 +89,17 @@ abbrev pub unless_refused : Reply → Option Reply
 unless_refused (replies.Refused refusal) = None
 unless_refused reply = Some reply
 
--- The listing of a slot shows the reply to a request to view the slot. Every key of the club gets
--- the same reply, at every moment. If the reply is a refusal, there is no listing.
+-- The listing of a slot shows the reply to a request to view the slot. An accepted request gets the
+-- same reply under every key of the club and at every moment. If the reply is a refusal, there is
+-- no listing.
 abbrev pub ShowsSlotsToKeys : Type 0
 ShowsSlotsToKeys =
     (club : Club) (slot : Slot) (name : List ℕ) (moment : ℕ) (view : View)
     → view_in club name (asked.View slot) moment ≡ Some view
     → slot_listing club slot ≡ reply_lines (unless_refused (verdict_of view (asked.View slot) moment).reply)
 
--- The fault is a possible cause of a failed listing. The fault `Unknown` means that no key or
--- facility has the name. A fault of the store means that memory ran out or storage failed.
+-- A listing can fail with this fault. The fault `Unknown` means that no key or facility has the
+-- name. A fault of the store means that memory ran out or storage failed.
 abbrev pub IsUnshown : Option (List ℕ) → Fault → Type 0
 IsUnshown shown (Refused Unknown) = shown ≡ None
 IsUnshown shown (Store failure) = Unit {0}
@@ -125,8 +125,8 @@ FailsToShow Fails old new fault =
     ((failure : StoreFault) × Fails None old failure new × (fault ≡ Store failure))
     ⊎ (((fault ≡ Refused Unknown) ⊎ (fault ≡ Store Memory)) × IsRead Fails old new)
 
--- A listing doesn't change the club, and the result of the listing satisfies the property `IsSo` of
--- the club.
+-- A listing doesn't change the club. `IsSo` relates the result of the listing to each club that the
+-- store represented before the listing.
 pub record ShowsClub {S A : Type 0} (IsClean : S → Type 0) (Represents : S → Club → List Club → Type 0)
     (Fails : Option Change → S → StoreFault → S → Type 0) (old new : S) (result : Result A Fault) (IsSo : Club → Type 0) : Type 0 where
   pub was_clean : IsClean new → IsClean old

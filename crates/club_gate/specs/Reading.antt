@@ -1,4 +1,4 @@
--- The rows that the desk reads to answer a signed pass.
+-- The rows that the desk reads to answer a request with a signed pass.
 use Rattle.std.specs.Prelude.{◌≡◌, ◌⊎◌, ℕ, IsTrue, map, Option, Some, None, is_some, option_and_then}
 use Rattle.pass_caveats.specs.{Fault.first_fault_of, Kinds.at_kind, computed.CaveatOf.caveat_of, declared.ask.Ask.Ask}
 use Rattle.pass_forms.specs.Pass.{Plain}

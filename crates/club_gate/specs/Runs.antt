@@ -53,7 +53,7 @@ pub record FailedLast (club last : Club) (events : List machine.Event) (response
   pub failure : IsTrue (has_failed desk_presentation event response)
   pub no_change : MakesNoChange last rest since
 
--- The run changed nothing, and `left` was a possible crash state before the run.
+-- The run changed nothing, and a crash before the run could have left the club `left`.
 abbrev pub WasLeftBefore : Club → List Club → Club → List machine.Event → List DeskResponse → Club → Type 0
 WasLeftBefore club others last events responses left = (last ≡ club) × MakesNoChange last events responses × Contains others left
 
@@ -63,8 +63,8 @@ abbrev pub IsLeftByFailure : Club → Club → List machine.Event → List DeskR
 IsLeftByFailure club last events responses left =
     (event : machine.Event) × FailedLast club last events responses event × (left ≡ (step last event).club)
 
--- A crash after the run may leave the club `left`. The run starts from `club` with the possible
--- crash states `others`, and leads to the club `last`.
+-- A crash after the run may leave the club `left`. The run starts from `club` and leads to the club
+-- `last`. A crash before the run could have left one of the clubs `others`.
 abbrev pub MayBeLeft : Club → List Club → Club → List machine.Event → List DeskResponse → Club → Type 0
 MayBeLeft club others last events responses left =
     WasLeftBefore club others last events responses left ⊎ IsLeftByFailure club last events responses left
@@ -73,9 +73,10 @@ MayBeLeft club others last events responses left =
 abbrev pub IsWithinOneEvent : Club → Club → Type 0
 IsWithinOneEvent club now = (now ≡ club) ⊎ ((event : machine.Event) × (now ≡ (step club event).club))
 
--- The store represents the club after the answered events. `MayBeLeft` allows each of the store's
--- other possible crash states. An accepted repeat of a served booking or cancellation gets the same
--- response and changes nothing, in this club and in each club after one more event.
+-- The store represents the club after the answered events. Each other club that a crash may leave
+-- satisfies `MayBeLeft`. An accepted repeat of a served booking or cancellation gets the same
+-- response and changes nothing. This holds for the store's club, and for each club after one more
+-- event.
 pub record LeavesClub {S : Type 0} (Represents : S → Club → List Club → Type 0) (new : S) (club : Club) (others : List Club) (events : List machine.Event)
     (responses : List DeskResponse) : Type 0 where
   pub left : List Club
@@ -91,8 +92,8 @@ IsSolo club events responses =
     → replies_to name club (events_answered events responses) (answers desk_presentation events responses)
     ≡ map ToMember (solo_replies (part_of name club) (own_events name club (events_answered events responses)))
 
--- Consider a second run that starts with the same part of a member and has the same own events of
--- the member. In the second run, the member's requests get the same replies.
+-- Suppose that a member's part of the club and the member's own events are the same in a second run
+-- from a sound club. Then the member's requests get the same replies in both runs.
 abbrev pub IsAsInAnother : Club → List machine.Event → List DeskResponse → Type 0
 IsAsInAnother club events responses =
     (name : List ℕ) (other end : Club) (others : List machine.Event) (replies : List DeskResponse)
@@ -118,8 +119,8 @@ IsOnce club events responses =
     × IsRun desk_presentation club (history ++ rest) (before ++ since) (club_left club events responses)
 
 -- A member may cancel a booking that the office has already cancelled. If the member's request is
--- accepted and doesn't fail, the response is the recorded refund. Leaving out the accepted request
--- changes neither the other responses nor the final club.
+-- accepted and doesn't fail, the response states the recorded refund. Leaving out the accepted
+-- request changes neither the other responses nor the final club.
 abbrev pub ReturnsTheRecord : Club → List machine.Event → List DeskResponse → Type 0
 ReturnsTheRecord club events responses =
     (history rest : List machine.Event) (before since : List DeskResponse) (words : Words) (moment : ℕ) (key : List ℕ) (number : ℕ) (booking : Booking)
@@ -134,8 +135,8 @@ ReturnsTheRecord club events responses =
     → (IsFalse (has_failed desk_presentation (Asked words moment) again) → again ≡ ToMember (Cancelled key number (refund_by_office booking)))
     × IsRun desk_presentation club (history ++ rest) (before ++ since) (club_left club events responses)
 
--- In a run from the empty club, points are conserved. A member's balance and charges add up to the
--- member's credits and refunds.
+-- In a run from the empty club, points are conserved. A member's balance plus debits plus charges
+-- equals the member's credits plus refunds.
 abbrev pub Conserves : Club → List machine.Event → List DeskResponse → Type 0
 Conserves club events responses =
     (name : List ℕ) (member : Member)
@@ -143,7 +144,7 @@ Conserves club events responses =
     → member_named name (club_left club events responses) ≡ Some member
     → IsConserved (club_left club events responses) (events_answered events responses) (replies_of club (events_answered events responses)) member
 
--- No member was charged more points than the member's credit.
+-- The bookings of each member cost at most the points credited to the member.
 abbrev pub IsNeverNegative : Club → Type 0
 IsNeverNegative club = All (λ (member : Member). sum_by cost_of (bookings_of member.name club) ≤ member.credited) club.members
 
@@ -155,18 +156,19 @@ IsNeverOverbooked club = (slot : Slot) → HasPlaces slot club
 pub record IsLawfulRun (club : Club) (events : List machine.Event) (responses : List DeskResponse) : Type 0 where
   -- The responses to the answered events are the responses of the machine.
   pub run : IsAnsweredRun club events responses
-  -- A member's replies depend only on the member's part of the club, the member's own events, and
-  -- other members' use of the slots that the member's requests name.
+  -- A member's replies depend only on the member's part of the club and the member's own events.
+  -- The own event for a request includes how many persons other members have in the slot, and
+  -- whether the slot is closed.
   pub solo : IsSolo club events responses
   pub solo_of_two : IsAsInAnother club events responses
   -- An accepted repeat of a served booking or cancellation gets the same reply, unless the repeat
   -- fails. The repeat changes nothing.
   pub once : IsOnce club events responses
-  -- If the office cancelled a booking, an accepted later cancellation gets the recorded refund,
-  -- unless this cancellation fails. The later cancellation changes nothing.
+  -- If the office has cancelled a booking, the member's accepted request to cancel the booking gets
+  -- the recorded refund, unless the request fails. The request changes nothing.
   pub returns_the_record : ReturnsTheRecord club events responses
-  -- A run from the empty club neither creates nor loses points. In each run, no member is charged
-  -- more than the member's credit, and no slot is overbooked.
+  -- A run from the empty club neither creates nor loses points. After each run, no member's balance
+  -- is below 0, and no slot is overbooked.
   pub conserves : Conserves club events responses
   pub never_negative : IsNeverNegative (club_left club events responses)
   pub never_overbooked : IsNeverOverbooked (club_left club events responses)
@@ -187,8 +189,8 @@ module _ {S : Type 0} (IsClean : S → Type 0) (Represents : S → Club → List
     pub steps : IsClean new → (seen : machine.Event) × IsEventOf event seen × Steps Represents old new seen (response_of reply)
     pub failed : OfItsClub IsClean Represents old new (λ club. EventFailsForCause Fails old new club event reply)
 
-  -- The desk handled the events in order. Each event starts with the store that the previous event
-  -- left.
+  -- The desk handled the events in order. Each event starts with the store after the previous
+  -- event.
   pub data AreHandled (old : S) : List Event → List EventReply → S → Type 0 where
     no_event : AreHandled old [] [] old
     one_event : (events : List Event) (replies : List EventReply) (event : Event) (reply : EventReply) (now new : S) → AreHandled old events replies now

@@ -1,4 +1,4 @@
--- The law of the desk: the properties of each reply to a request with the text of a pass.
+-- The law of the desk: the properties that each reply to a request has.
 use Rattle.std.specs.Prelude.{◌≡◌, ◌≢◌, ℕ, false, List, ◌++◌, Some, None, Ok, Err}
 use Rattle.base64.specs.GeneralPurpose.{IsBytes}
 use Rattle.pass_caveats.specs.Fault.{Allowed}
@@ -21,7 +21,7 @@ pub record IsSignedFor (pass : Plain) (key : Key) (moment : ℕ) : Type 0 where
 
 -- The text encodes a pass that entitles its holder to the request:
 -- - The identifier names a key of the club that isn't revoked.
--- - The pass is signed under a root of this key that is good at the moment.
+-- - The pass is signed under a good root of this key (`IsSignedFor`).
 -- - Each caveat allows the request, given the club's rows for this key.
 pub record EntitlesTo (club : Club) (text : List ℕ) (request : Request) (moment : ℕ) : Type 0 where
   pub form : Form
@@ -94,8 +94,8 @@ pub record IsLawful (club : Club) (text : List ℕ) (request : Request) (moment 
   pub blind : IsBlind club text request reply
   -- The same pass in another form gets the same reply.
   pub forms : AnswersItsForms club text request moment reply
-  -- If a request is served, the same request gets the same reply with a signed pass for the same
-  -- key that has all caveats except the last ones.
+  -- A request that is served under a pass with added caveats gets the same reply under the original
+  -- pass.
   pub less : OpensNoMore club text request moment reply
 
 -- The text is in JSON. Parsing JSON needs memory, but the other forms are parsed without memory.

@@ -26,7 +26,8 @@ ReadsOrLacksMemory Fails IsJsonText old new (Ok verdict) = IsRead Fails old new
 ReadsOrLacksMemory Fails IsJsonText old new (Err fault) = Fails None old fault new ⊎ (IsJsonText × (new ≡ old))
 
 -- The result for a text that has this fault. The store wasn't called, and the club doesn't change.
--- If the text is parsed in place, the result is always a refusal with this fault.
+-- If the text is parsed without memory (`IsInPlace`), the result is always a refusal with this
+-- fault.
 pub record RefusesText {S : Type 0} (old new : S) (IsInPlace : Type 0) (fault : FormFault) (result : Result Verdict StoreFault) : Type 0 where
   pub same_store : new ≡ old
   pub no_change : IfOk result (λ verdict. verdict.change ≡ None)

@@ -42,7 +42,7 @@ use std::marker::Model;
 /// The desk of a club. A desk answers requests of members (`ask`) and commands of the office
 /// (`office`), and prints the sheet of a day (`sheet`).
 ///
-/// A desk keeps all data of the club in its store. Contracts represent a desk by its store.
+/// A desk keeps all data of the club in its store. In a contract, the value of a desk is its store.
 #[derive(Drop)]
 pub struct Desk<S: ClubStore> {
     pub(crate) store: S,
@@ -65,7 +65,7 @@ pub(crate) fn are_bytes(text: &[u8])
     let _text = text;
 }
 
-/// Returns a command view without rows, in which no place is taken.
+/// Returns a `CommandView` without rows. Its counts are 0, and its slot isn't closed.
 fn nothing_seen() -> CommandView
     ensures { result ≡ rows_seen None None None }
 {
@@ -107,9 +107,9 @@ impl<S: ClubStore> Desk<S> {
         store
     }
 
-    /// Applies a change to the store, or does nothing for `None`. An event makes no other write to
-    /// the store. If the store fails, the club is unchanged, but after a crash the store may
-    /// recover to the changed club.
+    /// Applies a change to the store, or does nothing for `None`. The desk writes to the store only
+    /// in this function. If the store fails, the club is unchanged, but the change may still take
+    /// effect after a crash.
     fn settle(&mut self, change: Option<Change>) -> Result<(), StoreFault>
         ensures was_clean { S.disk_is_clean self.new → S.disk_is_clean self.old }
         ensures settled { S.disk_is_clean self.new → (club : Club) (others : List Club)
@@ -163,7 +163,8 @@ impl<S: ClubStore> Desk<S> {
         }
     }
 
-    /// Returns the key with this name and its older root, or `None` if the club has no such key.
+    /// Returns the key with this name, including its older root. Returns `None` if the club has no
+    /// such key.
     pub(crate) fn key(&mut self, name: &Name) -> Result<Option<Key>, StoreFault>
         ensures { ReadsStore S.disk_is_clean S.represents S.fails self.old self.new result
             (λ club key. key ≡ key_named name.now club) }
@@ -240,18 +241,18 @@ impl<S: ClubStore> Desk<S> {
     ///
     /// A refusal names the first cause that applies. The causes are checked in this order:
     ///
-    /// 1. the form of the text
-    /// 2. the pass
+    /// 1. the form of the pass's text
+    /// 2. the key and the signature of the pass
     /// 3. the caveats of the pass, in order
     /// 4. the rules for the request
     ///
     /// `Unavailable` means only that the store failed, or that there was no memory to parse a pass
-    /// in JSON. In both cases the club is unchanged. A store that failed to write may recover to
-    /// the changed club after a crash.
+    /// in JSON. In both cases the club is unchanged. If the store failed to write a change, the
+    /// change may still take effect after a crash.
     pub fn ask(&mut self, moment: Moment, words: &SentWords) -> Reply
         ensures was_clean { S.disk_is_clean self.new → S.disk_is_clean self.old }
-        // If the request didn't fail, the reply is the decision of the rules on the decoded text,
-        // and the store represents the club after this decision. If the request failed, the store
+        // If the request didn't fail, the reply is the decision of the rules on the decoded text.
+        // The store then represents the club after this decision. If the request failed, the store
         // represents the same club as before the request.
         ensures steps { S.disk_is_clean self.new → (decoded : Words)
             × AreWordsOf words.now.pass.now words.now.request decoded
@@ -288,8 +289,8 @@ impl<S: ClubStore> Desk<S> {
     /// command is stored. A refusal changes nothing.
     ///
     /// `Fault::Refused` names the rule that forbids the command. `Fault::Store` means only that
-    /// memory ran out or storage failed. A store that failed to write may recover to the changed
-    /// club after a crash.
+    /// memory ran out or storage failed. If the store failed to write a change, the change may
+    /// still take effect after a crash.
     pub fn office(&mut self, command: &Command) -> OfficeReply
         ensures was_clean { S.disk_is_clean self.new → S.disk_is_clean self.old }
         ensures steps { S.disk_is_clean self.new → Steps S.represents self.old self.new
@@ -315,8 +316,8 @@ impl<S: ClubStore> Desk<S> {
         }
     }
 
-    /// Returns the text of the sheet for a day. The club and the possible crash states are
-    /// unchanged.
+    /// Returns the text of the sheet for a day. Changes neither the club nor the clubs that the
+    /// store may have after a crash.
     ///
     /// # Errors
     ///

@@ -8,7 +8,8 @@ use club_values::Name;
 /// The prefix of an identifier, before the name of the key.
 pub(crate) const KEY_PREFIX: &[u8; 4] = b"key:";
 
-/// Returns the name of the key that an identifier names, or `None` if the identifier names no key.
+/// Returns the name of the key in an identifier. Returns `None` unless the identifier is `key:`
+/// followed by a valid name.
 #[tactic(auto, unfolding(crate::specs::Identifier::key_name_in))]
 pub(crate) fn key_name_in(identifier: &[u8]) -> Option<Name>
     ensures { result ≡ name_of identifier.now }

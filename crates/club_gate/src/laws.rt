@@ -10,21 +10,21 @@ use pass_caveats::laws::reads_what_is_understood;
 use pass_forms::laws::decides_signed;
 use pass_json::laws::reads_any_form_exactly;
 
-/// An identifier names a key if and only if the identifier is `key:` followed by the key's name,
-/// and the name is valid.
+/// `key_name_in` finds a name in an identifier if and only if the name is valid and the identifier
+/// is `key:` followed by this name.
 pub fn finds_names()
     ensures { FindsNames }
 {
     reads_names();
 }
 
-/// The result of reading a text is never the fault `Memory`.
+/// The specified result of reading a text is never the fault `Memory`.
 pub fn reads_no_lack_of_memory()
     ensures { ReadsNoLackOfMemory }
 {}
 
-/// `Desk::show_slot` lists the reply that every key of the club gets for a request to view the
-/// slot.
+/// `Desk::show_slot` lists the reply to a request to view the slot. An accepted request gets the
+/// same reply under every key of the club.
 pub fn shows_slots_to_keys()
     ensures { ShowsSlotsToKeys }
 {}
@@ -46,15 +46,15 @@ pub fn decodes()
     seen_alike();
 }
 
-/// Each list of events at the desk has exactly one list of machine events, which `machine_events`
-/// computes.
+/// Each list of events at the desk corresponds to exactly one list of machine events, which
+/// `machine_events` computes.
 pub fn sees_events()
     ensures { SeesEvents }
 {
     decodes();
 }
 
-/// If a pass is for a key of the club, the basis of the request is the basis of this key. A basis
+/// If a pass names a key of the club, the basis of the request is computed from this key. A basis
 /// is the set of rows that a reply may depend on.
 pub fn names_its_rows()
     ensures { NamesItsRows }

@@ -14,7 +14,8 @@ use std::alloc::{AllocError, Global};
 
 impl<S: ClubStore> Desk<S> {
     /// Lists the values of a key's account at a moment, one value per line. Also lists whether the
-    /// key is revoked, and until when its older root is good. Shows no root, and changes no row.
+    /// key is revoked, and when the key's older root expires. The listing contains no root, and the
+    /// call changes no row.
     ///
     /// # Errors
     ///
@@ -30,8 +31,9 @@ impl<S: ClubStore> Desk<S> {
         Ok(account_text(self.alloc, &key, &view)?)
     }
 
-    /// Lists the use of a slot and the values of its facility, one value per line. Every key of the
-    /// club may see these values. Changes no row.
+    /// Lists the values of a slot and of its facility, one value per line. Also lists how many
+    /// places of the slot are taken, and whether the slot is closed. The reply to an accepted
+    /// request to view the slot shows the same values. The call changes no row.
     ///
     /// # Errors
     ///
@@ -66,8 +68,8 @@ impl<S: ClubStore> Desk<S> {
         }
     }
 
-    // Returns the reply to a request to view a slot, or `None` if the facility is unknown. Every
-    // key gets the same reply.
+    // Returns the reply to a request to view a slot, or `None` if the facility is unknown. An
+    // accepted request gets the same reply under every key.
     fn slot_reply(&mut self, slot: &Slot) -> Result<Option<Reply>, StoreFault>
         ensures { ReadsStore S.disk_is_clean S.represents S.fails self.old self.new result
             (λ club reply. reply ≡ spec.slot_reply club slot.now) }
@@ -139,7 +141,7 @@ fn slot_name(alloc: Global, slot: &Slot) -> Result<String, AllocError>
     )
 }
 
-// Appends the lines for a facility and for the use of a slot.
+// Appends the lines for a facility, for a slot's taken places, and for whether the slot is closed.
 fn push_state(
     text: &mut String,
     kind: Kind,

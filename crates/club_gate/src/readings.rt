@@ -1,5 +1,5 @@
-//! Reads the rows that are needed to answer a signed pass. Reads only the rows and sums that the
-//! caveats and the decision depend on.
+//! Reads the rows that are needed to answer a request with a signed pass. Reads only the rows and
+//! sums that the caveats and the decision depend on.
 
 ghost use Rattle.std.specs.Prelude.{◌≡◌, ◌≤◌, None, true, map, option_map};
 ghost use Rattle.pass_caveats.specs.{Fault.first_fault_of, Spending.after_spending};
@@ -23,9 +23,9 @@ use pass_forms::FieldSource;
 
 impl<S: ClubStore> Desk<S> {
     /// Reads the booking with the request's number, and the facility of the request's slot. If the
-    /// booking exists, reads the facility only if a caveat depends on the facility's kind. Apart
-    /// from these rows, caveats depend only on the points that the key has spent. The source yields
-    /// the fields of the pass.
+    /// booking exists, reads the facility only if a caveat depends on the facility's kind. The only
+    /// other value of the club that caveats depend on is the number of points that the key has
+    /// spent. The source yields the fields of the pass.
     pub(crate) fn first_view<'a, F: FieldSource<'a> + Drop>(
         &mut self,
         source: &F,
@@ -51,9 +51,9 @@ impl<S: ClubStore> Desk<S> {
     }
 
     /// Returns the first caveat that refuses a request with this key. The source yields the fields
-    /// of the pass. If the result depends on the points that the key has spent, first reads the
-    /// points that the key's member has used. Reads the points that the key has spent only if the
-    /// member's points don't settle the result.
+    /// of the pass. If the result depends on the points that the key has spent, the call first
+    /// reads the points that the key's member has used. The call reads the points that the key has
+    /// spent only if the member's points don't decide the result.
     pub(crate) fn caveat_fault<'a, F: FieldSource<'a> + Drop>(
         &mut self,
         source: &F,
@@ -91,7 +91,7 @@ impl<S: ClubStore> Desk<S> {
         Ok(u64::from(account.used()) <= most)
     }
 
-    /// Adds the use of a slot to the view.
+    /// Adds to the view how many places of a slot are taken, and whether the slot is closed.
     fn with_slot(&mut self, view: View, slot: &Slot) -> Result<View, StoreFault>
         ensures { ReadsStore S.disk_is_clean S.represents S.fails self.old self.new result
             (λ club found. found ≡ record view {
@@ -129,8 +129,9 @@ impl<S: ClubStore> Desk<S> {
         }))
     }
 
-    /// Adds all sums of an account to the view: the sums of the key's member, and the points that
-    /// the key has spent. Returns `None` if the club has no such member.
+    /// Adds the values of an account to the view. These are the row, the balance and the number of
+    /// open bookings of the key's member, and the points that the key has spent. Returns `None` if
+    /// the club has no such member.
     pub(crate) fn with_sums(
         &mut self,
         view: View,
@@ -151,9 +152,10 @@ impl<S: ClubStore> Desk<S> {
         Ok(Some(View { spent, ..view }))
     }
 
-    /// Adds the rows and sums that the decision depends on to a view. The view already has the
+    /// Adds to a view the rows and sums that the decision depends on. The view already has the
     /// values that the caveats depend on. Returns `None` if the club doesn't have the key's member.
-    /// The resulting view gives the same answer as the key's full view.
+    /// For the resulting view, the rules give the same answer as for a view with all of the key's
+    /// rows and sums.
     pub(crate) fn last_view(
         &mut self,
         view: View,

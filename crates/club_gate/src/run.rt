@@ -34,7 +34,7 @@ fn event_within(event: &Event)
 }
 
 impl<S: ClubStore> Desk<S> {
-    /// Answers events in order. Each event is answered for the club that the previous event left.
+    /// Answers events in order. Each event is answered for the club after the previous event.
     ///
     /// # Errors
     ///
@@ -46,16 +46,16 @@ impl<S: ClubStore> Desk<S> {
         ensures lawful { S.disk_is_clean self.new → Returns S.represents self.old result
             (λ club replies. (seen : List machine.Event) → AreEventsOf events.now seen
             → IsLawfulRun club seen (responses_of replies.items)) }
-        // Each event was answered by one step of the machine, or failed for a cause that `ask` or
-        // `office` allows.
+        // Each event was answered by one step of the rules' state machine, or failed. If an event
+        // failed, the contract of `ask` or `office` allows the cause.
         ensures handled { IfOk result (λ replies. AreHandled S.disk_is_clean S.represents S.fails
             self.old events.now replies.items self.new) }
         // After a crash, the store has the club after the answered events, or the club after one
         // more event. The additional event failed after the last change of the run. If the run
-        // changed nothing, the store may also have a club that a crash could have left before the
-        // run. An accepted repeat of a served booking or cancellation gets the same reply and
-        // changes nothing. The repeat may come directly after the answered events, or after one
-        // more event.
+        // changed nothing, the store may also have a club that a crash before the run could have
+        // left. An accepted repeat of a served booking or cancellation gets the same reply and
+        // changes nothing. This holds directly after the answered events, and also after one more
+        // event.
         ensures represents { S.disk_is_clean self.new → (club : Club) (others : List Club)
             → S.represents self.old club others
             → IfOk result (λ replies. (seen : List machine.Event) → AreEventsOf events.now seen

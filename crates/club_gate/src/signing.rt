@@ -15,13 +15,14 @@ use pass_forms::{FieldSource, is_signed_by};
 use pass_mac::Chain;
 
 impl<S: ClubStore> Desk<S> {
-    /// Returns whether a pass is signed under a root of this row's key that is good at the moment.
-    /// Reads the older root only if the pass isn't signed under the current root. The caller has
-    /// already taken the identifier from the source.
+    /// Returns whether a pass is signed under a good root of the key in this row. Reads the older
+    /// root only if the pass isn't signed under the current root. The caller has already taken the
+    /// identifier from the source.
     ///
-    /// If the pass is signed under the current root, the cache stores the derived key of this root.
-    /// Otherwise, the cache is unchanged. So the older root's derived key can stay in the cache
-    /// after a rotation, until the desk checks a pass that is signed under the current root.
+    /// The desk has a cache of derived keys. If the pass is signed under the current root, the
+    /// cache stores the root's derived key. Otherwise, the cache is unchanged. So after a rotation,
+    /// the cache can still have the older root's derived key. This derived key is replaced when the
+    /// desk checks a pass that is signed under the current root.
     pub(crate) fn is_signed<'a, F: FieldSource<'a> + Drop>(
         &mut self,
         source: &F,

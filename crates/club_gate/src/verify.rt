@@ -36,8 +36,8 @@ use pass_json::laws::{
 };
 use pass_json::{JsonFields, read_json};
 
-// The result of reading a text is the result of reading the bytes that the text wraps, or the fault
-// of the text's envelope.
+// If `unwrap_text` finds the bytes of a pass in a text, reading the text gives the result of
+// reading these bytes. If `unwrap_text` fails, reading the text gives the same fault.
 fn reads_by_bytes(text: &[u8])
     ensures wrapped { (form : FormOfBytes) (bytes : List ℕ)
         → IsUnwrapped text.now (Ok (form, bytes)) → length bytes ≤ max_text_len
@@ -54,7 +54,8 @@ fn reads_by_bytes(text: &[u8])
     refuses_what_wraps_nothing();
 }
 
-/// Takes the location and the identifier of a pass from its source. Returns the identifier.
+/// Takes the first two fields of a pass from the source: the location and the identifier. Returns
+/// the identifier.
 fn identifier_from<'a, F: FieldSource<'a>>(source: &mut F) -> Option<&'a [u8]>
     ensures { (pass : Plain) → F.left source.old ≡ pass_fields pass
         → IsSomeAnd result (λ identifier. identifier.now ≡ pass.identifier)
@@ -154,8 +155,8 @@ impl<S: ClubStore> Desk<S> {
     }
 
     /// Returns the verdict on a request with a pass. The source yields the fields of the pass.
-    /// Scans the fields for the signature. Scans the fields again for the caveats only if the pass
-    /// is signed.
+    /// First scans the fields to check the signature. Scans the fields again to check the caveats
+    /// only if the pass is signed.
     fn verdict_of<'a, F: FieldSource<'a> + Drop>(
         &mut self,
         source: &F,
@@ -172,7 +173,7 @@ impl<S: ClubStore> Desk<S> {
         }
     }
 
-    /// Returns the verdict on a request with the pass that these bytes encode in a form. A pass in
+    /// Returns the verdict on a request. `bytes` contains the pass in the form `form`. A pass in
     /// JSON is parsed first, which needs memory. In the other forms, the fields of the pass are
     /// slices of the bytes.
     fn verdict_on(
@@ -210,8 +211,8 @@ impl<S: ClubStore> Desk<S> {
         }
     }
 
-    /// Returns the verdict on a request at a moment: its reply and its change of the club. Refuses
-    /// a text that isn't a pass without calling the store.
+    /// Returns the verdict on a request at a moment. A verdict is a reply and an optional change of
+    /// the club. The function doesn't call the store if the text isn't a pass.
     pub(crate) fn verdict(
         &mut self,
         words: &SentWords,

@@ -1,4 +1,4 @@
-//! Scans of the caveats among the fields of a pass.
+//! Functions that scan the fields of a pass for caveats.
 
 ghost use Rattle.std.specs.Prelude.{◌≡◌, ℕ, false, map};
 ghost use Rattle.pass_caveats.specs.{Fault.first_fault_of, Spending.{IsWithin, after_spending}};
@@ -9,9 +9,9 @@ use pass_caveats::laws::{finds_the_fault_at, reads_what_is_understood};
 use pass_caveats::{Ask, CaveatFault, Unspent, fault_at, looks_at_kind, unspent_at};
 use pass_forms::{Field, FieldSource};
 
-/// Returns the first caveat that isn't understood or denies a request, if the key has already spent
-/// `spent` points. Returns `None` if all caveats allow the request. The source yields the fields of
-/// the pass, and is unchanged.
+/// Returns the first caveat that isn't understood or that denies a request. The caveats are checked
+/// as if the key had spent `spent` points. Returns `None` if all caveats allow the request. The
+/// source yields the fields of the pass, and is unchanged.
 pub(crate) fn fault_after<'a, F: FieldSource<'a> + Drop>(
     source: &F,
     ask: &Ask,
@@ -35,9 +35,9 @@ pub(crate) fn fault_after<'a, F: FieldSource<'a> + Drop>(
     None
 }
 
-/// Returns the first caveat that refuses the request if the key has spent no points. Also returns
-/// the slack: with at most that number of spent points the result stays the same. The source is
-/// unchanged.
+/// Returns the first caveat that refuses the request. The caveats are checked as if the key had
+/// spent no points. Also returns the slack: the result is the same for every number of spent points
+/// up to the slack. The source is unchanged.
 pub(crate) fn unspent_fault<'a, F: FieldSource<'a> + Drop>(source: &F, ask: &Ask) -> Unspent
     ensures { OfItsPass (F.left source.now) (λ pass. (spent : ℕ) → IsWithin result.slack spent
         → first_fault_of (map caveat_of pass.caveats) (after_spending spent ask.now)
