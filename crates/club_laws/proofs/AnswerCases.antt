@@ -67,7 +67,7 @@ pub record Cancels (club : Club) (key : Key) (slot : Slot) (number : ℕ) (booki
   pub same : same_slot booking.slot slot ≡ true
   pub still_booked : booking.cancelled ≡ false
 
--- In each case, the verdict has the property `P`.
+-- The verdict has the property `P` in each of the five cases of an answer.
 pub record Ways (P : Verdict → Type 0) (club : Club) (words : Words) (moment : ℕ) : Type 0 where
   pub silent : (reply : Reply) → IsSilent reply → P (verdicts.reply_only reply)
   pub repeats_booking : (key : Key) (member : Member) (slot : Slot) (number guests : ℕ) (booking : Booking) → Knows club words key member

@@ -16,7 +16,7 @@ abbrev pub Tells : List Entry → List Booking → List Entry → Type 0
 Tells told bookings later =
     (key : List ℕ) (number : ℕ) → charge_told key number told ≡ charge_or (booking_under key number bookings) (charge_told key number later)
 
--- The entries state the charges of the bookings that are new on the record.
+-- The entries state the charges of the bookings that are only in `new_bookings`.
 abbrev pub TellsNew : List Booking → List Booking → List Entry → Type 0
 TellsNew bookings new_bookings entries =
     (later : List Entry) (key : List ℕ) (number : ℕ)

@@ -6,7 +6,7 @@ use Rattle.std.proofs.Math.Nat.{le-max_left, le-max_right}
 use Rattle.std.specs.{List.fold, Prelude.max}
 use Rattle.club_core.specs.Sums.{is_at, most_taken_in}
 
--- The maximum of the start value and the numbers of all elements.
+-- The maximum of `first` and of the values of `f` for all elements.
 abbrev most_of : {X : Type 0} → (X → ℕ) → ℕ → List X → ℕ
 most_of f first xs = fold (λ most x. max most (f x)) first xs
 

@@ -10,7 +10,8 @@ use Rattle.club_laws.specs.Points.{Entry, is_entry_of, firsts, charge_of_reply, 
 use Rattle.std.proofs.lemmas.List.Sums.{sum_by-cons}
 use Rattle.club_rows.specs.Rows.{IsBooking}
 
--- The record of the keys and numbers that were seen so far.
+-- A record of the keys and numbers of earlier entries. The function tests whether an earlier entry
+-- has this key and number.
 abbrev pub Seen : Type 0
 Seen = List ℕ → ℕ → Bool
 
@@ -18,7 +19,7 @@ Seen = List ℕ → ℕ → Bool
 abbrev pub with_entry : Entry → Seen → Seen
 with_entry entry seen key number = seen key number || (bytes_eq key entry.key && number == entry.number)
 
--- Whether an entry adds points to a total. The entry's key must pass the test, and its key and
+-- Whether an entry adds points to a total. The entry's key must pass the test `p`, and its key and
 -- number must be new to the record.
 abbrev pub counts : (List ℕ → Bool) → Seen → Entry → Bool
 counts p seen entry = p entry.key && not (seen entry.key entry.number)
@@ -26,7 +27,8 @@ counts p seen entry = p entry.key && not (seen entry.key entry.number)
 abbrev pub points_of : Entry → ℕ
 points_of entry = entry.points
 
--- The sum of the points of the first entries that add points to the total.
+-- The sum of the points that the entries add to a total. For each key and number, only the first
+-- entry counts.
 abbrev pub unseen_total : (List ℕ → Bool) → Seen → List Entry → ℕ
 unseen_total p seen entries = sum_by points_of (filter (counts p seen) (firsts entries))
 
@@ -45,7 +47,8 @@ same_unseen : (p : List ℕ → Bool) (seen new_seen : Seen) (entries : List Ent
 same_unseen p seen new_seen entries h =
     ap (sum_by points_of) (filter_agree (counts p new_seen) (counts p seen) (λ entry. rw (h entry.key entry.number)) (firsts entries))
 
--- The entries of a reply raise the total from `total` to `new_total`, and update the record.
+-- The entries of a reply raise the total from `total` to `new_total`, and update the record from
+-- `seen` to `new_seen`.
 abbrev pub Moves : (List ℕ → Bool) → ℕ → ℕ → Seen → Seen → List Entry → Type 0
 Moves p total new_total seen new_seen entries =
     (rest : List Entry) → new_total + unseen_total p new_seen rest ≡ total + unseen_total p seen (entries ++ rest)
@@ -59,11 +62,11 @@ adds : (p : List ℕ → Bool) (total new_total : ℕ) (seen new_seen : Seen) (e
 adds p total new_total seen new_seen entry more kept rest =
     let later = same_unseen p (with_entry entry seen) new_seen rest kept in omega (arith, next_entry p seen entry rest)
 
--- The sum of the charges of the bookings under these keys.
+-- The sum of the charges of the bookings under keys that pass the test `p`.
 abbrev pub charged : (List ℕ → Bool) → List Booking → ℕ
 charged p bookings = sum_by (λ (b : Booking). b.charge) (filter (λ (b : Booking). p b.key) bookings)
 
--- Whether a booking has this key and number.
+-- Whether one of the bookings has this key and number.
 abbrev pub has_number : List Booking → Seen
 has_number bookings key number = list_any (is_numbered key number) bookings
 
@@ -109,11 +112,11 @@ charge_moves p club words moment =
       cancels = λ key member slot number booking k e c. charge_cancelled p club.bookings booking.key booking.number (refund_at booking moment);
     })
 
--- The sum of the refunds of the bookings under these keys.
+-- The sum of the refunds of the bookings under keys that pass the test `p`.
 abbrev pub refunded : (List ℕ → Bool) → List Booking → ℕ
 refunded p bookings = sum_by (λ (b : Booking). b.refund) (filter (λ (b : Booking). p b.key) bookings)
 
--- Whether a cancelled booking has this key and number.
+-- Whether one of the bookings is cancelled and has this key and number.
 abbrev pub has_cancelled : List Booking → Seen
 has_cancelled bookings key number = list_any (λ (b : Booking). is_numbered key number b && b.cancelled) bookings
 
@@ -138,7 +141,7 @@ refund_again p bookings key number points booking e before =
     (grind (arith, there booking.key booking.number, self_numbered booking))
     (λ k n. grind (arith, there k n, numbered_back k n booking))
 
--- The function `mark` edits this booking only, because no other booking has its key and number.
+-- The function `mark` edits only this booking of the list.
 record IsMarkedAlone (mark : Booking → Booking) (bookings : List Booking) (booking : Booking) : Type 0 where
   front : List Booking
   back : List Booking

@@ -12,7 +12,7 @@ use Rattle.club_laws.specs.Repeats.{CancellationsReturnTheRecord, refund_by_offi
 use Rattle.club_core.specs.declared.request.Request.TheVariants as asked
 use Rattle.club_core.specs.Verdict as verdicts
 
--- The request asks for this booking, and the reply has the booking's values.
+-- The request books or cancels this booking, and the reply has the booking's recorded values.
 abbrev pub IsAgain : Booking → Request → Reply → Type 0
 IsAgain booking (asked.Book slot number guests) reply =
     ((same_slot booking.slot slot && booking.guests == guests) ≡ true) × (reply ≡ Booked booking.key booking.number booking.charge booking.left)
@@ -20,7 +20,7 @@ IsAgain booking (asked.Cancel slot number) reply =
     (same_slot booking.slot slot ≡ true) × (booking.cancelled ≡ true) × (reply ≡ Cancelled booking.key booking.number booking.refund)
 IsAgain booking request reply = ⊥
 
--- The served request is on record, under the key that its pass names.
+-- The booking of a served request is on record, under the key that the request's pass names.
 pub record IsRecorded (bookings : List Booking) (words : Words) (reply : Reply) : Type 0 where
   pub key : List ℕ
   pub key_name : key_of words.pass ≡ Some key

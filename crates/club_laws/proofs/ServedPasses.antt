@@ -12,7 +12,7 @@ use Rattle.club_core.specs.{Verdict.{refusal_verdict, verdict_of}, declared.{com
 use Rattle.club_core.specs.declared.refusal.Refusal.TheVariants.{NotVerified, KeyRevoked, CaveatNotUnderstood, CaveatDenies}
 use Rattle.club_laws.specs.{Revoked.{ServesNoRevokedKey, WasRevoked}, SingleRequest.{RefusesTheUnsigned, MoreCaveatsNeverOpenMore, blind_refusal, words_with}}
 
--- The pass passes each test that the rules make before they decide the request.
+-- The pass meets the conditions that the rules check before they decide the request.
 pub record PassesTests (pass : Pass) (request : Request) (moment : ℕ) (basis : Basis) : Type 0 where
   pub signed : is_signed_under pass basis.key moment ≡ true
   pub not_revoked : basis.key.revoked ≡ false

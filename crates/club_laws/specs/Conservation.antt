@@ -8,8 +8,8 @@ use Rattle.club_core.specs.declared.command.Command.TheVariants.{Debit, CancelBo
 use Rattle.club_laws.specs.Points.{keys_given, credits_accepted, debits_accepted, charges_of_replies, refunds_given, refunds_of_replies, total_under}
 
 -- The member's balance plus debits plus charges equals the member's credits plus refunds. For each
--- booking, only the first charge and the first refund count. If the office cancelled a booking
--- first, the booking's refund is its whole charge. The member's bookings never cost more than the
+-- booking, only the first charge and the first refund count. If the office is the first to cancel a
+-- booking, the booking's refund is its whole charge. The member's bookings never cost more than the
 -- points credited to the member, so the balance is never below 0.
 pub record IsConserved (club : Club) (events : List Event) (replies : List EventReply) (member : Member) : Type 0 where
   pub balance_adds_up :
@@ -42,7 +42,8 @@ ConservesWithoutCorrections =
     balance_of member (bookings_of member.name (club_after empty_club events)) + total_under keys (charges_of_replies replies)
     ≡ credits_accepted member.name events replies + total_under keys (refunds_of_replies replies)
 
--- A slot has at least as many places as persons. A slot of an unknown facility has no persons.
+-- A slot has no more persons than its facility has places. A slot of an unknown facility has no
+-- persons.
 abbrev pub HasPlaces : Slot → Club → Type 0
 HasPlaces slot club =
     MatchOption (facility_named slot.facility club) (taken_in slot club.bookings ≡ 0) (λ (facility : Facility). taken_in slot club.bookings ≤ facility.places)

@@ -8,12 +8,12 @@ use Rattle.pass_caveats.specs.declared.caveat.Caveat.TheVariants.{Spend}
 use Rattle.club_core.specs.declared.request.Request.TheVariants as asked
 use Rattle.club_laws.specs.{Points.{keys_given, credits_accepted, debits_accepted, charges_of_replies, refunds_given, total_under}, Repeats.WasServed}
 
--- Twelve hours before the slot at 18 o'clock begins.
+-- The moment twelve hours before the slot at 18:00 begins.
 abbrev pub at_six : ℕ
 at_six = 29_626_920
 
--- A member makes two bookings, and repeats the booking at 18. The member then cancels the booking
--- at 18, repeats the cancellation, and repeats the booking.
+-- A member books the slots at 18:00 and 19:00, and then repeats the first request. The member then
+-- cancels the booking at 18:00, repeats the cancellation, and repeats the first request again.
 abbrev pub some_events : List Event
 some_events =
     opening
@@ -46,8 +46,8 @@ pub record CountsADebit : Type 0 where
   pub figures : AreFigures debited_events (replies_of empty_club debited_events) 800 10_000 300
   pub debits : debits_accepted (codes "amy") debited_events (replies_of empty_club debited_events) ≡ 400
 
--- The office cancels both bookings, but the booking at 18 is already cancelled. Then the member
--- cancels the booking at 19, and repeats the booking.
+-- The office cancels both bookings, but the booking at 18:00 is already cancelled. Then the member
+-- sends a request to cancel the booking at 19:00, and then repeats the original request to book.
 abbrev pub cancelled_events : List Event
 cancelled_events =
     some_events
@@ -57,13 +57,14 @@ cancelled_events =
     ∷ ask (asked.Book (slot_at 19) 8 0) late
     ∷ []
 
--- The refund of the booking at 19 is its whole charge of 200 points. The refund of the booking at
--- 18 is half of its 600 points.
+-- The refund of the booking at 19:00 is its whole charge of 200 points. The refund of the booking
+-- at 18:00 is half of its 600 points.
 abbrev pub CountsACancellationOnce : Type 0
 CountsACancellationOnce = AreFigures cancelled_events (replies_of empty_club cancelled_events) 800 10_000 500
 
--- The office cancels a booking. If the member then cancels the booking, the reply states the
--- recorded refund. If the member then repeats the booking, the reply is the booking's first reply.
+-- The office cancels a booking. The member's request to cancel the same booking then gets a reply
+-- with the recorded refund. When the member repeats the request to book, the reply is the booking's
+-- first reply.
 abbrev pub RepeatsAfterTheOffice : Type 0
 RepeatsAfterTheOffice =
     replies_of (club_after empty_club some_events)

@@ -25,8 +25,8 @@ has_failed presentation (Asked words moment) (ToMember reply) = is_unavailable r
 has_failed presentation (Commanded command) (ToOffice answer) = presentation.is_fault answer
 has_failed presentation event returned = false
 
--- An event was answered, so it didn't fail. The response shows the machine's reply to the event,
--- and the next club is the club after the machine's step.
+-- An event was answered, which means that the event didn't fail. The response shows the machine's
+-- reply to the event, and the next club is the club after the machine's step.
 pub record IsAnsweredStep {O : Type 0} (presentation : Presentation O) (club : Club) (event : Event) (returned : Response O) (next : Club) : Type 0 where
   pub success : IsFalse (has_failed presentation event returned)
   pub reply : returned ≡ present_reply presentation (step club event).reply
@@ -62,13 +62,15 @@ answers presentation (event ∷ events) (returned ∷ replies) =
     if has_failed presentation event returned then answers presentation events replies else returned ∷ answers presentation events replies
 answers presentation events replies = []
 
--- The machine's run of only the answered events has these responses and ends in this club.
+-- If the machine handles only the answered events, the machine gives the same responses to them,
+-- and ends in the club `last`.
 pub record IsRunOfAnswered {O : Type 0} (presentation : Presentation O) (club : Club) (events : List Event) (replies : List (Response O))
     (last : Club) : Type 0 where
   pub responses : answers presentation events replies ≡ map (present_reply presentation) (replies_of club (answered_events presentation events replies))
   pub left : last ≡ club_after club (answered_events presentation events replies)
 
--- A run without its failed events has the same other responses and the same last club.
+-- Removing the failed events from a run changes neither the responses to the other events nor the
+-- last club.
 abbrev pub LeavesOutFailed : Type 0 → Type 0
 LeavesOutFailed O =
     (presentation : Presentation O) (club last : Club) (events : List Event) (replies : List (Response O))
@@ -103,7 +105,8 @@ JoinsRuns O =
     → AreRuns presentation club last front rest before since
     → IsRun presentation club (front ++ rest) (before ++ since) last
 
--- If a desk shows no answer to the office as a fault, the machine's own run satisfies `IsRun`.
+-- Suppose that a desk never shows the machine's answers to the office as faults. Then the machine's
+-- own replies form a run (`IsRun`).
 abbrev pub RunsWithoutFailures : Type 0 → Type 0
 RunsWithoutFailures O =
     (presentation : Presentation O) (club : Club) (events : List Event)

@@ -25,7 +25,7 @@ replies =
     ∷ ToMember (AccountShown (codes "amy") 10_000 5 0 0)
     ∷ []
 
--- The run without the two failed events has the same other responses.
+-- Removing the two failed events from the run doesn't change the other responses.
 abbrev pub LeavesOutFailedEvents : Type 0
 LeavesOutFailedEvents =
     answers presentation events replies

@@ -1,4 +1,4 @@
--- Laws about the changes and events that leave a member's part of the club unchanged.
+-- Laws about the effect of changes and events on a member's part of the club.
 use Rattle.std.specs.Prelude.{◌≡◌, ℕ, ◌+◌, Bool, List, [], if◌then◌else◌, Some}
 use Rattle.club_values.specs.declared.slot.Slot.{Slot}
 use Rattle.club_core.specs.{After.after, Club.{Club, IsSound, is_key_of}, Run.{Event, step}, Solo.{outside, is_own, own_part, part_of}, Sums.taken_in}
@@ -32,8 +32,8 @@ LeavesThePart =
     → own_part name club event ≡ []
     → part_of name (step club event).club ≡ part_of name club
 
--- In every club, the number of persons in a slot is the sum of the member's own persons and other
--- members' persons.
+-- In every club, the number of persons in a slot is the sum over a member's own bookings and all
+-- other bookings of the slot.
 abbrev pub TakenIsOwnAndOthers : Type 0
 TakenIsOwnAndOthers =
     (name : List ℕ) (club : Club) (slot : Slot)

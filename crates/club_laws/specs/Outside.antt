@@ -1,23 +1,22 @@
--- Laws about the solo machine, which has only one member's part of the club. Of the other members,
--- the solo machine sees only how many of their persons are in the requested slot. It also sees
--- whether the slot is closed.
+-- Laws about the solo machine, which has only one member's part of the club. Outside the member's
+-- part of the club, the solo machine sees only the requested slot. The machine sees how many
+-- persons other members have in the slot, and whether the slot is closed.
 use Rattle.std.specs.Prelude.{◌≡◌, ℕ, List, Option, Some, None, codes}
 use Rattle.club_values.specs.declared.slot.Slot.{Slot}
 use Rattle.club_core.specs.{Basis.{Basis, basis_of}, Club.{Club, empty_club, is_closed}, Pass.Words, Request.request_slot, Run.Asked}
 use Rattle.club_core.specs.{Solo.{bookings_of_others, own_part, own_events}, Sums.taken_in}
 use Rattle.club_laws.specs.SoloExamples.{amy_alone, amy_among_others}
 
--- Other members have the same number of persons in the slot in both clubs. The slot is closed in
--- both clubs or in neither club.
+-- The members other than `name` have the same number of persons in the slot in both clubs. The slot
+-- is closed in both clubs or in neither club.
 abbrev pub HoldAlike : List ℕ → Club → Club → Option Slot → Type 0
 HoldAlike name a b None = Unit {0}
 HoldAlike name a b (Some slot) =
     (taken_in slot (bookings_of_others name a) ≡ taken_in slot (bookings_of_others name b))
     × (is_closed slot a ≡ is_closed slot b)
 
--- Suppose that the pass of a request names a key of the same member in two clubs, and that the
--- requested slot satisfies `HoldAlike`. Then the solo machine gets the same event for the request
--- from both clubs.
+-- Suppose that a request's pass names a key of the same member in two clubs. If the requested slot
+-- satisfies `HoldAlike`, the solo machine gets the same event for the request from both clubs.
 abbrev pub SeesTheSlotAlone : Type 0
 SeesTheSlotAlone =
     (name : List ℕ) (a b : Club) (words : Words) (moment : ℕ) (in_a in_b : Basis)

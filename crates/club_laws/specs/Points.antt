@@ -1,4 +1,5 @@
--- Defines the points in a run. The points are computed only from the run's events and replies.
+-- Defines the points in a run: charges, refunds, credits and debits. The points are computed only
+-- from the run's events and replies.
 use Rattle.std.specs.{List.list_any, Prelude.{ℕ, ◌+◌, ◌==◌, ◌&&◌, not, Bool, List, [], ◌∷◌, ◌++◌, filter, flat_map, sum_by, if◌then◌else◌}, Str.bytes_eq}
 use Rattle.club_core.specs.{Run.{Event, Commanded, EventReply, ToMember, ToOffice}, declared.command.Command.TheVariants.{Credit, Debit, AddKey, CancelBooking}}
 use Rattle.club_core.specs.declared.{command.OfficeAnswer.TheVariants.{Done, NewKey}, reply.Reply.TheVariants.{Booked, Cancelled}}
@@ -38,8 +39,8 @@ refund_of_reply reply = []
 abbrev pub refunds_of_replies : List EventReply → List Entry
 refunds_of_replies replies = flat_map refund_of_reply replies
 
--- The refund of a booking by an event. For a cancellation by the office, the refund is the
--- booking's first charge in the list. For a cancellation by the member, the reply states the
+-- The refund of a booking that an event cancels. For a cancellation by the office, the refund is
+-- the booking's first charge in `charges`. For a cancellation by the member, the reply states the
 -- refund.
 abbrev pub refund_given : List Entry → Event → EventReply → List Entry
 refund_given charges (Commanded (CancelBooking key number)) (ToOffice Done) =
@@ -54,7 +55,8 @@ refunds_by charges events replies = []
 abbrev pub refunds_given : List Event → List EventReply → List Entry
 refunds_given events replies = refunds_by (charges_of_replies replies) events replies
 
--- The name of the key that the office added for a member.
+-- The name of the key that an event added for a member. The list is empty if the event added no
+-- such key.
 abbrev pub key_given : List ℕ → Event → EventReply → List (List ℕ)
 key_given member (Commanded (AddKey name owner root)) (ToOffice (NewKey returned seed)) = if bytes_eq owner member then name ∷ [] else []
 key_given member event reply = []
@@ -81,7 +83,8 @@ abbrev pub debits_accepted : List ℕ → List Event → List EventReply → ℕ
 debits_accepted member (event ∷ events) (reply ∷ replies) = debit_accepted member event reply + debits_accepted member events replies
 debits_accepted member events replies = 0
 
--- The sum of the points in the first entries under these keys.
+-- The sum of the points in the entries under these keys. For each key and number, only the first
+-- entry counts.
 abbrev pub total_under : List (List ℕ) → List Entry → ℕ
 total_under keys entries =
     sum_by (λ (entry : Entry). entry.points)

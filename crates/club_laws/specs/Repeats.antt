@@ -14,8 +14,8 @@ IsBookedOrCancelled (Booked key number charge left) = Unit {0}
 IsBookedOrCancelled (Cancelled key number refund) = Unit {0}
 IsBookedOrCancelled reply = ⊥
 
--- The history contains a served request for the same booking or cancellation, with this reply. The
--- passes of both requests name the same key.
+-- The history contains a request to book or cancel that was served with this reply. `words`
+-- contains the same request, and a pass that names the same key.
 pub record WasServed (club : Club) (history : List Event) (words : Words) (reply : Reply) : Type 0 where
   pub front : List Event
   pub first : Words
@@ -36,7 +36,7 @@ RepeatsReturnTheSame =
     → IsAcceptedIn (club_after club history) words moment
     → step (club_after club history) (Asked words moment) ≡ record { reply = ToMember reply; club = club_after club history }
 
--- A run without this event has the same other replies and the same last club.
+-- Removing this event from the run changes neither the other replies nor the last club.
 pub record MayBeLeftOut (club : Club) (front : List Event) (event : Event) (rest : List Event) (reply : EventReply) : Type 0 where
   pub replies : replies_of club (front ++ event ∷ rest) ≡ replies_of club front ++ reply ∷ replies_of (club_after club front) rest
   pub others : replies_of club (front ++ rest) ≡ replies_of club front ++ replies_of (club_after club front) rest
@@ -63,9 +63,8 @@ pub record WasCancelled (club : Club) (history : List Event) (key : List ℕ) (n
 abbrev pub refund_by_office : Booking → ℕ
 refund_by_office booking = if booking.cancelled then booking.refund else booking.charge
 
--- Suppose that the office cancelled a booking before, and an accepted request of the member cancels
--- the booking. Then the reply states the recorded refund, and nothing changes. The request may come
--- at any moment.
+-- If the office has cancelled a booking, a member's accepted request to cancel the same booking
+-- changes nothing. The reply states the recorded refund. The request may come at any moment.
 abbrev pub CancellationsReturnTheRecord : Type 0
 CancellationsReturnTheRecord =
     (club : Club) (history : List Event) (words : Words) (moment : ℕ) (key : List ℕ) (number : ℕ) (booking : Booking)

@@ -6,7 +6,7 @@ use Rattle.club_core.specs.declared.{command.OfficeAnswer.TheVariants.{Done, New
 use Rattle.club_core.specs.declared.refusal.Refusal.TheVariants as refusals
 use Rattle.club_core.specs.declared.request.Request.TheVariants as asked
 
--- A request with a pass of the key amy-1. Only this root signs the pass.
+-- A request with a pass of the key amy-1. The pass is signed under this root only.
 abbrev pub ask_under : List ℕ → Request → ℕ → Event
 ask_under root request moment =
     Asked (record { pass = Ok (record { key = Some (codes "amy-1"); caveats = []; is_signed = λ other. bytes_eq other root }); request = request }) moment
@@ -29,8 +29,8 @@ before_midnight = 29_617_919
 abbrev pub rotate : List ℕ → ℕ → Event
 rotate root until = Commanded (RotateKey (codes "amy-1") root until)
 
--- The older root is valid before the given moment. A booking that is repeated under the new root
--- gets the recorded reply and charges nothing.
+-- After a rotation, the older root is valid only before the moment that the office set. A repeat of
+-- a booking under the new root gets the first reply and charges nothing.
 abbrev pub RepeatsUnderANewRoot : Type 0
 RepeatsUnderANewRoot =
     replies_of opened_club
@@ -49,7 +49,8 @@ RepeatsUnderANewRoot =
     ∷ account 9_400 1 600
     ∷ []
 
--- A second rotation drops the older root that the first rotation kept. A revoked key stays revoked.
+-- A second rotation drops the older root that the first rotation kept. A revoked key stays revoked
+-- after a rotation.
 abbrev pub DropsTheOldestRoot : Type 0
 DropsTheOldestRoot =
     replies_of opened_club

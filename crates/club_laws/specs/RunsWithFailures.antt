@@ -39,8 +39,8 @@ PlacesWithFailures O =
     → IsRun presentation empty_club events replies last
     → HasPlaces slot last
 
--- The history contains a served request for the same booking or cancellation, with this reply. The
--- passes of both requests name the same key.
+-- The history contains a request to book or cancel that was served with this reply. `words`
+-- contains the same request, and a pass that names the same key.
 pub record WasReturned {O : Type 0} (history : List Event) (replies : List (Response O)) (words : Words) (reply : Reply) : Type 0 where
   pub front : List Event
   pub before : List (Response O)
@@ -55,8 +55,8 @@ pub record WasReturned {O : Type 0} (history : List Event) (replies : List (Resp
   pub same_key : key_of words.pass ≡ key_of first.pass
   pub same_request : words.request ≡ first.request
 
--- A later accepted repeat gets the same response, unless the repeat fails. The run without the
--- repeat has the same other responses and the same last club.
+-- An accepted repeat of a served request gets the first response, unless the repeat fails. Removing
+-- the repeat from the run changes neither the other responses nor the last club.
 abbrev pub RepeatsWithFailures : Type 0 → Type 0
 RepeatsWithFailures O =
     (presentation : Presentation O) (club last : Club) (history rest : List Event) (before since : List (Response O))
@@ -68,9 +68,9 @@ RepeatsWithFailures O =
     → (IsFalse (has_failed presentation (Asked words moment) returned) → returned ≡ ToMember reply)
     × IsRun presentation club (history ++ rest) (before ++ since) last
 
--- Suppose that the office cancelled a booking before, and an accepted request of the member cancels
--- the booking. Then the response states the recorded refund, unless the request fails. The run
--- without this request has the same other responses and the same last club.
+-- If the office has cancelled a booking, a member's accepted request to cancel the same booking
+-- gets the recorded refund, unless the request fails. Removing this request from the run changes
+-- neither the other responses nor the last club.
 abbrev pub CancellationsWithFailures : Type 0 → Type 0
 CancellationsWithFailures O =
     (presentation : Presentation O) (club last : Club) (history rest : List Event) (before since : List (Response O))
@@ -100,8 +100,8 @@ RepeatsAfterOneMore O =
     → IsRun presentation club events replies last
     → RepeatsServedReplies last events replies × ((event : Event) → RepeatsServedReplies (step last event).club events replies)
 
--- In a run from a sound club, a member's part of the club and own events determine the replies to
--- the member's requests.
+-- In a run from a sound club, a member's part of the club and the member's own events determine the
+-- replies to the member's requests.
 abbrev pub SoloLawWithFailures : Type 0 → Type 0
 SoloLawWithFailures O =
     (presentation : Presentation O) (name : List ℕ) (club last : Club) (events : List Event) (replies : List (Response O))
@@ -111,8 +111,8 @@ SoloLawWithFailures O =
     replies_to name club answered (answers presentation events replies)
     ≡ map ToMember (solo_replies (part_of name club) (own_events name club answered))
 
--- Suppose that a member's part of the club and own events are the same in two runs from sound
--- clubs. Then the replies to the member's requests are the same in both runs.
+-- Suppose that a member's part of the club and the member's own events are the same in two runs
+-- from sound clubs. Then the replies to the member's requests are the same in both runs.
 abbrev pub SoloLawOfTwoWithFailures : Type 0 → Type 0
 SoloLawOfTwoWithFailures O =
     (presentation : Presentation O) (name : List ℕ) (a b last end : Club) (events others : List Event) (replies returned : List (Response O))

@@ -6,8 +6,8 @@ use Rattle.club_core.specs.{Acceptance.{IsServed, IsEntitled}, Answer.{form_refu
 use Rattle.club_core.specs.{Pass.{Pass, Words, IsSignedUnder}, Run.{Asked, step}, Verdict.refusal_verdict, declared.pass_fault.PassFault.PassFault}
 use Rattle.club_core.specs.declared.{refusal.Refusal.{Refusal, TheVariants.NotVerified}, request.Request.Request}
 
--- If two clubs have the same basis for a request, both clubs give the same answer at the same
--- moment.
+-- Two clubs with the same basis for a request give the same answer at the same moment. A basis is
+-- the set of rows that an answer may depend on.
 abbrev pub DependsOnTheBasisAlone : Type 0
 DependsOnTheBasisAlone =
     (words : Words) (moment : ℕ) (a b : Club) → basis_of a words ≡ basis_of b words → verdict_in a words moment ≡ verdict_in b words moment
@@ -19,13 +19,13 @@ blind_refusal (Err fault) = form_refusal fault
 blind_refusal (Ok pass) = NotVerified
 
 -- A request without a basis gets the refusal `blind_refusal`. This refusal depends only on the
--- request and its pass.
+-- decoded pass.
 abbrev pub RefusesWithoutABasis : Type 0
 RefusesWithoutABasis =
     (words : Words) (moment : ℕ) (club : Club) → basis_of club words ≡ None → verdict_in club words moment ≡ refusal_verdict (blind_refusal words.pass)
 
--- A request is refused with `NotVerified` if its pass names a key of the club, but no root of the
--- key that is valid at the moment signs the pass.
+-- If a pass names a key of the club, but isn't signed under a valid root of this key, the reply is
+-- the refusal `NotVerified`.
 abbrev pub RefusesTheUnsigned : Type 0
 RefusesTheUnsigned =
     (words : Words) (moment : ℕ) (club : Club) (pass : Pass) (key : Key)
@@ -35,8 +35,8 @@ RefusesTheUnsigned =
     → ¬ IsSignedUnder pass key moment
     → verdict_in club words moment ≡ refusal_verdict NotVerified
 
--- The club serves a request, even a repeated request, only if the pass allows its holder to make
--- the request.
+-- The club serves a request only if the pass entitles its holder to the request. The same holds for
+-- repeated requests.
 abbrev pub ServesOnlyTheEntitled : Type 0
 ServesOnlyTheEntitled =
     (words : Words) (moment : ℕ) (club : Club) → IsServed (verdict_in club words moment).reply → IsEntitled club words moment
@@ -46,9 +46,9 @@ abbrev pub words_with : Pass → Request → Words
 words_with pass request = record { pass = Ok pass; request = request }
 
 -- The wide pass and the narrow pass name the same key of the club. The narrow pass has the caveats
--- of the wide pass, followed by more caveats. A root of the key that is valid at the moment signs
--- the wide pass. If a request is served under the narrow pass, the same request gets the same
--- answer under the wide pass.
+-- of the wide pass, followed by more caveats. The wide pass is signed under a root of this key, and
+-- the root is valid at the moment. If a request is served under the narrow pass, the same request
+-- gets the same answer under the wide pass.
 abbrev pub MoreCaveatsNeverOpenMore : Type 0
 MoreCaveatsNeverOpenMore =
     (wide narrow : Pass) (more : List (Option Caveat)) (key : Key) (request : Request) (moment : ℕ) (club : Club)
@@ -60,7 +60,8 @@ MoreCaveatsNeverOpenMore =
     → IsServed (verdict_in club (words_with narrow request) moment).reply
     → verdict_in club (words_with wide request) moment ≡ verdict_in club (words_with narrow request) moment
 
--- The form of a pass's text changes neither the reply to a request nor the club after the request.
+-- The reply to a request and the club after the request don't depend on the form of the pass's
+-- text.
 abbrev pub AnswersFormsAlike : Type 0
 AnswersFormsAlike =
     (club : Club) (a b : Words) (moment : ℕ)

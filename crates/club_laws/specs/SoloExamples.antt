@@ -58,7 +58,7 @@ amy_among_others =
 abbrev pub AnswersAmyAmongOthers : Type 0
 AnswersAmyAmongOthers = replies_to_amy amy_among_others ≡ replies_to_amy amy_alone
 
--- If bob has one place in amy's slot, the reply to amy's booking states one free place less. No
+-- If bob has one place in amy's slot, the reply to amy's booking states one fewer free place. No
 -- other reply to amy changes.
 abbrev pub ShowsAmyATakenPlace : Type 0
 ShowsAmyATakenPlace =
@@ -96,8 +96,8 @@ ShowsAmyHerCancellation =
     ∷ served_booking 7 600 1
     ∷ []
 
--- New places and a new price apply to amy's next booking. Amy's earlier booking keeps its charge
--- and its places left.
+-- The facility's new price and number of places apply to amy's next booking. The reply to a repeat
+-- of amy's earlier booking still states the old charge and the old number of free places.
 abbrev pub ShowsAmyNewNumbers : Type 0
 ShowsAmyNewNumbers =
     replies_to_amy

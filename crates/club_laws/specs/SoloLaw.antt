@@ -17,16 +17,16 @@ replies_to name club (event ∷ events) (reply ∷ replies) =
     else replies_to name (step club event).club events replies
 replies_to name club events replies = []
 
--- In a run from a sound club, a member's part of the club and own events determine the replies to
--- the member's requests, whatever other members do.
+-- In a run from a sound club, a member's part of the club and the member's own events determine the
+-- replies to the member's requests.
 abbrev pub SoloLaw : Type 0
 SoloLaw =
     (name : List ℕ) (club : Club) (events : List Event)
     → IsSound club
     → replies_to name club events (replies_of club events) ≡ map ToMember (solo_replies (part_of name club) (own_events name club events))
 
--- Suppose that a member's part of the club and own events are the same in two runs from sound
--- clubs. Then the replies to the member's requests are the same in both runs.
+-- Suppose that a member's part of the club and the member's own events are the same in two runs
+-- from sound clubs. Then the replies to the member's requests are the same in both runs.
 abbrev pub SoloLawOfTwo : Type 0
 SoloLawOfTwo =
     (name : List ℕ) (a b : Club) (events others : List Event)

@@ -22,8 +22,8 @@ abbrev pub IsChangeBy : Club → Event → Change → Type 0
 IsChangeBy club (Asked words moment) change = (verdict_in club words moment).change ≡ Some change
 IsChangeBy club (Commanded command) change = office_verdict club command ≡ Ok (Some change)
 
--- If an event with values within their limits changes a sound club, the change matches the club's
--- rows, and the changed club is sound.
+-- Suppose that an event changes a sound club, and that the event's values are within their limits.
+-- Then the change matches the club's rows, and the changed club is sound.
 abbrev pub ChangesFit : Type 0
 ChangesFit = (club : Club) (event : Event) (change : Change) → IsSound club → IsEvent event → IsChangeBy club event change → FitsClub change club
 
@@ -52,10 +52,10 @@ pub record SuitsBooking (booking : Booking) (club : Club) : Type 0 where
 -- A change suits a club under these conditions:
 --
 -- - The values of the change are within their limits.
--- - A new row has an unused name, and every name that it refers to exists.
+-- - A new row has an unused name, and every name that the row refers to exists.
 -- - A credit doesn't raise the member's credited points above the maximum.
 -- - A debit leaves the member enough points to pay for the member's bookings.
--- - New numbers of a facility leave a place for each person in each slot.
+-- - A facility's new number of places is at least the number of persons in each of its slots.
 -- - A slot to close isn't closed yet.
 -- - A new booking suits the club.
 -- - A booking to cancel is on record, and its refund is at most its charge.

@@ -2,8 +2,8 @@
 
 ghost use Rattle.club_laws.specs.AccountExample.{CountsOverAllKeys};
 
-/// A member's account counts the open bookings of all its keys. The account doesn't count bookings
-/// whose slot has begun.
+/// An account counts the open bookings under all of the member's keys. The account doesn't count
+/// bookings whose slot has begun.
 pub fn counts_over_all_keys()
     ensures { CountsOverAllKeys }
 {}

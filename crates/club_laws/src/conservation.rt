@@ -5,18 +5,19 @@ ghost use Rattle.club_laws.specs.Conservation.{NeverOverbooks, SoundClubsHavePla
 ghost use Rattle.club_laws.specs.ExampleRuns.{CountsACancellationOnce, CountsADebit};
 ghost use Rattle.club_laws.specs.ExampleRuns.{CountsEachOnce};
 
-/// An example: each charge and each refund counts once, even if later replies repeat it.
+/// An example: each charge and each refund counts once, even if later replies repeat the charge or
+/// the refund.
 pub fn counts_each_once()
     ensures { CountsEachOnce }
 {}
 
-/// An example: a debit counts if and only if the office's reply reports success.
+/// An example: a debit counts if and only if the reply to the office reports success.
 pub fn counts_a_debit()
     ensures { CountsADebit }
 {}
 
 /// An example: a cancellation by the office refunds the whole charge once. The cancellation refunds
-/// nothing if the member cancelled the booking before.
+/// nothing if the member already cancelled the booking.
 pub fn counts_a_cancellation_once()
     ensures { CountsACancellationOnce }
 {}
@@ -35,14 +36,14 @@ pub fn conserves_without_corrections()
     ensures { ConservesWithoutCorrections }
 {}
 
-/// After a run from the empty club, each slot has at least as many places as persons.
+/// After a run from the empty club, no slot has more persons than places.
 #[tactic(auto, using(crate::proofs::PointRuns::has_room))]
 pub fn never_overbooks()
     ensures { NeverOverbooks }
 {}
 
-/// In every sound club, each slot has at least as many places as persons. The club need not be the
-/// result of a run.
+/// In every sound club, no slot has more persons than places. The club need not be the result of a
+/// run.
 #[tactic(auto, using(crate::proofs::PointRuns::has_places))]
 pub fn sound_clubs_have_places()
     ensures { SoundClubsHavePlaces }

@@ -5,7 +5,8 @@ ghost use Rattle.club_laws.specs.Failed.{CutsRuns, JoinsRuns, LeavesEvents, Leav
 ghost use Rattle.club_laws.specs.Failed.{NeverUnavailable, RunsWithoutFailures};
 ghost use Rattle.club_laws.specs.FailedExample.{LeavesOutFailedEvents};
 
-/// A run without its failed events has the same other responses and the same last club.
+/// Removing the failed events from a run changes neither the responses to the other events nor the
+/// last club.
 #[tactic(auto, using(crate::proofs::FailedEvents::run_of_answered))]
 pub fn leaves_out_failed<O>()
     ensures { LeavesOutFailed O }
@@ -30,7 +31,8 @@ pub fn joins_runs<O>()
     ensures { JoinsRuns O }
 {}
 
-/// If a desk shows no answer to the office as a fault, the machine's own run has no failures.
+/// Suppose that a desk never shows the machine's answers to the office as faults. Then the
+/// machine's own replies form a run.
 #[tactic(auto, using(crate::proofs::FailedEvents::run_without_failures))]
 pub fn runs_without_failures<O>()
     ensures { RunsWithoutFailures O }
@@ -42,8 +44,8 @@ pub fn never_unavailable()
     ensures { NeverUnavailable }
 {}
 
-/// An example: a failed credit and a failed booking change nothing. A run without the failed events
-/// has the same other replies.
+/// An example: a failed credit and a failed booking change nothing. Removing both events from the
+/// run doesn't change the other replies.
 pub fn leaves_out_failed_events()
     ensures { LeavesOutFailedEvents }
 {}

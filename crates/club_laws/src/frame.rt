@@ -1,10 +1,10 @@
-//! Laws about the changes and events that leave a member's part of the club unchanged. A member's
-//! part contains the member's row, keys and bookings, and all facilities.
+//! Laws about the effect of changes and events on a member's part of the club. A member's part
+//! contains the member's row, keys and bookings, and all facilities.
 
 ghost use Rattle.club_laws.specs.Frame.{ChangesThePartAlike, LeavesThePart, TakenIsOwnAndOthers};
 
-/// If a change leads from a sound club to a sound club, it makes the same change in a member's part
-/// of the club, or leaves the part unchanged.
+/// Suppose that a change leads from a sound club to a sound club. Then the change has the same
+/// effect on a member's part of the club, or doesn't affect the part.
 #[tactic(auto, using(crate::proofs::MemberParts::changes_the_part_alike))]
 pub fn changes_the_part_alike()
     ensures { ChangesThePartAlike }
@@ -17,8 +17,8 @@ pub fn leaves_the_part()
     ensures { LeavesThePart }
 {}
 
-/// The number of persons in a slot is the sum of the member's own persons and other members'
-/// persons.
+/// The number of persons in a slot is the sum over a member's own bookings and all other bookings
+/// of the slot.
 #[tactic(auto, using(crate::proofs::FilteredRows::sum_in_parts))]
 pub fn taken_is_own_and_others()
     ensures { TakenIsOwnAndOthers }

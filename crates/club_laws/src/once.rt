@@ -17,8 +17,8 @@ pub fn repeats_return_the_same()
     tests_the_signature();
 }
 
-/// A run without an accepted repeat of a served request has the same other replies and the same
-/// last club.
+/// Removing an accepted repeat of a served request from a run changes neither the other replies nor
+/// the last club.
 pub fn repeats_may_be_left_out()
     ensures { RepeatsMayBeLeftOut }
 {
@@ -32,8 +32,8 @@ pub fn accepts_a_repeat()
     ensures { AcceptsARepeat }
 {}
 
-/// Suppose that the office cancelled a booking before, and an accepted request of the member
-/// cancels the booking. Then the reply states the recorded refund, and nothing changes.
+/// If the office has cancelled a booking, a member's accepted request to cancel the same booking
+/// changes nothing. The reply states the recorded refund.
 pub fn cancellations_return_the_record()
     ensures { CancellationsReturnTheRecord }
 {
@@ -41,8 +41,8 @@ pub fn cancellations_return_the_record()
     tests_the_signature();
 }
 
-/// An example: the office cancels a booking. The member then cancels the same booking, and repeats
-/// the booking.
+/// An example: the office cancels a booking. The member then sends a request to cancel the same
+/// booking, and then repeats the original request to book.
 pub fn repeats_after_the_office()
     ensures { RepeatsAfterTheOffice }
 {}

@@ -2,14 +2,13 @@
 
 ghost use Rattle.club_laws.specs.Outside.{SeesNothingOfOthers, SeesTheSlotAlone};
 
-/// Of the other members, the solo machine sees only how many of their persons are in the requested
-/// slot. It also sees whether the slot is closed.
+/// Outside the member's part of the club, the solo machine sees only the requested slot. The
+/// machine sees how many persons other members have in the slot, and whether the slot is closed.
 pub fn sees_the_slot_alone()
     ensures { SeesTheSlotAlone }
 {}
 
-/// An example: a member's own events are the same in a run with another member as in a run without
-/// another member.
+/// An example: a member's own events are the same with and without another member in the run.
 pub fn sees_nothing_of_others()
     ensures { SeesNothingOfOthers }
 {}

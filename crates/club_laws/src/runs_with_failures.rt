@@ -21,14 +21,14 @@ pub fn conserves_points<O>()
     ensures { ConservesWithFailures O }
 {}
 
-/// After a run from the empty club, each slot has at least as many places as persons.
+/// After a run from the empty club, no slot has more persons than places.
 #[tactic(auto, using(crate::proofs::FailedEvents::places_with_failures))]
 pub fn never_overbooks<O>()
     ensures { PlacesWithFailures O }
 {}
 
-/// An accepted repeat of a served request gets the first response, unless the repeat fails. The run
-/// without the repeat has the same other responses and the same last club.
+/// An accepted repeat of a served request gets the first response, unless the repeat fails.
+/// Removing the repeat from the run changes neither the other responses nor the last club.
 pub fn repeats_return_the_same<O>()
     ensures { RepeatsWithFailures O }
 {
@@ -36,9 +36,9 @@ pub fn repeats_return_the_same<O>()
     tests_the_signature();
 }
 
-/// Suppose that the office cancelled a booking before, and an accepted request of the member
-/// cancels the booking. Then the response states the recorded refund, unless the request fails. The
-/// run without this request has the same other responses and the same last club.
+/// If the office has cancelled a booking, a member's accepted request to cancel the same booking
+/// gets the recorded refund, unless the request fails. Removing this request from the run changes
+/// neither the other responses nor the last club.
 pub fn cancellations_return_the_record<O>()
     ensures { CancellationsWithFailures O }
 {
@@ -55,15 +55,15 @@ pub fn repeats_after_one_more<O>()
     tests_the_signature();
 }
 
-/// In a run from a sound club, a member's part of the club and own events determine the replies to
-/// the member's requests.
+/// In a run from a sound club, a member's part of the club and the member's own events determine
+/// the replies to the member's requests.
 #[tactic(auto, using(crate::proofs::SoloRuns::solo_with_failures))]
 pub fn solo_law<O>()
     ensures { SoloLawWithFailures O }
 {}
 
-/// Suppose that a member's part of the club and own events are the same in two runs from sound
-/// clubs. Then the replies to the member's requests are the same in both runs.
+/// Suppose that a member's part of the club and the member's own events are the same in two runs
+/// from sound clubs. Then the replies to the member's requests are the same in both runs.
 #[tactic(auto, using(crate::proofs::SoloRuns::solo_with_failures))]
 pub fn solo_law_of_two<O>()
     ensures { SoloLawOfTwoWithFailures O }

@@ -8,20 +8,20 @@ ghost use Rattle.club_laws.specs.SingleRequest.{ServesOnlyTheEntitled};
 use club_core::laws::tests_the_signature;
 use pass_caveats::laws::tests_the_set;
 
-/// If two clubs have the same basis for a request, both clubs give the same answer at the same
-/// moment.
+/// Two clubs with the same basis for a request give the same answer at the same moment. A basis is
+/// the set of rows that an answer may depend on.
 pub fn depends_on_the_basis_alone()
     ensures { DependsOnTheBasisAlone }
 {}
 
-/// A request without a basis is refused. The refusal depends only on the request and its pass.
+/// A request without a basis is refused. The refusal depends only on the decoded pass.
 #[tactic(auto, using(crate::proofs::ServedPasses::refused_blind))]
 pub fn refuses_without_a_basis()
     ensures { RefusesWithoutABasis }
 {}
 
-/// A pass gets the same reply as a pass that names no key, if no root of its key that is valid at
-/// the moment signs it.
+/// If a pass names a key of the club, but isn't signed under a valid root of this key, the reply is
+/// the refusal `NotVerified`.
 #[tactic(auto, using(crate::proofs::ServedPasses::unsigned_in))]
 pub fn refuses_the_unsigned()
     ensures { RefusesTheUnsigned }
@@ -29,9 +29,9 @@ pub fn refuses_the_unsigned()
     tests_the_signature();
 }
 
-/// The desk serves a request only if its pass names a key of the club that isn't revoked. A root of
-/// the key that is valid at the moment must have signed the pass. Each caveat must allow the
-/// request.
+/// The desk serves a request only if its pass names a key of the club that isn't revoked. The pass
+/// must be signed under a root of this key, and the root must be valid at the moment. Each caveat
+/// must allow the request.
 #[tactic(auto, using(crate::proofs::ServedPasses::served_entitled))]
 pub fn serves_only_the_entitled()
     ensures { ServesOnlyTheEntitled }
@@ -57,7 +57,8 @@ pub fn more_caveats_never_open_more()
     tests_the_signature();
 }
 
-/// The form of a pass's text changes neither the reply nor the club.
+/// The reply to a request and the club after the request don't depend on the form of the pass's
+/// text.
 pub fn answers_forms_alike()
     ensures { AnswersFormsAlike }
 {}

@@ -6,15 +6,15 @@ ghost use Rattle.club_laws.specs.SoloExamples.{ShowsAmyATakenPlace, ShowsAmyHerC
 ghost use Rattle.club_laws.specs.SoloExamples.{ShowsAmyNewNumbers};
 ghost use Rattle.club_laws.specs.SoloLaw.{EndsWithThePart, SoloLaw, SoloLawOfTwo};
 
-/// In a run from a sound club, a member's part of the club and own events determine the replies to
-/// the member's requests.
+/// In a run from a sound club, a member's part of the club and the member's own events determine
+/// the replies to the member's requests.
 #[tactic(auto, using(crate::proofs::SoloRuns::solo_law))]
 pub fn solo_law()
     ensures { SoloLaw }
 {}
 
-/// Suppose that a member's part of the club and own events are the same in two runs from sound
-/// clubs. Then the replies to the member's requests are the same in both runs.
+/// Suppose that a member's part of the club and the member's own events are the same in two runs
+/// from sound clubs. Then the replies to the member's requests are the same in both runs.
 #[tactic(auto, using(crate::proofs::SoloRuns::solo_law))]
 pub fn solo_law_of_two()
     ensures { SoloLawOfTwo }
@@ -32,26 +32,26 @@ pub fn answers_amy_alone()
     ensures { AnswersAmyAlone }
 {}
 
-/// An example: the replies to a member stay the same while another member books and cancels, and
-/// while the office credits this other member and adds and revokes its keys.
+/// An example: the replies to a member stay the same while another member books and cancels. The
+/// office also credits the other member, and adds and revokes the other member's keys.
 pub fn answers_amy_among_others()
     ensures { AnswersAmyAmongOthers }
 {}
 
-/// An example: if another member has one place in the slot, the reply to a booking states one free
-/// place less. No other reply changes.
+/// An example: if another member has one place in the slot, the reply to a booking states one fewer
+/// free place. No other reply changes.
 pub fn shows_amy_a_taken_place()
     ensures { ShowsAmyATakenPlace }
 {}
 
-/// An example: a facility's new numbers apply to the member's next booking. Earlier bookings don't
-/// change.
+/// An example: a facility's new price and number of places apply to the member's next booking.
+/// Earlier bookings don't change.
 pub fn shows_amy_new_numbers()
     ensures { ShowsAmyNewNumbers }
 {}
 
-/// An example: the office cancels another member's booking and the member's own booking. The
-/// cancellations free the places, and the member gets the points back.
+/// An example: the office cancels another member's booking, which frees the places for the member.
+/// The office then cancels the member's booking, and the member gets the points back.
 pub fn shows_amy_her_cancellation()
     ensures { ShowsAmyHerCancellation }
 {}

@@ -14,8 +14,8 @@ pub fn steps_keep_sound()
     ensures { StepsKeepSound }
 {}
 
-/// If an event with values within their limits changes a sound club, the change matches the club's
-/// rows, and the changed club is sound.
+/// Suppose that an event changes a sound club, and that the event's values are within their limits.
+/// Then the change matches the club's rows, and the changed club is sound.
 #[tactic(auto, using(crate::proofs::SoundSteps::fits_event))]
 pub fn changes_fit()
     ensures { ChangesFit }
