@@ -12,15 +12,15 @@ use Rattle.club_tables.specs.{ReadsAndChanges.sound_in, Tables.Represents}
 use Rattle.club_gate.specs.Runs.{IsWithinOneEvent, MayBeLeft, DeskResponse, club_left}
 
 -- The state represents exactly one of these clubs, and no later crash changes the club. In this
--- club, an accepted repeat gets the first reply.
+-- club, an accepted repeat of a served request gets the first reply and changes nothing.
 pub record RecoversOne (state : State) (clubs : List Club) (events : List machine.Event) (returned : List DeskResponse) : Type 0 where
   pub club : Club
   pub among : Contains clubs club
   pub represents : Represents state club []
   pub again : RepeatsServedReplies club events returned
 
--- Suppose that these are the clubs that the old store may have after a crash. A store that is
--- opened on the files after the crash recovers exactly one of the clubs.
+-- Suppose that `clubs` are the clubs that the store `before` may have after a crash. A store that
+-- is opened on the files after the crash recovers exactly one of these clubs.
 abbrev pub SurvivesCrash : {D E : Type 0} {d : disk.Ghosts D} {e : disk.Ghosts E} → FileStore D d → Held (FileStore E e) → List Club
     → List machine.Event → List DeskResponse → Type 0
 SurvivesCrash before after clubs events returned =
@@ -42,16 +42,17 @@ pub record IsAdoptedFrom {E : Type 0} {e : disk.Ghosts E} (start : Image) (now :
 abbrev pub IsReopened : {E : Type 0} {e : disk.Ghosts E} → Image → Held (FileStore E e) → Type 0
 IsReopened start now = OpensFrom start now ⊎ IsAdoptedFrom start now
 
--- Each of these clubs is sound. After any crash, the engine's store contains a database of one of
--- the clubs.
+-- Each of these clubs is sound. After any crash, the store contains the database of one of these
+-- clubs.
 abbrev pub leaves_sound_in : {S : Type 0} → Ghosts S → S → Club → List Club → Type 0
 leaves_sound_in g store club others =
     All IsSound (club ∷ others) × IsTrue (g.view store).is_numbered × LeavesOneOf g store (club ∷ others)
 
 -- After a run and a crash, a reopened store represents exactly one club, and no later crash changes
--- the club. The store's club is the club of the answered events, or another possible crash state of
--- the run. Suppose the store's club is at most one event later than the club of the answered
--- events. Then an accepted repeat of a served request gets the first reply and changes nothing.
+-- the club. The store's club is the club after the answered events, or another club that a crash
+-- after the run may leave. Suppose that the store's club is the club after the answered events, or
+-- after one more event. Then an accepted repeat of a served request gets the first reply and
+-- changes nothing.
 pub record RecoversAfterRun {E : Type 0} {e : disk.Ghosts E} (opened : Held (FileStore E e)) (club : Club) (others : List Club) (events : List machine.Event)
     (returned : List DeskResponse) : Type 0 where
   pub now : Club
@@ -59,8 +60,8 @@ pub record RecoversAfterRun {E : Type 0} {e : disk.Ghosts E} (opened : Held (Fil
   pub again : IsWithinOneEvent (club_left club events returned) now → RepeatsServedReplies now events returned
   pub represents : sound_in over_files opened now []
 
--- After a run from this club, a crash may leave a file and a log. Every store that is then opened
--- on this file and this log satisfies `RecoversAfterRun`.
+-- After a run from this club, a crash may leave a file and a log. Every store that is opened on
+-- this file and this log satisfies `RecoversAfterRun`.
 abbrev pub OpensAgain : {D E : Type 0} {d : disk.Ghosts D} → disk.Ghosts E → FileStore D d → Club → List Club → List machine.Event → List DeskResponse → Type 0
 OpensAgain {E = E} e store club others events returned =
     (left : Image) (opened : Held (FileStore E e)) → CrashMayLeave store left → IsReopened left opened

@@ -12,12 +12,12 @@ use Rattle.club_gate.specs.declared.event.EventReply.{EventReply}
 abbrev pub InMemory : Type 0
 InMemory = Held MemStore
 
--- A read or a change in memory failed with this fault. `None` means a read, and `Some` means a
--- change.
+-- A read or a change of the database failed with this fault. `None` means a read, and `Some` means
+-- a change.
 abbrev pub fails_in_memory : Option Change → InMemory → StoreFault → InMemory → Type 0
 fails_in_memory = Fails over_memory
 
--- The desk handled the events in order. A step of the machine answered each event, or the event
+-- The desk handled the events in order. Each event was answered by a step of the machine, or
 -- failed. An event failed only if the store failed, or if there was no memory for a pass in JSON.
 abbrev pub AreHandledInMemory : InMemory → List Event → List EventReply → InMemory → Type 0
 AreHandledInMemory = AreHandled (λ held. HasCleanDisk (state over_memory held)) (sound_in over_memory) fails_in_memory
@@ -33,7 +33,7 @@ pub record HandlesFromNothing (events : List Event) (replies : List EventReply) 
 -- A desk handled the events and then a request. If the reply is `Unavailable`, there are two
 -- possible causes:
 --
--- - The store failed, at a read or at the request's change.
+-- - The store failed while it read rows or applied the request's change.
 -- - The text of the pass is JSON, and the store is unchanged.
 pub record RepliesFromNothing (events : List Event) (replies : List EventReply) (text : List ℕ) (request : Request) (moment : ℕ) (reply : Reply)
     : Type 0 where

@@ -1,4 +1,4 @@
-//! The law about crashes of a desk over a file.
+//! Laws about crashes of a desk that stores the club in a file.
 
 ghost use Rattle.std.specs.Prelude.{List, All, IfOk};
 ghost use Rattle.sqlite.specs.FileStore as file;
@@ -18,10 +18,10 @@ use club_store::laws::{files_hold_one_of, one_club_recovered};
 use sqlite::{Alter, FileFrom, FileStore, Start};
 use sqlite_disk::Disk;
 
-/// States the crash law. Suppose that these are the clubs that the old store may have after a
-/// crash. Reopening the files after the crash recovers exactly one of the clubs, and every later
-/// crash recovers the same club. If a repeat of a served request gets the same reply in each of
-/// these clubs, the recovered club gives this reply too.
+/// States the crash law. Suppose that `clubs` are the clubs that the store `before` may have after
+/// a crash. Reopening the files after the crash recovers exactly one of these clubs, and no later
+/// crash changes the club. If a repeat of a served request gets the first reply in each of these
+/// clubs, the repeat also gets the first reply in the recovered club.
 pub fn served_survives_a_crash<D: Disk, Q: Start>(
     before: &FileStore<D>,
     after: &Store<FileStore<FileFrom<Q>>>,
@@ -33,9 +33,8 @@ pub fn served_survives_a_crash<D: Disk, Q: Start>(
     one_club_recovered(before, after);
 }
 
-// Runs a list of events at a desk over any store of the engine. Returns the responses and the
-// store. The function isn't written for a file only, because its proof would then take twice as
-// long.
+// Runs a list of events at a desk over any store of the `sqlite` crate. Returns the responses and
+// the store. The function is generic because a proof only for files would take twice as long.
 fn run_to_end<S: Alter + Drop>(
     mut desk: Desk<Store<S>>,
     events: &[Event],
@@ -59,9 +58,9 @@ fn run_to_end<S: Alter + Drop>(
 }
 
 /// Runs a list of events at a desk over a file, and returns the responses and the store. The
-/// machine may crash during the run or after the run. After a crash during a call, the disk fails
-/// every later call. A store that is then opened on the files, over a disk `E`, has the changes of
-/// all answered events.
+/// computer may crash during the run or after the run. After a crash during a call of the disk,
+/// every later call of the disk fails. A store that is opened on the files after the crash, over a
+/// disk `E`, has the changes of all answered events.
 ///
 /// # Errors
 ///
@@ -78,12 +77,13 @@ pub fn run_and_leave<D: Disk + Drop, E: Disk>(
         → IsAnsweredRun club seen (responses_of left.0.items)) }
     // After any crash, a store that `open_file` or `adopt` opens has one of these clubs:
     //
-    // - The club of the answered events.
-    // - The club of the answered events after one more event, which failed after the last change.
-    // - A club that a crash could have left before the run, if the run changed nothing.
+    // - The club after the answered events.
+    // - The club after the answered events and one more event. The additional event failed after
+    //   the last change.
+    // - If the run changed nothing, a club that a crash before the run could have left.
     //
-    // If the store's club is at most one event later than the answered events, repeats get the
-    // first reply and change nothing.
+    // Suppose that the store's club is the club after the answered events, or after one more event.
+    // Then accepted repeats of served requests get the first reply and change nothing.
     ensures again { IfOk result (λ left. (club : Club) (others : List Club)
         → sound_in over_files desk club others
         → (seen : List machine.Event) → AreEventsOf events.now seen

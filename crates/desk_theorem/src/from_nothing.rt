@@ -25,7 +25,7 @@ pub fn run_from_nothing(alloc: Global, events: &[Event]) -> Result<Vec<EventRepl
     ensures lawful { IfOk result (λ replies. (seen : List machine.Event)
         → AreEventsOf events.now seen
         → IsLawfulRun empty_club seen (responses_of replies.items)) }
-    // A step of the machine answered each event, or the event failed. An event failed only if the
+    // Each event was answered by a step of the machine, or failed. An event failed only if the
     // store failed, or if there was no memory for a pass in JSON.
     ensures handled { IfOk result (λ replies. HandlesFromNothing events.now replies.items) }
     ensures fault { IfErr result IsMemoryFault }
@@ -61,12 +61,12 @@ pub fn reply_from_nothing(
     ensures run { IfOk result (λ returned. (seen : List machine.Event)
         → AreEventsOf events.now seen
         → IsLawfulRun empty_club seen (responses_of returned.replies.items)) }
-    // The reply depends on the club after the answered events.
+    // The reply satisfies the law of the desk for the club after the answered events.
     ensures lawful { IfOk result (λ returned. (seen : List machine.Event)
         → AreEventsOf events.now seen
         → IsLawful (club_left empty_club seen (responses_of returned.replies.items))
         words.now.pass.now words.now.request moment returned.reply) }
-    // A step of the machine answered each event, or the event failed. An event failed only if the
+    // Each event was answered by a step of the machine, or failed. An event failed only if the
     // store failed, or if there was no memory for a pass in JSON. The same causes apply if the
     // reply is `Unavailable`.
     ensures handled { IfOk result (λ returned. RepliesFromNothing events.now

@@ -10,7 +10,7 @@ use Rattle.club_gate.specs.Runs.{IsWithinOneEvent, MayBeLeft, DeskResponse, club
 use Rattle.desk_theorem.specs.Crash.{IsReopened, RecoversAfterRun}
 use Rattle.desk_theorem.proofs.crash.run_and_leave.Goals as goal
 
--- The club `now` is the club after the run, or another possible crash state.
+-- The club `now` is the club after the run, or another club that a crash after the run may leave.
 abbrev IsOf : Club → List Club → List Event → List DeskResponse → Club → Type 0
 IsOf club others events returned now =
     (now ≡ club_left club events returned) ⊎ MayBeLeft club others (club_left club events returned) events returned now
