@@ -43,8 +43,8 @@ sums_read club moment view shown spent None is e = absurd (cc)
 sums_read club moment view shown spent (Some account) is e = rw (is, same_Some shown (with_account club moment view account) e) refl
 
 -- The view after adding the rows and sums that the decision depends on:
--- - A request to view a slot needs the slot's state (`with_slot`).
--- - A new booking needs the slot's state and the member's values (`with_account`).
+-- - A request to view a slot needs the slot's values (`with_slot`).
+-- - A new booking needs the slot's values and the member's values (`with_account`).
 -- - A request for the account needs the member's values and the points that the key has spent.
 -- - Other requests need no more rows or sums.
 abbrev pub last_view : Club → Request → ℕ → View → Option View

@@ -25,7 +25,8 @@ abbrev pub values_of_slot : Slot → List (List ℕ × List ℕ)
 values_of_slot slot =
     (codes "facility", slot.facility) ∷ (codes "day", day_text slot.day) ∷ (codes "hour", decimal slot.hour) ∷ []
 
--- The named values of a slot's facility, the slot's taken places, and whether the slot is closed.
+-- The named values of a slot's state: the kind, price and places of its facility, how many places
+-- are taken, and whether the slot is closed.
 abbrev pub values_of_state : Kind → ℕ → ℕ → ℕ → Bool → List (List ℕ × List ℕ)
 values_of_state kind price places taken closed =
     (codes "kind", kind_text kind)
@@ -71,7 +72,7 @@ account_with_key club name moment =
 abbrev pub account_listing : Club → List ℕ → ℕ → Option (List ℕ)
 account_listing club name moment = option_map (λ (seen : Key × View). shown_account_text seen.0 seen.1) (account_with_key club name moment)
 
--- The reply to a request to view a slot, or `None` if the club has no such facility.
+-- The reply to an accepted request to view a slot, or `None` if the club has no such facility.
 abbrev pub slot_reply : Club → Slot → Option Reply
 slot_reply club slot =
     option_map (λ facility. SlotShown slot facility.kind facility.price facility.places (slot_use club slot).taken (slot_use club slot).closed)
@@ -125,8 +126,8 @@ FailsToShow Fails old new fault =
     ((failure : StoreFault) × Fails None old failure new × (fault ≡ Store failure))
     ⊎ (((fault ≡ Refused Unknown) ⊎ (fault ≡ Store Memory)) × IsRead Fails old new)
 
--- A listing doesn't change the club. `IsSo` relates the result of the listing to each club that the
--- store represented before the listing.
+-- If the store's disk is clean after a listing, the listing didn't change the club. `IsSo` is then
+-- true for each club that the store represented before the listing.
 pub record ShowsClub {S A : Type 0} (IsClean : S → Type 0) (Represents : S → Club → List Club → Type 0)
     (Fails : Option Change → S → StoreFault → S → Type 0) (old new : S) (result : Result A Fault) (IsSo : Club → Type 0) : Type 0 where
   pub was_clean : IsClean new → IsClean old

@@ -157,7 +157,7 @@ pub record IsLawfulRun (club : Club) (events : List machine.Event) (responses : 
   -- The responses to the answered events are the responses of the machine.
   pub run : IsAnsweredRun club events responses
   -- A member's replies depend only on the member's part of the club and the member's own events.
-  -- The own event for a request includes how many persons other members have in the slot, and
+  -- For a request, the own event includes how many persons other members have in the slot, and
   -- whether the slot is closed.
   pub solo : IsSolo club events responses
   pub solo_of_two : IsAsInAnother club events responses

@@ -153,9 +153,9 @@ impl<S: ClubStore> Desk<S> {
     }
 
     /// Adds to a view the rows and sums that the decision depends on. The view already has the
-    /// values that the caveats depend on. Returns `None` if the club doesn't have the key's member.
-    /// For the resulting view, the rules give the same answer as for a view with all of the key's
-    /// rows and sums.
+    /// values that the caveats depend on. Returns `None` only if the club doesn't have the key's
+    /// member. For the resulting view, the rules give the same answer as for the key's view with
+    /// all rows and sums.
     pub(crate) fn last_view(
         &mut self,
         view: View,
