@@ -10,8 +10,8 @@ use Rattle.club_laws.specs.Points.{Entry, is_entry_of, firsts, charge_of_reply, 
 use Rattle.std.proofs.lemmas.List.Sums.{sum_by-cons}
 use Rattle.club_rows.specs.Rows.{IsBooking}
 
--- A record of the keys and numbers of earlier entries. The function tests whether an earlier entry
--- has this key and number.
+-- A record of the keys and numbers of earlier entries. The record is a function. It tests whether
+-- an earlier entry has a given key and number.
 abbrev pub Seen : Type 0
 Seen = List ℕ → ℕ → Bool
 

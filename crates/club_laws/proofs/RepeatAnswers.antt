@@ -12,7 +12,7 @@ use Rattle.club_laws.specs.Repeats.{CancellationsReturnTheRecord, refund_by_offi
 use Rattle.club_core.specs.declared.request.Request.TheVariants as asked
 use Rattle.club_core.specs.Verdict as verdicts
 
--- The request books or cancels this booking, and the reply has the booking's recorded values.
+-- The request asks to book or cancel this booking, and the reply has the booking's recorded values.
 abbrev pub IsAgain : Booking → Request → Reply → Type 0
 IsAgain booking (asked.Book slot number guests) reply =
     ((same_slot booking.slot slot && booking.guests == guests) ≡ true) × (reply ≡ Booked booking.key booking.number booking.charge booking.left)

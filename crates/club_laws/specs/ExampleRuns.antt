@@ -46,8 +46,8 @@ pub record CountsADebit : Type 0 where
   pub figures : AreFigures debited_events (replies_of empty_club debited_events) 800 10_000 300
   pub debits : debits_accepted (codes "amy") debited_events (replies_of empty_club debited_events) ≡ 400
 
--- The office cancels both bookings, but the booking at 18:00 is already cancelled. Then the member
--- sends a request to cancel the booking at 19:00, and then repeats the original request to book.
+-- The office cancels both bookings, but the booking at 18:00 is already cancelled. The member then
+-- sends a request to cancel the booking at 19:00, and repeats the request that made this booking.
 abbrev pub cancelled_events : List Event
 cancelled_events =
     some_events

@@ -32,8 +32,8 @@ LeavesThePart =
     → own_part name club event ≡ []
     → part_of name (step club event).club ≡ part_of name club
 
--- In every club, the number of persons in a slot is the sum over a member's own bookings and all
--- other bookings of the slot.
+-- In every club, the number of persons in a slot is the number from a member's own bookings plus
+-- the number from all other bookings.
 abbrev pub TakenIsOwnAndOthers : Type 0
 TakenIsOwnAndOthers =
     (name : List ℕ) (club : Club) (slot : Slot)

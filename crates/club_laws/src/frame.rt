@@ -4,7 +4,7 @@
 ghost use Rattle.club_laws.specs.Frame.{ChangesThePartAlike, LeavesThePart, TakenIsOwnAndOthers};
 
 /// Suppose that a change leads from a sound club to a sound club. Then the change has the same
-/// effect on a member's part of the club, or doesn't affect the part.
+/// effect on a member's part of the club as on the club, or doesn't affect the part.
 #[tactic(auto, using(crate::proofs::MemberParts::changes_the_part_alike))]
 pub fn changes_the_part_alike()
     ensures { ChangesThePartAlike }
@@ -17,8 +17,8 @@ pub fn leaves_the_part()
     ensures { LeavesThePart }
 {}
 
-/// The number of persons in a slot is the sum over a member's own bookings and all other bookings
-/// of the slot.
+/// The number of persons in a slot is the number from a member's own bookings plus the number from
+/// all other bookings.
 #[tactic(auto, using(crate::proofs::FilteredRows::sum_in_parts))]
 pub fn taken_is_own_and_others()
     ensures { TakenIsOwnAndOthers }

@@ -20,8 +20,8 @@ pub fn refuses_without_a_basis()
     ensures { RefusesWithoutABasis }
 {}
 
-/// If a pass names a key of the club, but isn't signed under a valid root of this key, the reply is
-/// the refusal `NotVerified`.
+/// Suppose that a pass names a key of the club, but isn't signed under a root of this key that is
+/// valid at the moment. Then the reply is the refusal `NotVerified`.
 #[tactic(auto, using(crate::proofs::ServedPasses::unsigned_in))]
 pub fn refuses_the_unsigned()
     ensures { RefusesTheUnsigned }
