@@ -42,8 +42,8 @@ pub record IsAdoptedFrom {E : Type 0} {e : disk.Ghosts E} (start : Image) (now :
 abbrev pub IsReopened : {E : Type 0} {e : disk.Ghosts E} → Image → Held (FileStore E e) → Type 0
 IsReopened start now = OpensFrom start now ⊎ IsAdoptedFrom start now
 
--- Each of these clubs is sound. After any crash, the store contains the database of one of these
--- clubs.
+-- Each of these clubs is sound. If the store's disk has been clean so far, a crash leaves the
+-- database of one of these clubs.
 abbrev pub leaves_sound_in : {S : Type 0} → Ghosts S → S → Club → List Club → Type 0
 leaves_sound_in g store club others =
     All IsSound (club ∷ others) × IsTrue (g.view store).is_numbered × LeavesOneOf g store (club ∷ others)
