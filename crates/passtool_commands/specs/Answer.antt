@@ -13,7 +13,8 @@ use Rattle.passtool_commands.specs.declared.command.Command.{Command, TheVariant
 abbrev pub OutcomeText : Type 0
 OutcomeText = Outcome × List ℕ
 
--- A set of possible results of a step.
+-- A set of results that a step of a command may have. A step is a part of the command's work, such
+-- as reading a pass.
 abbrev pub Results : Type 0 → Type 1
 Results A = Result A FormFault → Type 0
 
@@ -21,14 +22,14 @@ Results A = Result A FormFault → Type 0
 abbrev pub IsOnly : {A : Type 0} → Result A FormFault → Results A
 IsOnly expected result = expected ≡ result
 
--- Two steps in a row, like `?` in code. If the first step fails, both steps together fail with the
--- same fault. Otherwise, the second step gets the value of the first step.
+-- Joins two steps, like `?` in Rust. If the first step fails, the result is the first step's fault.
+-- Otherwise, the second step gets the value of the first step.
 infixl 10 ◌>>=◌
 abbrev pub ◌>>=◌ : {A B : Type 0} → Results A → (A → Results B) → Results B
 step >>= rest = λ answer. (result : Result _ FormFault) × step result × MatchResult result (λ value. rest value answer) (λ fault. answer ≡ Err fault)
 
--- The possible results of reading a form and a pass from the input. A line feed at the end of the
--- input is ignored.
+-- The possible results of reading the input: a pass with the form of its text, or a fault. One line
+-- feed at the end of the input is ignored.
 abbrev pub ReadsPass : List ℕ → Results (Form × Plain)
 ReadsPass bytes = IsAnyReading (strip_last 10 bytes)
 
@@ -36,7 +37,7 @@ ReadsPass bytes = IsAnyReading (strip_last 10 bytes)
 abbrev pub done_with : List ℕ → Result OutcomeText FormFault
 done_with text = Ok (Done, with_line_feed text)
 
--- The answer is this text. Reading the text returns the same form and the same pass.
+-- The answer is this text and a line feed. Reading the answer returns this form and this pass.
 abbrev pub AnswersText : Form → Plain → List ℕ → Results OutcomeText
 AnswersText form pass text result = (done_with text ≡ result) × ReadsPass (with_line_feed text) (Ok (form, pass))
 
@@ -45,7 +46,8 @@ WritesPass form pass = do
   text ← IsWriting (IsTextIn form) pass
   AnswersText form pass text
 
--- The pass with more caveats. The signature before each caveat is the key that signs the caveat.
+-- The pass with these caveats added. Each caveat replaces the signature with the HMAC of the
+-- caveat. The key of the HMAC is the previous signature.
 abbrev pub with_caveats : List (List ℕ) → Plain → Plain
 with_caveats caveats pass = record {
   location = pass.location;
@@ -54,7 +56,8 @@ with_caveats caveats pass = record {
   signature = extended_signature pass.signature caveats;
 }
 
--- The pass with more caveats, or the fault `TooMany` if the pass would have more than 64 caveats.
+-- The pass with these caveats added, or the fault `TooMany` if the pass would have more than 64
+-- caveats.
 unfoldable pub narrowing : List (List ℕ) → Plain → Result Plain FormFault
 narrowing caveats pass =
     if nat_lt max_caveats (length pass.caveats + length caveats) then Err TooMany
@@ -71,8 +74,8 @@ IsVerdict root pass (Ok (Done, text)) = IsSigned root pass × (text ≡ with_lin
 IsVerdict root pass (Ok (NotSigned, text)) = (¬ IsSigned root pass) × (text ≡ with_line_feed (codes "not signed"))
 IsVerdict root pass (Err fault) = ⊥
 
--- The answer of a command is its outcome and the text that it writes, or a fault of the pass. By
--- the law `AnswersOnce`, a command has at most one answer to an input.
+-- The following definitions state the answer of each command: an outcome and the text to write, or
+-- a fault of the pass. By the law `AnswersOnce`, a command has at most one answer to an input.
 
 abbrev pub MintsPass : Minting → Results OutcomeText
 MintsPass minting = do

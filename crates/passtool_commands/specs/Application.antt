@@ -20,7 +20,7 @@ required_form = as_required form_option
 abbrev pub any_flag : Rule
 any_flag = flag_named (codes "any")
 
--- The positional arguments of a command, in any number. Each of them is a caveat.
+-- Any number of positional arguments. Each positional argument is a caveat.
 abbrev pub caveat_positionals : Rule
 caveat_positionals = positionals_named (codes "caveat")
 

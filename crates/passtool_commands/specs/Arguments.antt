@@ -34,13 +34,13 @@ module _ (is_understood : Text → Bool) where
   abbrev pub first_unknown : List Text → Option ℕ
   first_unknown texts = position (λ text. not (is_understood text)) texts
 
-  -- Returns the caveats if `--any` is given. Without `--any`, fails for the first caveat that isn't
-  -- in the caveat language.
+  -- Returns the caveats if `--any` is given, or if all of them are in the caveat language.
+  -- Otherwise, the fault has the position of the first caveat that isn't in the caveat language.
   unfoldable pub checked_caveats : Bool → List Text → Result (List Text) (Refusal BadValue)
   checked_caveats any caveats = if any then Ok caveats else unless_unknown (first_unknown caveats) caveats
 
-  -- The command that a row of the table and its values ask for, or the first fault. The form is
-  -- checked first, then the root, then the caveats.
+  -- The command with this name and these argument values, or the fault of the first bad value. The
+  -- form is checked first, then the root, then the caveats.
   abbrev pub command_of : JobOf Name Command BadValue
   command_of name.Mint rows = do
     form ← form_given rows
@@ -63,13 +63,13 @@ module _ (is_understood : Text → Bool) where
     root ← root_in rows
     Ok (Verify root)
 
--- The possible results of reading the values of a row.
+-- A call that reads the argument values `rows` of the command `name` may return this result.
 pub record ReadsCommand (name : Name) (rows : List Row) (result : Result Command (ArgumentsFault BadValue)) : Type 0 where
   pub is_understood : Text → Bool
   pub is_test : IsCaveatTest is_understood
   pub answers : Answers (command_of is_understood name rows) result
 
--- The possible results of parsing the arguments.
+-- Parsing the arguments may return this result.
 abbrev pub ReadsArguments : List Text → Result (Asked Command) (ArgumentsFault BadValue) → Type 0
 ReadsArguments arguments result = ReadsJob passtool ReadsCommand arguments result
 

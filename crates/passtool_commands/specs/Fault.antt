@@ -38,8 +38,8 @@ abbrev pub with_number : Option ℕ → List ℕ → List ℕ
 with_number None text = text
 with_number (Some number) text = codes "fault " ++ (decimal number ++ (codes ": " ++ text))
 
--- The line of a fault on standard error. For a text of `clap`, the line is `None`, because no
--- definition states the text.
+-- The line that the program prints on standard error for a fault. The result is `None` if `clap`
+-- makes the text, because no definition states that text.
 abbrev pub fault_line : Fault → Option (List ℕ)
 fault_line (Arguments error) = None
 fault_line (Pass fault) = Some (with_number (form_number fault) (fault_text fault))
@@ -47,13 +47,13 @@ fault_line (CaveatNotUnderstood number) = Some (codes "caveat " ++ (decimal numb
 fault_line BadRoot = Some (codes "bad root")
 fault_line InputOutput = Some (codes "input or output failed")
 
--- The bytes that the program prints on standard error. For a text of `clap`, the result is `None`,
--- because no definition states the text.
+-- The bytes that the program prints on standard error for a fault. The result is `None` if `clap`
+-- makes the text, because no definition states that text.
 abbrev pub fault_output : Fault → Option (List ℕ)
 fault_output (Arguments error) = None
 fault_output fault = with_newline (fault_line fault)
 
--- The program's fault for a fault of the arguments.
+-- Converts a fault of the arguments to the program's fault.
 abbrev pub of_arguments : ArgumentsFault BadValue → Fault
 of_arguments (arguments.Refused error) = Arguments error
 of_arguments (arguments.BadValue Root) = BadRoot

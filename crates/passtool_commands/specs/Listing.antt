@@ -8,8 +8,8 @@ use Rattle.command_line.specs.FormName.{form_name}
 abbrev pub with_line_feed : List ℕ → List ℕ
 with_line_feed text = text ++ 10 ∷ []
 
--- A byte in the output of `show`. A backslash is doubled. Other printable ASCII characters are
--- unchanged. Any other byte is `\x` and two hexadecimal digits.
+-- The text of a byte in the output of `show`. A backslash is doubled. Other printable ASCII
+-- characters are unchanged. Any other byte is `\x` and two hexadecimal digits.
 unfoldable pub escaped_byte : ℕ → List ℕ
 escaped_byte byte =
     if byte == 92 then codes "\\\\"
@@ -22,7 +22,7 @@ escaped_text bytes = flat_map escaped_byte bytes
 abbrev pub value_line : List ℕ → List ℕ → List ℕ
 value_line name bytes = with_line_feed (name ++ 32 ∷ escaped_text bytes)
 
--- The lines of the caveats. The first caveat has this number.
+-- The lines of the caveats. `number` is the number of the first caveat.
 unfoldable pub caveat_lines : ℕ → List (List ℕ) → List ℕ
 caveat_lines number [] = []
 caveat_lines number (caveat ∷ caveats) =

@@ -8,7 +8,8 @@ use Rattle.passtool_commands.specs.declared.{answer.{BadValue.BadValue, Fault.{F
 
 -- `Unread` states that the reader is unchanged. `Unwritten` states that the writer is unchanged.
 module _ (left left' held held' : Option (List ℕ)) (Unread Unwritten : Type 0) where
-  -- The effect of a run on these arguments. Each field corresponds to a clause of `run`.
+  -- The effect of a run with these arguments. Each field corresponds to a clause in the contract of
+  -- `run`.
   pub record RunsOn (arguments : List Text) (ended : Result Outcome Fault) : Type 0 where
     pub answers : AnswersArguments arguments ended
     pub performs : (command : Command) → AskForCommand arguments command → Performs command left left' held held' ended
@@ -20,9 +21,9 @@ module _ (left left' held held' : Option (List ℕ)) (Unread Unwritten : Type 0)
 abbrev pub EndsWith : (Option (List ℕ) → Type 0) → Result Outcome Fault → ℕ → Type 0
 EndsWith Asked ended status = (status ≡ exit_status ended) × IfErr ended (λ fault. Asked (fault_output fault))
 
--- The effect of a process. The process runs the program on its arguments. If an argument isn't
--- valid UTF-8, or if memory for the arguments runs out, the process reads no input and writes no
--- output.
+-- The effect of a process. The process runs the program with the arguments of the process. If an
+-- argument isn't valid UTF-8, or if memory for the arguments runs out, the process reads no input
+-- and writes no output.
 pub data RunsProcess (Given : List Text → Type 0) (Asked : Option (List ℕ) → Type 0) (left left' held held' : Option (List ℕ)) (Unread Unwritten : Type 0)
     (status : ℕ) : Type 0 where
   process_ran : (arguments : List Text) (ended : Result Outcome Fault) → Given arguments

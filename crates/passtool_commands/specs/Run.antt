@@ -8,8 +8,8 @@ use Rattle.passtool_commands.specs.declared.answer.{Fault.TheVariants.{Arguments
 use Rattle.passtool_commands.specs.declared.{answer.Outcome.TheVariants.{Done, NotSigned}, command.Command.Command}
 use Rattle.command_line.specs.{Arguments.HasText, Input.ReadsAtMost, Table.refusals, declared.errors.ArgumentsFault.TheVariants.{Refused, BadValue}}
 
--- A command that reads input reads all bytes that the reader has left, or the first 8,194 of them.
--- For any other command, `bytes` is empty.
+-- A command that reads input reads all remaining bytes of the reader, or the first 8,194 of these
+-- bytes. For any other command, `bytes` is empty.
 abbrev pub ReadsInput : Bool → Option (List ℕ) → Option (List ℕ) → List ℕ → Type 0
 ReadsInput true left left' bytes = ReadsAtMost 8194 left left' bytes
 ReadsInput false left left' bytes = bytes ≡ []

@@ -101,8 +101,9 @@ pub enum Fault {
 impl Fault {
     ghost use Rattle.passtool_commands.specs.Fault.{fault_status};
 
-    /// Returns the exit status: 2 for arguments, 3 for a pass, 4 if memory ran out, 5 for a caveat,
-    /// 6 for a root, 7 for input or output.
+    /// Returns the exit status of the fault. The status is 2 for bad arguments, 3 for a bad pass
+    /// and 4 if memory ran out. The status is 5 for a bad caveat, 6 for a bad root and 7 if input
+    /// or output failed.
     pub fn status(&self) -> u8
         ensures { result ≡ fault_status self.now }
     {
@@ -136,7 +137,8 @@ impl fmt::Display for Fault {
     }
 }
 
-// Returns the number from 1 to 4 in the line for a fault of a pass.
+// Returns the number, from 1 to 4, that the line for this fault shows. The line for `Memory` shows
+// no number.
 fn fault_number(fault: FormFault) -> Option<u8>
     ensures { result ≡ form_number fault }
 {

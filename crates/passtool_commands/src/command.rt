@@ -53,7 +53,8 @@ impl<'a> Job<'a> for Command<'a> {
     ) -> Result<Command<'a>, ArgumentsFault<BadValue>>
         ensures { ReadsCommand name (rows_of (found_of options.now)) result }
     {
-        // By this law, the code's test for caveats agrees with the definition.
+        // By this law, `is_understood` returns true for a text if and only if the text is a caveat
+        // of the caveat language.
         reads_what_is_understood();
         match name {
             Name::Mint => mint_of(alloc, options),

@@ -9,11 +9,12 @@ use pass_forms::{Form, FormFault, Pass};
 use pass_json::read_any;
 use std::alloc::Global;
 
-/// One byte more than the longest text of a pass with a line feed. The additional byte shows that a
-/// text is too long.
+/// The maximum number of bytes that a command reads. The longest text of a pass has 8,192 bytes,
+/// and a line feed may follow the text. One more byte shows that a text is too long.
 pub const MAX_READ: usize = 8194;
 
-/// Reads a form and a pass from the input. A line feed at the end is ignored.
+/// Reads a pass from the input. Returns the pass and the form of its text. Ignores one line feed at
+/// the end of the input.
 pub fn read_pass(alloc: Global, bytes: &[u8]) -> Result<(Form, Pass), FormFault>
     ensures read { UnlessMemory (ReadsPass bytes.now) result }
     ensures few { IfOk result (λ read. length read.1.caveats ≤ max_caveats) }

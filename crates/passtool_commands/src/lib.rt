@@ -1,5 +1,5 @@
-//! The commands of `passtool`: `mint`, `show`, `narrow`, `convert` and `verify`. A command runs on
-//! given arguments, a reader and a writer.
+//! The commands of `passtool`: `mint`, `show`, `narrow`, `convert` and `verify`. The function `run`
+//! takes the program's arguments, a reader and a writer.
 #![tactic(auto)]
 
 mod answer;

@@ -63,7 +63,7 @@ impl<'a> Mint<'a> {
         }
     }
 
-    /// Returns the new pass in its form.
+    /// Makes the new pass, and returns the text of the pass as the answer.
     pub fn answer(&self, alloc: Global) -> Result<Answer, FormFault>
         ensures { UnlessMemory (spec.MintsPass self.now) result }
     {

@@ -21,7 +21,8 @@ pub fn narrow(alloc: Global, caveats: &Caveats<'_>, bytes: &[u8]) -> Result<Answ
     written(alloc, form, &pass)
 }
 
-/// Adds caveats to a pass one by one. A pass from `mint` or from the input has at most 64 caveats.
+/// Adds caveats to a pass one by one. The given pass must have at most 64 caveats. Each pass from
+/// `mint` or from the input meets this limit.
 pub fn narrowed_pass(alloc: Global, mut pass: Pass, caveats: &[&str]) -> Result<Pass, FormFault>
     requires { length pass.caveats ≤ max_caveats }
     ensures { UnlessMemory

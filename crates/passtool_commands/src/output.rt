@@ -8,7 +8,7 @@ use pass_forms::{Form, FormFault, Pass};
 use pass_json::write_any;
 use std::alloc::Global;
 
-/// Returns the answer whose text is the pass in this form and a line feed.
+/// Returns an answer with the text of the pass in this form, followed by a line feed.
 pub fn written(alloc: Global, form: Form, pass: &Pass) -> Result<Answer, FormFault>
     ensures { UnlessMemory (spec.WritesPass form pass.now) result }
 {

@@ -11,8 +11,8 @@ use command_line::{FaultLines, GivenArguments, given_arguments, report};
 use std::alloc::Global;
 use std::io::{Read, Write};
 
-/// Runs the program on the arguments of a process, and prints the text of a fault. Returns the exit
-/// status.
+/// Runs the program with the arguments of a process, and returns the exit status. If the run fails,
+/// prints the text of the fault.
 pub fn run_process<P: GivenArguments + FaultLines, R: Read, W: Write>(
     alloc: Global,
     process: &P,
@@ -29,7 +29,7 @@ pub fn run_process<P: GivenArguments + FaultLines, R: Read, W: Write>(
     }
 }
 
-/// Returns the exit status for a run's result, and prints the text of a fault.
+/// Returns the exit status for a run's result. If the run failed, prints the text of the fault.
 pub fn finish<P: FaultLines>(process: &P, ended: Result<Outcome, Fault>) -> u8
     ensures status { result ≡ exit_status ended }
     ensures line { IfErr ended (λ fault. P.asked process.now (fault_output fault)) }

@@ -49,7 +49,7 @@ fn push_caveats(alloc: Global, text: &mut String, caveats: &[Vec<u8>]) -> Result
     Ok(())
 }
 
-// Adds a line that consists of a name, a space and a value.
+// Adds a line to the text. The line consists of a name, a space and the escaped value.
 fn push_line(alloc: Global, text: &mut String, name: &str, value: &[u8]) -> Result<(), AllocError>
     ensures { OnOk result
         (string_bytes text.new ≡ string_bytes text.old ++ spec.value_line name.now value.now) }

@@ -1,4 +1,4 @@
-//! Runs the program on given arguments, a reader and a writer.
+//! Runs the program with the given arguments, reader and writer.
 
 ghost use Rattle.std.specs.Prelude.{◌≡◌, ◌≢◌, IfErr, MatchResult, map};
 ghost use Rattle.passtool_commands.specs.Arguments.{AskForCommand};
@@ -13,13 +13,13 @@ use std::alloc::Global;
 use std::convert::AsStr;
 use std::io::{Read, Write};
 
-/// Runs the program on its arguments. The first argument is the program's name.
+/// Runs the program with these arguments. The first argument is the program's name.
 ///
-/// The program checks the arguments before it reads the input. `clap` checks the arguments first.
-/// After `clap`, the program checks the form and the root. It checks the caveats only for `narrow`
-/// without `--any`. The program reads the input to its end, or the first 8,194 bytes of it. `mint`
-/// reads no input. The program writes nothing before the answer is complete. The texts of help and
-/// of the version come from `clap`.
+/// First, `clap` checks the arguments. Then the program checks the form, and after that the root.
+/// The program checks caveats only for `narrow` without `--any`. The program reads the input only
+/// after these checks. The program reads all of the input, or only the first 8,194 bytes of a
+/// longer input. `mint` reads no input. The program writes nothing before the answer is complete.
+/// `clap` makes the help text and the version text.
 ///
 /// # Errors
 ///
@@ -27,28 +27,29 @@ use std::io::{Read, Write};
 /// - `Arguments`, if `clap` refuses the arguments or the form is unknown.
 /// - `BadRoot`, if the root isn't 1 to 64 bytes in hexadecimal.
 /// - `CaveatNotUnderstood`, if `narrow` without `--any` has a caveat that isn't in the caveat
-///   language. The fault has the number of the first such caveat.
-/// - `Pass`, with the fault of the pass. The fault is `Memory` only if an allocation fails.
+///   language. The number in the fault is the position of the first such caveat, counted from 1.
+/// - `Pass`, if reading, narrowing or writing the pass fails, or if an allocation fails. The
+///   `FormFault` in `Pass` is `Memory` only if an allocation fails.
 ///
-/// The run fails with `InputOutput` if the reader or the writer fails. The run has then written
-/// nothing, or a prefix of its output. The output is the answer to the whole input, or the text of
-/// help or of the version.
+/// If the reader or the writer fails, the run fails with `InputOutput`. A run that fails with
+/// `InputOutput` has written nothing, or a prefix of its output. The output is the answer to the
+/// whole input, the help text or the version text.
 pub fn run<S: AsStr, R: Read, W: Write>(
     alloc: Global,
     arguments: &[S],
     reader: &mut R,
     writer: &mut W,
 ) -> Result<Outcome, Fault>
-    // The result is a fault of the arguments, or a result of the command in the arguments.
+    // The result is one of the results that these arguments allow.
     ensures arguments { AnswersArguments (map S.text arguments.now) result }
     // If the arguments ask for a command, the command reads its input and writes its answer. If the
     // reader or the writer fails, the command writes a prefix of the answer, or nothing.
     ensures command { (command : CommandOf) → AskForCommand (map S.text arguments.now) command
         → Performs command (R.remaining reader.old) (R.remaining reader.new)
         (W.contents writer.old) (W.contents writer.new) result }
-    // If the arguments ask for no command that reads input, the program reads nothing.
+    // The program reads nothing unless the arguments ask for a command that reads input.
     ensures unread { AskForNoInput (map S.text arguments.now) → reader.new ≡ reader.old }
-    // If the program fails with any other fault than `InputOutput`, it writes nothing.
+    // If the program fails with a fault other than `InputOutput`, the program writes nothing.
     ensures silent { IfErr result (λ fault. fault ≢ Fault.InputOutput
         → writer.new ≡ writer.old) }
 {
@@ -62,7 +63,7 @@ pub fn run<S: AsStr, R: Read, W: Write>(
     command.perform(alloc, reader, writer)
 }
 
-// Writes the text of help or of the version. No contract states this text.
+// Writes the help text or the version text. No contract states this text.
 fn show<W: Write>(text: &clap::Error, writer: &mut W) -> Result<Outcome, Fault>
     ensures { MatchResult result (λ outcome. outcome ≡ Outcome.Done)
         (λ fault. fault ≡ Fault.InputOutput) }
