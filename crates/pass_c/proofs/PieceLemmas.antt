@@ -1,4 +1,4 @@
--- Lemmas about splitting bytes into pieces and writing pieces.
+-- Lemmas about splitting bytes into pieces and overwriting a part of the bytes.
 use Rattle.std.proofs.Common.{◌≡◌, ℕ, ◌+◌, ◌≤◌, List, [], ◌∷◌, ◌++◌, length, take, drop, refl, ap, sym, suc, ◌∙◌, arith}
 use Rattle.std.proofs.lemmas.List.{take_at, drop_at, length-take-le, take-append-le, drop-append-le, take-take, drop-take, drop-drop, length-drop}
 use Rattle.std.proofs.lemmas.List.Sums.{sum_by-cons}
@@ -9,7 +9,7 @@ pub length_pieces : (lens bytes : List ℕ) → length (pieces_of lens bytes) �
 length_pieces [] bytes = refl
 length_pieces (len ∷ lens) bytes = ap suc (length_pieces lens (drop len bytes))
 
--- The bytes after a part has overwritten them from index `place`.
+-- The result of copying `part` into the bytes, starting at index `place`.
 abbrev pub written : ℕ → List ℕ → List ℕ → List ℕ
 written place part bytes = take place bytes ++ (part ++ drop (place + length part) bytes)
 

@@ -15,7 +15,7 @@ action_of n = if n == 1 then Some View else if n == 2 then Some Book else if n =
 abbrev pub kind_of : ℕ → Option (Option Kind)
 kind_of n = if n == 0 then Some None else if n == 1 then Some (Some Court) else if n == 2 then Some (Some Boat) else if n == 3 then Some (Some Room) else None
 
--- The number, or `None` if it is outside the bounds `low` and `high`.
+-- The number, or `None` if the number is less than `low` or greater than `high`.
 abbrev pub number_within : ℕ → ℕ → ℕ → Option ℕ
 number_within low high n = if is_in_range low high n then Some n else None
 
@@ -64,7 +64,7 @@ pub record IsAskOf (object : AskObject) (ask : Option Ask) : Type 0 where
   pub named : IsFacilityNamed object facility
   pub values : ask ≡ ask_at object facility
 
--- The code of a fault. Without a fault, it is the code of success.
+-- The code of a fault, or the code of success if there is no fault.
 abbrev pub verdict_code : Option CaveatFault → ℕ
 verdict_code None = ok_code
 verdict_code (Some (NotUnderstood n)) = not_understood_code
@@ -82,8 +82,8 @@ pub record IsFaultReported (caveats : List (List ℕ)) (ask : Ask) (code number 
   pub fault_code : code ≡ verdict_code fault
   pub fault_number : number ≡ verdict_number fault
 
--- The code and the number describe the first fault that the caveats have for an object's ask. If
--- the ask is invalid, the code is `bad_ask_code` and the number is 0.
+-- The code and the number describe the first fault when the caveats are checked for the object's
+-- ask. If a value of the ask is out of range, the code is `bad_ask_code` and the number is 0.
 pub record Answers (caveats : List (List ℕ)) (object : AskObject) (code number : ℕ) : Type 0 where
   pub ask : Option Ask
   pub is_ask : IsAskOf object ask

@@ -3,7 +3,7 @@ use Rattle.std.specs.Prelude.{ℕ, if◌then◌else◌, ◌==◌, Result, Ok, Er
 use Rattle.pass_forms.specs.declared.{fault.FormFault.{FormFault, TheVariants.{TooLong, Malformed, ThirdParty, TooMany, Memory}}, form.Form.Form}
 use Rattle.pass_forms.specs.declared.form.Form.TheVariants.{V1, V2, Json}
 
--- The number in the field `form` of an object without a pass.
+-- The value of the field `form` in an empty object.
 abbrev pub no_form_number : ℕ
 no_form_number = 0
 
@@ -65,7 +65,7 @@ fault_code ThirdParty = third_party_code
 fault_code TooMany = too_many_code
 fault_code Memory = memory_code
 
--- The code of success or of a fault, for a call that returns no value.
+-- The code for the result of a call: 0 for success, or the code of the fault.
 abbrev pub code_of : {A : Type 0} → Result A FormFault → ℕ
 code_of (Ok done) = ok_code
 code_of (Err fault) = fault_code fault

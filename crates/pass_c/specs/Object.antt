@@ -3,7 +3,7 @@ use Rattle.std.specs.Prelude.{◌≡◌, ℕ, ◌+◌, nat_le, if◌then◌else�
 use Rattle.pass_forms.specs.{FieldSource.no_fields, Pass.Plain, declared.{fault.FormFault.FormFault, form.Form.Form}}
 use Rattle.pass_c.specs.{Code.{form_with_number, memory_code, no_form_number, ok_code}, declared.object.PassObject.PassObject}
 
--- The pieces of the bytes with these lengths, from left to right.
+-- Splits the bytes into pieces with these lengths, from left to right.
 abbrev pub pieces_of : List ℕ → List ℕ → List (List ℕ)
 pieces_of [] bytes = []
 pieces_of (len ∷ lens) bytes = take len bytes ∷ pieces_of lens (drop len bytes)
@@ -27,7 +27,7 @@ abbrev pub filled : Result (Unit {0}) FormFault → PassObject → Result (Form 
 filled (Ok done) object = Ok (form_in object, held object)
 filled (Err fault) object = Err fault
 
--- The most bytes that an object's location, identifier and caveats can have together.
+-- The maximum total length of an object's location, identifier and caveats, in bytes.
 abbrev pub room : ℕ
 room = 8192
 
@@ -35,7 +35,7 @@ room = 8192
 abbrev pub taken : PassObject → ℕ
 taken object = object.location_len + object.identifier_len + sum (take object.caveat_count object.caveat_lens)
 
--- The code for a new pass whose fields have `len` bytes together.
+-- The code that `clubpass_mint` returns for a location and an identifier of `len` bytes in total.
 abbrev pub room_code : ℕ → ℕ
 room_code len = if nat_le len room then ok_code else memory_code
 
@@ -44,6 +44,6 @@ pub record IsEmpty (object : PassObject) : Type 0 where
   pub form : object.form ≡ no_form_number
   pub fields : held object ≡ no_fields
 
--- The pass with one more caveat and with its old signature.
+-- The pass with one more caveat and with an unchanged signature.
 abbrev pub with_one_more : List ℕ → Plain → Plain
 with_one_more caveat pass = record pass { caveats = pass.caveats ++ caveat ∷ [] }

@@ -26,7 +26,7 @@ pub struct AskObject {
     pub day: u16,
     /// The hour of the slot, from 0 to 23.
     pub hour: u8,
-    /// The number of guests of a booking. For other actions, it is 0.
+    /// The number of guests of a booking, or 0 for any other action.
     pub guests: u8,
     /// The length of the facility's name in bytes, or 0 if the ask has no slot.
     pub facility_len: u8,

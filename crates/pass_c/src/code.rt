@@ -44,7 +44,7 @@ pub const NOT_UNDERSTOOD: u32 = 10;
 /// A caveat denies the ask.
 pub const DENIED: u32 = 11;
 
-/// The number in the field `form` of an object without a pass.
+/// The value of the field `form` in an empty object.
 pub const NO_TEXT: u32 = 0;
 
 const V1: u32 = 1;
@@ -89,7 +89,7 @@ pub fn fault_code(fault: FormFault) -> u32
     }
 }
 
-/// Returns the code of success or of a fault, for a call that returns no value.
+/// Returns the code for the result of a call: 0 for success, or the code of the fault.
 pub fn code_of(ended: Result<(), FormFault>) -> u32
     ensures code { result ≡ spec.code_of ended }
     ensures back { spec.result_of result ≡ ended }
@@ -100,8 +100,8 @@ pub fn code_of(ended: Result<(), FormFault>) -> u32
     }
 }
 
-/// Returns the code of a fault, and the number of the faulty caveat, counted from 1. Without a
-/// fault, the number is 0.
+/// Returns the code of a fault, and the position of the faulty caveat, counted from 1. If there is
+/// no fault, both numbers are 0.
 pub fn verdict_of(fault: Option<CaveatFault>) -> (u32, usize)
     ensures code { result.0 ≡ verdict_code fault }
     ensures number { result.1 ≡ verdict_number fault }

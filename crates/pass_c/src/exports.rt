@@ -26,7 +26,7 @@ use pass_caveats::laws::reads_what_is_understood;
 use pass_forms::Form;
 use std::alloc::Global;
 
-/// Reads a pass from a text in any form. If the call fails, the object is empty.
+/// Reads a pass from a text in any form. A call that fails empties the object.
 #[unsafe(no_mangle)]
 pub extern "C" fn clubpass_read(alloc: Global, text: &[u8], pass: &mut PassObject) -> u32
     ensures spelling { UnlessMemory (IsAnyReading text.now) (filled (result_of result) pass.new) }
@@ -102,7 +102,7 @@ pub extern "C" fn clubpass_signature(pass: &PassObject, out: &mut [u8; 32])
     *out = pass.signature;
 }
 
-/// Writes the text of a pass in the form with this number to the buffer.
+/// Writes the text of a pass to the buffer. `form` is the number of the text's form.
 #[unsafe(no_mangle)]
 pub extern "C" fn clubpass_write(
     alloc: Global,
@@ -122,7 +122,7 @@ pub extern "C" fn clubpass_write(
     }
 }
 
-// Writes the text of a pass in a form to the buffer.
+// Writes the text of a pass to the buffer, in this form.
 fn write_in(alloc: Global, pass: &PassObject, form: Form, out: &mut [u8], len: &mut usize) -> u32
     ensures { IsTextCopied form (held pass.now) out.old out.new len.new result }
 {
@@ -155,8 +155,8 @@ pub extern "C" fn clubpass_mint(
     }
 }
 
-/// Adds a caveat to a pass, and signs the pass without the root. If the call fails, the pass is
-/// unchanged.
+/// Adds a caveat to a pass. The call computes the new signature from the old signature, without the
+/// root. If the call fails, the pass is unchanged.
 #[unsafe(no_mangle)]
 pub extern "C" fn clubpass_narrow(pass: &mut PassObject, caveat: &[u8]) -> u32
     ensures value { result ≡ ok_code → held pass.new ≡ with_caveat caveat.now (held pass.old) }
@@ -181,7 +181,9 @@ pub extern "C" fn clubpass_is_signed(pass: &PassObject, root: &[u8]) -> bool
     pass.is_signed(root)
 }
 
-/// Finds the first caveat that isn't understood or that denies an ask.
+/// Finds the first caveat that isn't understood or that denies the ask. Sets `number` to the
+/// position of this caveat, counted from 1. If no caveat has a fault or the ask is invalid, sets
+/// `number` to 0.
 #[unsafe(no_mangle)]
 pub extern "C" fn clubpass_first_fault(
     pass: &PassObject,

@@ -1,6 +1,6 @@
-//! Passes for C, and for every language that can call C. The exported functions use the caller's
-//! buffers and one object of plain data. Each function calls a library and repeats the library's
-//! contract.
+//! Passes for C, and for every language that can call C. The exported functions work on buffers and
+//! objects that the caller allocates. The functions call other crates for passes, and their
+//! contracts use the definitions of these crates.
 #![tactic(auto)]
 
 mod ask;

@@ -9,11 +9,12 @@ use pass_json::{read_any, write_any};
 use pass_mac::{Chain, same};
 use std::alloc::{AllocError, Global};
 
-/// The most bytes that a pass's location, identifier and caveats can have together.
+/// The maximum total length of a pass's location, identifier and caveats, in bytes.
 pub const ROOM: usize = 8192;
 
 /// A pass as an object of plain data. C code can store, copy and drop the object without a call. In
-/// contracts, `held` is the object's pass. Every object represents a pass, whatever its bytes are.
+/// contracts, `held` returns the pass that an object represents. Every object represents a pass,
+/// whatever its bytes are.
 #[repr(C)]
 #[derive(Drop)]
 pub struct PassObject {
@@ -54,7 +55,7 @@ impl PassObject {
         cut(&self.bytes, self.location_len as usize).0
     }
 
-    // Returns the identifier, and all bytes after it.
+    // Returns the identifier, and all bytes after the identifier.
     fn after_location(&self) -> (&[u8], &[u8])
         ensures identifier { result.0.now ≡ (held self.now).identifier }
         ensures others { result.1.now
@@ -110,7 +111,8 @@ impl PassObject {
         self.signature = [0; 32];
     }
 
-    // Stores a pass without caveats in the object, if the object has room for its fields.
+    // Stores a pass without caveats in the object. If the object has no room for the pass, returns
+    // false and empties the object.
     fn start(
         &mut self,
         form: Form,
@@ -141,7 +143,8 @@ impl PassObject {
         true
     }
 
-    // Adds a caveat without signing it, if the object has room for the caveat.
+    // Adds a caveat without changing the signature. If the object has no room for the caveat,
+    // returns false and changes nothing.
     fn push(&mut self, caveat: &[u8]) -> bool
         ensures room { IsTrue result ↔ ((length (held self.old).caveats < max_caveats)
             × (taken self.old + length caveat.now ≤ room)) }
@@ -163,7 +166,8 @@ impl PassObject {
         true
     }
 
-    // Stores this pass in the object, if the object has room for the pass.
+    // Stores this pass in the object. If the object has no room for the pass, the call fails and
+    // empties the object.
     fn fill(&mut self, form: Form, pass: &Pass) -> Result<(), FormFault>
         ensures value { OnOk result (held self.new ≡ pass.now) }
         ensures form { OnOk result (self.new.form ≡ code.number_of_form form) }
@@ -209,7 +213,8 @@ impl PassObject {
         self.start(Form::V2, location, identifier, &signature)
     }
 
-    /// Adds a caveat to the pass, and signs the pass without the root.
+    /// Adds a caveat to the pass. Computes the new signature from the old signature, without the
+    /// root.
     pub fn narrow(&mut self, caveat: &[u8]) -> Result<(), FormFault>
         ensures ok { OnOk result (held self.new ≡ with_caveat caveat.now (held self.old)) }
         ensures signed { OnOk result ((root : List ℕ)
@@ -244,7 +249,7 @@ impl PassObject {
         same(&chain.signature(), &self.signature)
     }
 
-    /// Returns the first caveat that isn't understood or that denies the ask.
+    /// Returns the fault of the first caveat that isn't understood or that denies the ask.
     pub fn first_fault(&self, ask: &Ask) -> Option<CaveatFault>
         ensures { IsFirstFault (held self.now).caveats ask.now result }
     {

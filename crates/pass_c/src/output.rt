@@ -1,11 +1,12 @@
-//! Copies parts of a pass to the caller's buffer.
+//! Copies bytes to the caller's buffer.
 
 ghost use Rattle.std.specs.Prelude.{◌≡◌};
 ghost use Rattle.pass_c.specs.Output.{IsCopied};
 
 use crate::code::{OK, SHORT_BUFFER};
 
-/// Writes a part to the front of the buffer if it fits, and writes the part's length to `len`.
+/// Copies `part` to the front of the buffer if the buffer is long enough. Always sets `len` to the
+/// length of `part`.
 pub fn put(part: &[u8], out: &mut [u8], len: &mut usize) -> u32
     ensures { IsCopied part.now out.old out.new len.new result }
 {

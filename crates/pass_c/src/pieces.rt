@@ -1,4 +1,4 @@
-//! Splits bytes into pieces, and writes pieces.
+//! Splits bytes into pieces of given lengths, and works on the pieces.
 
 ghost use Rattle.std.specs.Prelude.{◌≡◌, ◌+◌, ◌*◌, ◌≤◌, ◌++◌, OnOk, drop, length, map, option_map};
 ghost use Rattle.std.specs.Prelude.{slice_get, sum, take};
@@ -21,7 +21,7 @@ pub fn cut(bytes: &[u8], len: usize) -> (&[u8], &[u8])
     bytes.split_at(len.min(bytes.len()))
 }
 
-/// Overwrites the bytes with a part, from index `place`.
+/// Copies `part` into the bytes, starting at index `place`.
 pub fn overwrite(bytes: &mut [u8; ROOM], place: usize, part: &[u8])
     requires { place + length part.now ≤ room }
     ensures { bytes.new
@@ -42,7 +42,7 @@ pub fn total(lens: &[u16]) -> usize
     }
 }
 
-/// Returns the piece with this index.
+/// Returns the piece with this index, counted from 0. `lens` has the lengths of the pieces.
 pub fn piece<'a>(lens: &[u16], bytes: &'a [u8], index: usize) -> Option<&'a [u8]>
     ensures { option_map (λ piece. piece.now) result
         ≡ slice_get (pieces_of lens.now bytes.now) index }
@@ -55,7 +55,7 @@ pub fn piece<'a>(lens: &[u16], bytes: &'a [u8], index: usize) -> Option<&'a [u8]
     }
 }
 
-/// Extends the chain of signatures by one caveat for each piece.
+/// Adds each piece as a caveat to the chain of signatures.
 pub fn extended(mut chain: Chain, lens: &[u16], bytes: &[u8]) -> Chain
     ensures { result ≡ extended_signature chain (pieces_of lens.now bytes.now) }
 {
@@ -87,8 +87,8 @@ pub fn copy_pieces(
     copy_pieces(alloc, list, others, rest)
 }
 
-/// Reads the pieces as caveats, and returns the first fault. `number` is the number of the first
-/// piece.
+/// Reads the pieces as caveats, and returns the first fault. In a fault, the first piece has the
+/// number `number`.
 pub fn first_fault_in(lens: &[u16], bytes: &[u8], number: usize, ask: &Ask) -> Option<CaveatFault>
     requires { number + length lens.now ≤ 65 }
     ensures { result
