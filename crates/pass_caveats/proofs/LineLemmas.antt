@@ -1,4 +1,4 @@
--- Lemmas for the proof that the parser rejects caveat lines with invalid dates or numbers.
+-- Lemmas for the proof that the parser of caveat lines agrees with the definition `SpellsCaveat`.
 use Rattle.pass_caveats.proofs.Common.{◌≡◌, ℕ, ◌<◌, ◌≤◌, List, [], ◌++◌, length, take, drop, Option, refl, sym, ap, subst, ◌∙◌, arith, codes, take-append-drop}
 use Rattle.pass_caveats.proofs.Common.{Facility, Kind, Hours, Days, Weekdays, Until, Guests, Spend, Actions, Caveat, SpellsCaveat, common_steps}
 use Rattle.std.proofs.lemmas.Fmt.{decimal_injective}

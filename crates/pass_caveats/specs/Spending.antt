@@ -4,7 +4,7 @@ use Rattle.pass_caveats.specs.{Caveat.IsCaveat, Fault.{IsFaultAt, first_fault_of
 use Rattle.pass_caveats.specs.declared.fault.CaveatFault.{CaveatFault}
 use Rattle.club_values.specs.Number.{number_limit}
 
--- Returns a copy of the request with a different number of points that the key has spent.
+-- Returns a copy of the request in which the key has spent `spent` points.
 abbrev pub after_spending : ℕ → Ask → Ask
 after_spending spent ask = record ask { spent = spent }
 
@@ -15,8 +15,8 @@ OwesNothing =
     (caveats : List (Option Caveat)) (ask : Ask) (spent : ℕ) → ask.owed ≡ 0
     → first_fault_of caveats (after_spending spent ask) ≡ first_fault_of caveats (after_spending 0 ask)
 
--- Suppose that a key has the same first fault after spending nothing and after spending `most`
--- points. Then the key has the same first fault after spending any amount up to `most`. Every spend
+-- Suppose that the first fault is the same for a key that has spent nothing and for a key that has
+-- spent `most` points. Then the first fault is the same for any amount up to `most`. Every spend
 -- limit is at most 999,999,999 points. Therefore, if `most` is at least 999,999,999, the first
 -- fault doesn't depend on the amount spent.
 abbrev pub LimitsNoMore : Type 0
@@ -26,9 +26,9 @@ LimitsNoMore =
     → first_fault_of caveats (after_spending most ask) ≡ first_fault_of caveats (after_spending 0 ask)
     → first_fault_of caveats (after_spending spent ask) ≡ first_fault_of caveats (after_spending 0 ask)
 
--- Returns the points that remain of a spend limit after the request's charge. The charge must be
--- within the limit. The result is `None` if the caveat isn't a spend limit or the request charges
--- nothing.
+-- Subtracts the request's charge from a spend limit, and returns the remaining points. The charge
+-- must be within the limit. The result is `None` if the caveat isn't a spend limit or the request
+-- charges nothing.
 abbrev pub slack_under : Caveat → Ask → Option ℕ
 slack_under (Spend n) ask = if ask.owed == 0 then None else Some (n - ask.owed)
 slack_under caveat ask = None

@@ -19,7 +19,7 @@ use club_values::{Day, Kind, Moment};
 /// The maximum length of an understood caveat, in bytes.
 pub const MAX_CAVEAT_LEN: usize = 256;
 
-/// A caveat that was understood. Each caveat allows a set of requests.
+/// A caveat of the caveat language. Each caveat allows a set of requests.
 #[derive(Debug, Drop)]
 pub enum Caveat<'a> {
     /// The name of the slot's facility is in the list.
@@ -37,8 +37,8 @@ pub enum Caveat<'a> {
     Until(Moment),
     /// The booking has at most this number of guests. The number is between 0 and 49.
     Guests(u8),
-    /// The request charges nothing, or the key has spent at most this number of points after the
-    /// charge. The number is between 0 and 999,999,999.
+    /// The request charges nothing, or the points that the key has spent, including this charge,
+    /// are at most this number. The number is between 0 and 999,999,999.
     Spend(u32),
     /// The requested action is in the set.
     Actions(Actions),
@@ -141,8 +141,8 @@ pub fn allows(caveat: &Caveat, ask: &Ask) -> bool
     is_in_set(caveat, ask)
 }
 
-/// Returns whether the text is a caveat on the kind of the slot's facility. The fault of a text
-/// depends on the kind if and only if the result is true.
+/// Returns whether the text is a caveat that restricts the kind of a facility. The fault of the
+/// text depends on the kind if and only if the result is true.
 #[tactic(auto, using(crate::proofs::KindLemmas::blind_to_kind))]
 pub fn looks_at_kind(text: &[u8]) -> bool
     ensures function { result ≡ is_on_kind (caveat_of text.now) }

@@ -58,10 +58,10 @@ pub fn owes_nothing()
     ensures { OwesNothing }
 {}
 
-/// Suppose that a key has the same first fault after spending nothing and after spending `most`
-/// points. Then the key has the same first fault after spending any amount up to `most`. Every
-/// spend limit is at most 999,999,999 points. Therefore, if `most` is at least 999,999,999, the
-/// first fault doesn't depend on the amount spent.
+/// Suppose that the first fault is the same for a key that has spent nothing and for a key that has
+/// spent `most` points. Then the first fault is the same for any amount up to `most`. Every spend
+/// limit is at most 999,999,999 points. Therefore, if `most` is at least 999,999,999, the first
+/// fault doesn't depend on the amount spent.
 #[tactic(auto, using(crate::proofs::SpendingLemmas::limits_no_more))]
 pub fn limits_no_more()
     ensures { LimitsNoMore }

@@ -11,7 +11,7 @@ use crate::weekdays::Weekdays;
 use club_values::digits::{read_number, read_two};
 use club_values::{Day, HOURS_A_DAY, Kind, MAX_GUESTS, Moment};
 
-/// Returns the text after the word, or `None` if the text doesn't begin with the word.
+/// Returns the bytes that follow `word` in `text`, or `None` if `text` doesn't begin with `word`.
 fn after<'a>(text: &'a [u8], word: &[u8]) -> Option<&'a [u8]>
     ensures { MatchOption result ((rest : List ℕ) → ¬ (text.now ≡ word.now ++ rest))
         (λ rest. text.now ≡ word.now ++ rest.now) }

@@ -42,9 +42,9 @@ pub fn unspent_at(text: &[u8], number: usize, ask: &Ask) -> Unspent
     }
 }
 
-/// Returns the points that remain of a spend limit after the request's charge. The charge must be
-/// within the limit. Returns `None` if the caveat isn't a spend limit or the request charges
-/// nothing.
+/// Subtracts the request's charge from a spend limit, and returns the remaining points. The charge
+/// must be within the limit. Returns `None` if the caveat isn't a spend limit or the request
+/// charges nothing.
 fn slack_of(caveat: &Caveat, ask: &Ask) -> Option<u64>
     ensures { result ≡ slack_under caveat.now ask.now }
 {
