@@ -4,8 +4,8 @@ use Rattle.jiff_core.specs.{Timestamp.nanos_of_seconds, declared.timestamp.Times
 use Rattle.jiff_tz.specs.{PosixReader.read_whole, PosixRule.offset_at, PosixText.tz_view, declared.posix.TimeZone.TimeZone}
 use Rattle.club_values.specs.{Moment.IsMoment, Reading.Reads}
 
--- The given text, if it is a zone's rule of POSIX (IEEE Std 1003.1, 8.3). A text that isn't a rule
--- of POSIX has no zone (`None`).
+-- Returns the text if the text is a time zone rule of POSIX (IEEE Std 1003.1, 8.3). Otherwise
+-- returns `None`.
 unfoldable pub zone_of : List ℕ → Option (List ℕ)
 zone_of text = if is_some (read_whole text) then Some text else None
 
@@ -13,21 +13,21 @@ zone_of text = if is_some (read_whole text) then Some text else None
 abbrev pub IsZoneOf : List ℕ → TimeZone → Type 0
 IsZoneOf rule zone = read_whole rule ≡ Some (tz_view zone)
 
--- The time of a clock is in the minute with the given number. The time of a clock is in nanoseconds
--- since 1970-01-01T00:00.
+-- The time `nanos` falls in the minute with the number `minute`. The time is in nanoseconds, and
+-- both values count from 1970-01-01T00:00.
 abbrev pub IsInMinute : ℤ → ℕ → Type 0
 IsInMinute nanos minute =
     (pos (minute * 60_000_000_000) ≤ℤ nanos) × (nanos <ℤ pos (minute * 60_000_000_000 + 60_000_000_000))
 
 -- The moment is the minute that a clock in the rule's zone shows at the instant. The moment is
--- `None` if that minute is outside the club's years.
+-- `None` if the year of this minute is before 2000 or after 2099.
 pub record IsShown (rule : List ℕ) (instant : ℤ) (moment : Option ℕ) : Type 0 where
   pub zone : TimeZone
   pub of_rule : IsZoneOf rule zone
   pub minute : Reads (λ n. IsMoment n × IsInMinute (instant +ℤ nanos_of_seconds (offset_at zone instant).seconds) n) moment
 
--- The moment that a clock in the rule's zone shows at the given instant. The moment is `None` if no
--- instant is given.
+-- A clock in the rule's zone may show this moment. `Given` states which instants the machine's
+-- clock may return. If the machine's clock returns no instant, the moment is `None`.
 abbrev pub ShowsIn : List ℕ → (Option Timestamp → Type 0) → Option ℕ → Type 0
 ShowsIn rule Given moment = (given : Option Timestamp) × Given given
     × MatchOption given (moment ≡ None) (λ instant. IsShown rule instant.nanosecond moment)

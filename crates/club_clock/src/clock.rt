@@ -8,6 +8,6 @@ use club_values::Moment;
 pub enum Clock<'a> {
     /// A fixed moment, the same for all connections.
     Fixed(Moment),
-    /// The machine's clock, shown in the given zone.
+    /// The machine's clock, in the given time zone.
     InZone(Zone<'a>),
 }

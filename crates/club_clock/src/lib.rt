@@ -1,5 +1,5 @@
-//! The club's clock. This crate has the sources of moments, and the zone in which the club's clock
-//! shows the time.
+//! The club's clock. A moment is a minute on this clock. The crate reads the current moment, and
+//! defines the clock's time zone.
 #![tactic(auto)]
 
 mod clock;

@@ -9,15 +9,16 @@ use jiff_core::Timestamp;
 use std::marker::Model;
 use std::time::{self, SystemTime};
 
-/// A source from which connections get their moments.
+/// A source of the moments at which connections are served.
 pub trait Moments {
     ghost use Rattle.club_clock.specs.Moments.{GivesMoment};
 
-    // The moments that `now` may return, with the source before and after the call.
+    // Relates the source before a call of `now`, the returned moment, and the source after the
+    // call.
     ghost gives: { GivesMoment Self };
 
-    /// Returns the current moment. Returns `None` if the clock can't be read, or if its time is
-    /// outside the club's years.
+    /// Returns the current moment. Returns `None` if the clock can't be read, or if the clock's
+    /// year is before 2000 or after 2099.
     fn now(&mut self) -> Option<Moment>
         ensures { gives self.old result self.new };
 }
@@ -31,13 +32,12 @@ pub trait Instants {
     ghost shows: { Self → Option Timestamp → Type 0 };
 
     /// Returns the current instant. Returns `None` if the clock can't be read, or if a `Timestamp`
-    /// can't represent its time.
+    /// can't represent the clock's time.
     fn instant(&self) -> Option<Timestamp>
         ensures { shows self.now result };
 }
 
-/// The instants of a clock of the machine. The contract promises nothing about the instants of the
-/// machine's clock.
+/// Reads the instants from the machine's clock. The contract states nothing about these instants.
 impl<C: time::Clock> Instants for C {
     ghost shows = { λ _ _. Unit {0} };
 
@@ -46,7 +46,7 @@ impl<C: time::Clock> Instants for C {
     }
 }
 
-// Returns the instant of a time. Returns `None` if the time is too late for a `Timestamp`.
+// Converts a system time to an instant. Returns `None` if the time is too late for a `Timestamp`.
 fn instant_of(time: SystemTime) -> Option<Timestamp>
     ensures { MatchOption result
         (¬ (IsTimestampNanos (pos (system_time_nanos time))))
@@ -56,8 +56,8 @@ fn instant_of(time: SystemTime) -> Option<Timestamp>
     Timestamp::from_nanosecond(i128::try_from(since.as_nanos()).ok()?).ok()
 }
 
-/// The moments of a clock. The moment is fixed, or is read from the machine's clock. Contracts
-/// represent a `MomentsOf` by the pair of the club's clock and the machine's clock.
+/// A source of moments. Each moment is the fixed moment of `clock`, or is read from `machine`, the
+/// machine's clock. Contracts represent a `MomentsOf` by the pair of both clocks.
 #[derive(Drop)]
 pub struct MomentsOf<'z, 'c, C> {
     pub clock: Clock<'z>,
@@ -75,8 +75,8 @@ impl<'z, 'c, C> Model for MomentsOf<'z, 'c, C> {
 impl<'z, 'c, C: Instants> Moments for MomentsOf<'z, 'c, C> {
     ghost use Rattle.club_clock.specs.Moments.{showing};
 
-    // The fixed moment, or the moment at the instant that the machine's clock gave. The moment is
-    // `None` if the machine's clock gave no instant.
+    // `now` returns the fixed moment, or the moment in the zone at the machine's current instant.
+    // `now` returns `None` if the machine's clock returns no instant.
     ghost gives = { showing C.shows };
 
     fn now(&mut self) -> Option<Moment> {

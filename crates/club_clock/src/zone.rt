@@ -1,4 +1,4 @@
-//! The zone in which the club's clock shows the time.
+//! The time zone of the club's clock.
 
 ghost use Rattle.std.specs.Prelude.{◌≡◌};
 ghost use Rattle.club_clock.specs.Zone.{IsShown, zone_of};
@@ -8,8 +8,8 @@ use jiff_core::Timestamp;
 use jiff_tz::posix::TimeZone;
 use std::marker::Model;
 
-/// A zone, given by the text of its POSIX rule, such as `UTC0` or `CET-1CEST,M3.5.0,M10.5.0/3`.
-/// Contracts represent a zone by the text of its rule.
+/// A time zone, defined by a POSIX rule such as `UTC0` or `CET-1CEST,M3.5.0,M10.5.0/3`. Contracts
+/// represent a zone by the text of its rule.
 #[derive(Drop)]
 pub struct Zone<'a> {
     rule: &'a str,
