@@ -1,7 +1,7 @@
-//! An example that uses passes in code. The example mints a pass for a key, and narrows the pass
-//! like the key's holder. Like a desk, it then verifies the pass and tests the pass's caveats
-//! against a request. Finally, it walks through the commands of `passtool`. Copy the example as a
-//! start for your own program.
+//! An example that uses passes in code. The example mints a pass as the office does, and narrows
+//! the pass as the key's holder does. Next, the example verifies passes and tests requests as the
+//! desk does. Finally, the example runs the commands of `passtool`. You can start your own program
+//! from a copy of this example.
 #![tactic(auto)]
 
 mod walk;
@@ -19,7 +19,7 @@ use std::fmt;
 // and the desk.
 const ROOT: &[u8] = b"\x00\x11\x22\x33\x44\x55\x66\x77\x88\x99\xaa\xbb\xcc\xdd\xee\xff";
 
-// A desk's answer to a pass.
+// The desk's answer to a request with a pass.
 #[derive(Clone, Copy)]
 enum Verdict {
     Allowed,
@@ -75,14 +75,14 @@ fn print_verdicts(rt: &(impl Print + Alloc<A = Global>)) -> Result<()> {
     Ok(())
 }
 
-// Mints a pass for the key like the office, and returns the pass's text for the holder.
+// Mints a pass for the key, as the office does. Returns the text of the pass for the key's holder.
 fn mint(alloc: Global) -> Result<String, FormFault> {
     let pass = Pass::mint(alloc, ROOT, b"club-desk", b"key:amy-1")?;
     write_any(alloc, Form::V2, &pass)
 }
 
-// Narrows a pass like its holder, who doesn't know the root. The narrowed pass is still signed. The
-// pass's text can have any form.
+// Narrows a pass, as the holder does. The holder doesn't know the root, and the narrowed pass is
+// still signed. The text of the pass may have any form.
 fn narrowed_by(alloc: Global, text: &str, caveats: &[&str]) -> Result<String, FormFault> {
     let (form, mut pass) = read_any(alloc, text.as_bytes())?;
     for caveat in caveats {
@@ -91,7 +91,7 @@ fn narrowed_by(alloc: Global, text: &str, caveats: &[&str]) -> Result<String, Fo
     write_any(alloc, form, &pass)
 }
 
-// Verifies a pass like the desk. Checks the signature first, then the caveats in order.
+// Verifies a pass, as the desk does. Checks the signature first, then the caveats in order.
 fn verdict_on(alloc: Global, text: &str, ask: &Ask) -> Result<Verdict, FormFault> {
     let (_, pass) = read_any(alloc, text.as_bytes())?;
     if !pass.is_signed(ROOT) {
@@ -122,9 +122,9 @@ fn answer_of(line: &str, ask: &Ask) -> &'static str {
     }
 }
 
-// A request for testing caveats. At noon on 2026-04-20, the request books a facility for 2026-05-01
-// at 18:00. The booking has two guests and costs 600 points. A parser returns `None` if its text
-// isn't valid.
+// Returns a request for a booking at this facility. The request is made at noon on 2026-04-20, for
+// the slot on 2026-05-01 at 18:00. The booking has two guests and costs 600 points. Returns `None`
+// if a value isn't valid.
 fn booking(facility: &[u8], kind: Kind) -> Option<Ask> {
     let slot = Slot {
         facility: Name::read(facility)?,
@@ -142,7 +142,7 @@ fn booking(facility: &[u8], kind: Kind) -> Option<Ask> {
     })
 }
 
-// Returns a value of the example. All values of the example are within their limits.
+// Returns the value, or an error for `None`. In this example, all values are valid.
 fn known<T: Drop>(value: Option<T>) -> Result<T> {
     value.ok_or_else(|| anyhow!("a value is out of its limits"))
 }

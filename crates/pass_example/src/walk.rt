@@ -1,5 +1,6 @@
-//! Walks through the commands of `passtool`. Prints each command line and its output. If a command
-//! prints a pass, the walk saves the pass to a file, which later commands read.
+//! Runs the commands of `passtool`, and prints each command line with its output. The printed
+//! command lines save passes to files for later commands. The code uses no files, and keeps the
+//! passes in memory.
 
 use passtool_commands::run;
 use std::alloc::Global;
@@ -8,8 +9,9 @@ const ROOT: &str = "00112233445566778899aabbccddeeff";
 
 const OTHER_ROOT: &str = "ffeeddccbbaa99887766554433221100";
 
-/// Prints the walk. The walk makes a new pass, then narrows, shows, converts and verifies it. At
-/// the end, `passtool` refuses a caveat that isn't in the caveat language.
+/// Runs the commands, and prints them with their output. The commands make a new pass, then narrow,
+/// show, convert and verify the pass. At the end, `passtool` refuses a caveat that isn't in the
+/// caveat language.
 pub(crate) fn print_walk(rt: &(impl Print + Alloc<A = Global>)) -> anyhow::Result<()> {
     let pass = mint_pass(rt)?;
     let words = [
@@ -56,7 +58,7 @@ fn mint_pass(rt: &(impl Print + Alloc<A = Global>)) -> anyhow::Result<String> {
     step(rt, words.as_slice(), " | tee pass", "")
 }
 
-// Prints a command line and the output of its run. Returns the output.
+// Prints a command line, then runs the command. Prints and returns the output.
 fn step(
     rt: &(impl Print + Alloc<A = Global>),
     words: &[&str],
@@ -70,7 +72,8 @@ fn step(
     Ok(output)
 }
 
-// Returns the text that a run writes, or the line that it prints on standard error.
+// Runs a command with this input, and returns the output. If the run fails, returns the line for
+// standard error.
 fn output_of(alloc: Global, words: &[&str], input: &str) -> anyhow::Result<String> {
     let mut written = Vec::new(alloc);
     match run(alloc, words, &mut input.as_bytes(), &mut written) {
@@ -79,7 +82,7 @@ fn output_of(alloc: Global, words: &[&str], input: &str) -> anyhow::Result<Strin
     }
 }
 
-// Returns a command line as a user types it in a shell. A word with a space is in quotes.
+// Returns a command line as a user types it in a shell. A word with a space is in double quotes.
 fn command_line(alloc: Global, words: &[&str]) -> anyhow::Result<String> {
     let mut line = String::new(alloc);
     for (index, word) in words.iter().enumerate() {
