@@ -1,6 +1,7 @@
 //! Parses the arguments, which select a benchmark.
 
-/// A benchmark, and the number of times that it runs each task or sends each request.
+/// A benchmark with its count. The count is the number of runs of each task, or the number of
+/// requests of each kind.
 #[derive(Clone, Copy)]
 pub(crate) enum Choice {
     Passes { count: u32 },

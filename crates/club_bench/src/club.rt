@@ -11,12 +11,13 @@ use pass_forms::{Form, FormFault, Pass, narrow};
 use pass_json::write_any;
 use std::alloc::Global;
 
-/// The number of members. Each member has one key. The desk's cache has room for all derived keys.
+/// The number of members. Each member has one key. The desk's cache has room for the derived keys
+/// of all these keys.
 pub(crate) const KEYS: u16 = 50;
 
 pub(crate) const COURT: &[u8] = b"court-1";
 
-/// Caveats that allow every request.
+/// Caveats that allow every request of the benchmarks.
 pub(crate) const CAVEATS: [&[u8]; 3] = [
     b"guests <= 4",
     b"until < 2099-12-31T23:59",
@@ -33,15 +34,15 @@ pub(crate) trait Benchmark {
     ) -> Result<()>;
 }
 
-/// Runs a benchmark at two desks over tables in memory. Only this function names the type of the
-/// tables, because proofs about this type take long.
+/// Runs a benchmark with two desks, whose tables are in memory. Only this function names the type
+/// of the tables, because proofs about this type take a long time.
 pub(crate) fn run_in_memory(rt: &HostRuntime, benchmark: &impl Benchmark) -> Result<()> {
     let first = Store::open_in_memory(rt.alloc())?;
     let second = Store::open_in_memory(rt.alloc())?;
     run_over(rt, first, second, benchmark)
 }
 
-// Runs the benchmark at two desks over these empty tables.
+// Runs the benchmark with two desks. The desks use these tables, which must be empty.
 fn run_over<S: ClubStore + Drop>(
     rt: &HostRuntime,
     first: S,
@@ -53,7 +54,7 @@ fn run_over<S: ClubStore + Drop>(
     benchmark.run(rt, first, second)
 }
 
-// Makes a desk over empty tables, then adds the court, the members and their keys.
+// Makes a desk with empty tables, then adds the court, the members and their keys.
 fn filled_desk<S: ClubStore + Drop>(alloc: Global, store: S) -> Result<Desk<S>> {
     let mut desk = Desk::new(alloc, store);
     give(&mut desk, &known(court(), "a court")?)?;

@@ -1,5 +1,6 @@
-//! Measures how many requests per second a desk over tables in memory answers. For each row, the
-//! benchmark sends COUNT bookings, the same bookings again, and COUNT requests for an account.
+//! Measures how many requests per second a desk with tables in memory answers. For each line of the
+//! output, the benchmark sends COUNT bookings, the same bookings again, and COUNT requests for an
+//! account.
 
 use crate::club::{Benchmark, KEYS, passes, run_in_memory};
 use crate::known::known;
@@ -23,7 +24,7 @@ static CAVEAT_COUNTS: [usize; 3] = [0, 3, 20];
 
 static WISHES: [Wish; 3] = [Wish::Booking, Wish::Booking, Wish::Account];
 
-/// Prints a line for each form of pass and for each number of caveats.
+/// Prints a line for each combination of a form and a number of caveats.
 pub(crate) fn compare(rt: &HostRuntime, count: u16) -> Result<()> {
     println!(rt; "{HEAD}")?;
     for &(name, form) in &FORMS {
@@ -42,8 +43,8 @@ pub(crate) fn compare(rt: &HostRuntime, count: u16) -> Result<()> {
     Ok(())
 }
 
-/// A line of the output. The line shows the rate of each kind of request under these passes, at the
-/// first desk.
+/// A line of the output. The line shows how many requests of each kind the desk answers per second.
+/// The requests use these passes.
 #[derive(Clone, Copy)]
 struct Row<'a> {
     passes: &'a [String],
@@ -77,7 +78,7 @@ fn time<S: ClubStore>(
     Ok(start.elapsed(rt)?)
 }
 
-// Sends this many requests of a kind. The requests use the keys in turn.
+// Sends `count` requests of this kind. The requests use the passes in round-robin order.
 fn ask<S: ClubStore>(desk: &mut Desk<S>, passes: &[String], wish: Wish, count: u16) -> Result<()> {
     for index in 0..count {
         let pass = known(passes.get(usize::from(index % KEYS)), "a pass")?;

@@ -1,9 +1,10 @@
-//! Measures exchanges per second in memory, and the time of each part of an exchange.
+//! Measures HTTP exchanges in memory: the exchanges per second, and the time of each part.
 //!
-//! For each row, a desk over tables in memory serves COUNT exchanges. The three rows are bookings,
-//! the same bookings again, and accounts. Another desk measures the parts of an exchange: decoding
-//! the requests, answering them, and writing the texts of the replies. For comparison, the
-//! benchmark also prints the time that `httparse` takes to parse the heads.
+//! The output has three rows: bookings, the same bookings again, and accounts. For each row, a desk
+//! with tables in memory serves COUNT exchanges. With a second desk, the benchmark measures the
+//! parts separately: decoding the requests, answering the requests, and writing the replies. For
+//! comparison, the benchmark also prints the time that `httparse` takes to parse the heads of the
+//! requests.
 
 mod parts;
 
@@ -18,8 +19,8 @@ use std::alloc::Global;
 use std::rt::Clock;
 use std::time::Duration;
 
-/// The number of measurements of a part that changes nothing. The benchmark prints the shortest
-/// time.
+/// The number of measurements of each part that doesn't change the desk. The benchmark prints the
+/// shortest time.
 const ROUNDS: u8 = 5;
 
 const HEAD: &str = "asked for  a second | ns whole    words httparse     desk    reply";
@@ -45,8 +46,8 @@ impl Benchmark for Requests {
     }
 }
 
-/// The benchmark with two desks. The first desk serves whole exchanges, and the second desk serves
-/// the separate parts.
+/// The benchmark with two desks. The desk `whole` serves whole exchanges, and the desk `part`
+/// answers requests for the separate measurements.
 #[derive(Drop)]
 struct Bench<S: ClubStore> {
     face: Face,
@@ -86,8 +87,9 @@ impl<S: ClubStore + Drop> Bench<S> {
         )
     }
 
-    // Returns the time of the desk's decisions and the time of writing the texts. The last text
-    // must equal this reply.
+    // Returns the time in which the desk answers all requests, and the time of writing the texts of
+    // the replies. Fails if the last text differs from `last`, the last reply of the whole
+    // exchanges.
     fn decided_and_written(
         &mut self,
         rt: &(impl Clock + AllocGlobal),
@@ -107,7 +109,7 @@ impl<S: ClubStore + Drop> Bench<S> {
     }
 }
 
-// Prints the times for this many requests. The first time is the time of whole exchanges.
+// Prints the times for `count` requests. The first time is the time of the whole exchanges.
 fn print_times(rt: &impl Print, name: &str, count: usize, times: &[Duration; 5]) -> Result<()> {
     print!(rt; "{name:>9} {:>9} |", rate(count, times[0]))?;
     for time in times {

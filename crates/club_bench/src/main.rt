@@ -2,7 +2,7 @@
 //!
 //! - `club_bench passes COUNT` measures signing, reading and verifying passes.
 //! - `club_bench desk COUNT` measures requests to the desk.
-//! - `club_bench http COUNT` measures exchanges in memory, and the parts of an exchange.
+//! - `club_bench http COUNT` measures HTTP exchanges in memory, and the parts of an exchange.
 #![tactic(auto)]
 
 mod choice;

@@ -1,4 +1,4 @@
-//! Exchanges whose bytes stay in memory.
+//! Runs HTTP exchanges in memory, without a network.
 
 ghost use Rattle.std.specs.Prelude.{◌≤◌};
 
@@ -60,7 +60,7 @@ impl Outlet for Kept {
 ///
 /// # Errors
 ///
-/// Fails if the desk refused a request.
+/// Fails if the desk refused a request, if an exchange failed, or if the clock failed.
 pub(crate) fn exchanges<S: ClubStore>(
     rt: &impl Clock,
     face: &mut Face,

@@ -1,6 +1,6 @@
-//! Measures how many passes per second are signed, read and verified. Each pass has three caveats,
-//! and each task runs COUNT times. The benchmark measures reading and verifying in two ways: with a
-//! `Pass` in memory, and field by field without a `Pass`.
+//! Measures how many passes per second the program signs, reads and verifies. Each pass has three
+//! caveats, and each task runs COUNT times. The benchmark measures reading and verifying in two
+//! ways: with a `Pass` in memory, and field by field without a `Pass`.
 
 mod task;
 
@@ -73,7 +73,7 @@ fn print_row(rt: &impl Print, what: &str, rate: u128, folded: u8) -> Result<()> 
     Ok(println!(rt; "{what:>28} {rate:>9} (folded to {folded:02x})")?)
 }
 
-// Runs a task `count` times, and combines the bytes that the task returns.
+// Runs a task `count` times, and combines the returned bytes by exclusive or.
 fn fold(alloc: Global, task: Task, written: &Written<'_>, count: u32) -> Result<u8, FormFault> {
     let mut folded = 0;
     for _ in 0..count {

@@ -55,7 +55,8 @@ impl Requests {
     }
 }
 
-// Returns `count` requests of this kind, with passes in V2. The requests use the keys in turn.
+// Returns `count` requests of this kind, with passes in V2. The requests use the keys in
+// round-robin order.
 fn requests_for(alloc: Global, wish: Wish, count: u16) -> Result<Vec<Sent>> {
     let passes = passes(alloc, Form::V2, CAVEATS.len())?;
     let mut requests = Vec::new(alloc);

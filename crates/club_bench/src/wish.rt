@@ -1,5 +1,5 @@
-//! The members' requests and the moments of the requests. The requests use the slots in order and
-//! the keys in turn.
+//! The members' requests and the moments of the requests. The requests use the slots in order, and
+//! the keys in round-robin order.
 
 use crate::club::{COURT, KEYS};
 use club_rows::slot_from_columns;
@@ -15,7 +15,7 @@ const HOURS_A_DAY: u16 = 14;
 /// A kind of request.
 #[derive(Clone, Copy)]
 pub(crate) enum Wish {
-    /// A booking of a slot that no other request books, with a new booking number.
+    /// A booking of a slot. Bookings with different indices are for different slots.
     Booking,
     /// A request for the account of the key's member.
     Account,
@@ -39,8 +39,8 @@ fn slot_at(index: u16) -> Option<Slot> {
     slot_from_columns(COURT, day, i64::from(hour))
 }
 
-/// Returns the last minute before a slot begins. A booking in the last minute is open only briefly,
-/// so members have few open bookings.
+/// Returns the last minute before a slot begins. A booking made in this minute is open only
+/// briefly, so members have few open bookings.
 fn minute_before(slot: &Slot) -> Option<Moment> {
     Moment::from_number(slot.start().saturating_sub(1))
 }

@@ -10,7 +10,8 @@ use httparse::spans::{EMPTY_HEADER_SPAN, HeaderSpan, parse_request};
 use std::rt::Clock;
 use std::time::{Duration, Instant};
 
-/// Decodes the requests into a list with enough room, and returns the time of decoding.
+/// Decodes the requests into the list `asked`, and returns the time of decoding. The list has room
+/// for all requests, so the time doesn't include growing the list.
 pub(crate) fn words(
     rt: &impl Clock,
     routes: &Routes,
@@ -43,7 +44,8 @@ fn has_head(bytes: &[u8], fields: &mut [HeaderSpan; MAX_FIELDS]) -> bool {
     matches!(parse_request(bytes, fields), Ok(Status::Complete(_)))
 }
 
-/// Collects the desk's replies in a list with enough room, and returns the time.
+/// Collects the desk's replies in the list `replies`, and returns the time. The list has room for
+/// all replies, so the time doesn't include growing the list.
 pub(crate) fn replies<S: ClubStore>(
     rt: &impl Clock,
     desk: &mut Desk<S>,

@@ -23,7 +23,7 @@ pub(crate) enum Task {
     Sign,
     /// Parses the bytes into a `Pass`.
     ReadWhole,
-    /// Parses the fields of the bytes one after another.
+    /// Parses the bytes field by field.
     ReadFields,
     /// Parses the text into a `Pass`, and checks the signature of the pass.
     VerifyWhole,
