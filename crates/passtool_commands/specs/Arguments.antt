@@ -35,7 +35,8 @@ module _ (is_understood : Text → Bool) where
   first_unknown texts = position (λ text. not (is_understood text)) texts
 
   -- Returns the caveats if `--any` is given, or if all of them are in the caveat language.
-  -- Otherwise, the fault has the position of the first caveat that isn't in the caveat language.
+  -- Otherwise, the fault has the position, counted from 1, of the first caveat that isn't in the
+  -- caveat language.
   unfoldable pub checked_caveats : Bool → List Text → Result (List Text) (Refusal BadValue)
   checked_caveats any caveats = if any then Ok caveats else unless_unknown (first_unknown caveats) caveats
 

@@ -21,9 +21,8 @@ module _ (left left' held held' : Option (List ℕ)) (Unread Unwritten : Type 0)
 abbrev pub EndsWith : (Option (List ℕ) → Type 0) → Result Outcome Fault → ℕ → Type 0
 EndsWith Asked ended status = (status ≡ exit_status ended) × IfErr ended (λ fault. Asked (fault_output fault))
 
--- The effect of a process. The process runs the program with the arguments of the process. If an
--- argument isn't valid UTF-8, or if memory for the arguments runs out, the process reads no input
--- and writes no output.
+-- The effect of a process that passes its arguments to the program. If an argument isn't valid
+-- UTF-8, or if memory for the arguments runs out, the process reads no input and writes no output.
 pub data RunsProcess (Given : List Text → Type 0) (Asked : Option (List ℕ) → Type 0) (left left' held held' : Option (List ℕ)) (Unread Unwritten : Type 0)
     (status : ℕ) : Type 0 where
   process_ran : (arguments : List Text) (ended : Result Outcome Fault) → Given arguments

@@ -101,9 +101,9 @@ pub enum Fault {
 impl Fault {
     ghost use Rattle.passtool_commands.specs.Fault.{fault_status};
 
-    /// Returns the exit status of the fault. The status is 2 for bad arguments, 3 for a bad pass
-    /// and 4 if memory ran out. The status is 5 for a bad caveat, 6 for a bad root and 7 if input
-    /// or output failed.
+    /// Returns the exit status of the fault. The status is 2 for bad arguments, 3 for a fault of
+    /// the pass and 4 if memory ran out. The status is 5 for a caveat that isn't understood, 6 for
+    /// a bad root and 7 if input or output failed.
     pub fn status(&self) -> u8
         ensures { result ≡ fault_status self.now }
     {

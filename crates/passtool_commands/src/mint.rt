@@ -63,7 +63,8 @@ impl<'a> Mint<'a> {
         }
     }
 
-    /// Makes the new pass, and returns the text of the pass as the answer.
+    /// Makes the new pass with its caveats. Returns an answer with the text of the pass in the form
+    /// `form`.
     pub fn answer(&self, alloc: Global) -> Result<Answer, FormFault>
         ensures { UnlessMemory (spec.MintsPass self.now) result }
     {

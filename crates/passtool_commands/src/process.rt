@@ -11,8 +11,8 @@ use command_line::{FaultLines, GivenArguments, given_arguments, report};
 use std::alloc::Global;
 use std::io::{Read, Write};
 
-/// Runs the program with the arguments of a process, and returns the exit status. If the run fails,
-/// prints the text of the fault.
+/// Runs the program with the arguments of a process, and returns the exit status. If the arguments
+/// can't be read or the run fails, prints the text of the fault.
 pub fn run_process<P: GivenArguments + FaultLines, R: Read, W: Write>(
     alloc: Global,
     process: &P,
