@@ -9,8 +9,7 @@ abbrev pub found_bytes : Option Data → ℕ
 found_bytes None = 0
 found_bytes (Some d) = data_bytes d
 
--- The number of bytes in the strings of the named member's value, or 0 if the object has no such
--- member.
+-- The number of bytes in the strings of the named member's value, or 0 if there is no such member.
 abbrev pub bytes_at : List ℕ → Data → ℕ
 bytes_at k value = found_bytes (get k value)
 

@@ -82,8 +82,8 @@ pub record IsFaultReported (caveats : List (List ℕ)) (ask : Ask) (code number 
   pub fault_code : code ≡ verdict_code fault
   pub fault_number : number ≡ verdict_number fault
 
--- The code and the number describe the first fault when the caveats are checked for the object's
--- ask. If a value of the ask is out of range, the code is `bad_ask_code` and the number is 0.
+-- The code and the number describe the first fault when the caveats are tested against the object's
+-- ask. If the object represents no ask, the code is `bad_ask_code` and the number is 0.
 pub record Answers (caveats : List (List ℕ)) (object : AskObject) (code number : ℕ) : Type 0 where
   pub ask : Option Ask
   pub is_ask : IsAskOf object ask

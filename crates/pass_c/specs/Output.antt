@@ -33,8 +33,9 @@ pub record IsTextCopied (form : Form) (pass : Plain) (old new : List ℕ) (len c
   pub written : IsWrittenAs form pass writing
   pub copied : MatchResult writing (λ text. IsCopied text old new len code) (λ fault. IsLeft (fault_code fault) old new len code)
 
--- The result of writing a pass in the form with this number. If no form has this number, the buffer
--- is unchanged and the code is `no_form_code`.
+-- The call copied the text of the pass in the form with this number to the buffer, or returned the
+-- code of a fault. If no form has this number, the buffer is unchanged, the length is 0 and the
+-- code is `no_form_code`.
 pub record WritesForm (number : ℕ) (pass : Plain) (old new : List ℕ) (len code : ℕ) : Type 0 where
   pub known : (form : Form) → number ≡ number_of_form form → IsTextCopied form pass old new len code
   pub unknown : ((form : Form) → number ≢ number_of_form form) → IsLeft no_form_code old new len code

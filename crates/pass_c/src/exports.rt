@@ -155,8 +155,8 @@ pub extern "C" fn clubpass_mint(
     }
 }
 
-/// Adds a caveat to a pass. The call computes the new signature from the old signature, without the
-/// root. If the call fails, the pass is unchanged.
+/// Adds a caveat to a pass. The call computes the new signature from the old signature and the
+/// caveat, without the root. If the call fails, the pass is unchanged.
 #[unsafe(no_mangle)]
 pub extern "C" fn clubpass_narrow(pass: &mut PassObject, caveat: &[u8]) -> u32
     ensures value { result ≡ ok_code → held pass.new ≡ with_caveat caveat.now (held pass.old) }

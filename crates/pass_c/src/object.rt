@@ -213,8 +213,8 @@ impl PassObject {
         self.start(Form::V2, location, identifier, &signature)
     }
 
-    /// Adds a caveat to the pass. Computes the new signature from the old signature, without the
-    /// root.
+    /// Adds a caveat to the pass. Computes the new signature from the old signature and the caveat,
+    /// without the root.
     pub fn narrow(&mut self, caveat: &[u8]) -> Result<(), FormFault>
         ensures ok { OnOk result (held self.new ≡ with_caveat caveat.now (held self.old)) }
         ensures signed { OnOk result ((root : List ℕ)
