@@ -50,7 +50,7 @@ fn fault_of_text(text: &[u8], number: usize, ask: &Ask) -> Option<CaveatFault>
 
 /// Returns the fault of one caveat, or `None` if the caveat allows the request. The argument
 /// `number` is the caveat's position in a list, starting from 1. A caller can test the caveats of a
-/// list in order and stop at the first fault, which is the first fault of the list.
+/// list in order and stop at the first fault. `first_fault` returns the same fault for the list.
 #[tactic(auto, using(crate::proofs::CaveatOfLemmas::is_fault_at))]
 pub fn fault_at(text: &[u8], number: usize, ask: &Ask) -> Option<CaveatFault>
     ensures cases { IsFaultAt text.now number ask.now result }

@@ -19,8 +19,8 @@ abbrev pub after_next : List ℕ → List (List ℕ) → List (List ℕ)
 after_next word [] = []
 after_next word (part ∷ parts) = if bytes_eq part word then parts else part ∷ parts
 
--- Returns a flag for each word. The function looks for the words in order, each at the front of the
--- remaining parts. The flag is true if the word is there.
+-- Returns a flag for each word, in order. The flag is true if the first remaining part equals the
+-- word. In this case, the function removes that part before it looks for the next word.
 abbrev pub words_found : List (List ℕ) → List (List ℕ) → List Bool
 words_found [] parts = []
 words_found (word ∷ words) parts = is_next word parts ∷ words_found words (after_next word parts)
