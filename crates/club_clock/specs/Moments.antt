@@ -9,8 +9,8 @@ abbrev pub GivesMoment : Type 0 → Type 1
 GivesMoment Clock = Clock → Option ℕ → Clock → Type 0
 
 -- The clock may show this moment. A clock with a fixed moment always shows the fixed moment. Any
--- other clock shows the moment in the clock's zone at the machine's current instant. The moment is
--- `None` if the machine's clock returns no instant.
+-- other clock shows the moment in its zone at the machine's current instant, or `None` if the
+-- machine's clock returns no instant.
 abbrev pub IsMomentOf : (Option Timestamp → Type 0) → Clock → Option ℕ → Type 0
 IsMomentOf Given (Fixed moment) shown = shown ≡ Some moment
 IsMomentOf Given (InZone rule) shown = ShowsIn rule Given shown

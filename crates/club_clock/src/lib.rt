@@ -1,5 +1,5 @@
-//! The club's clock. A moment is a minute on this clock. The crate reads the current moment, and
-//! defines the clock's time zone.
+//! The club's clock. A moment is a minute on this clock. The crate gets the current moment, and
+//! reads the rule of the clock's time zone.
 #![tactic(auto)]
 
 mod clock;

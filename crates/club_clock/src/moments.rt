@@ -9,7 +9,7 @@ use jiff_core::Timestamp;
 use std::marker::Model;
 use std::time::{self, SystemTime};
 
-/// A source of the moments at which connections are served.
+/// A source of moments. The server gets the moment of each connection from such a source.
 pub trait Moments {
     ghost use Rattle.club_clock.specs.Moments.{GivesMoment};
 
@@ -75,8 +75,9 @@ impl<'z, 'c, C> Model for MomentsOf<'z, 'c, C> {
 impl<'z, 'c, C: Instants> Moments for MomentsOf<'z, 'c, C> {
     ghost use Rattle.club_clock.specs.Moments.{showing};
 
-    // `now` returns the fixed moment, or the moment in the zone at the machine's current instant.
-    // `now` returns `None` if the machine's clock returns no instant.
+    // A clock with a fixed moment returns the fixed moment. Any other clock returns the moment in
+    // its zone at the machine's current instant, or `None` if the machine's clock returns no
+    // instant.
     ghost gives = { showing C.shows };
 
     fn now(&mut self) -> Option<Moment> {
