@@ -19,8 +19,8 @@ use std::alloc::Global;
 use std::rt::Clock;
 use std::time::Duration;
 
-/// The number of measurements of each part that doesn't change the desk. The benchmark prints the
-/// shortest time.
+/// The number of times that the benchmark measures decoding the requests and parsing their heads.
+/// The benchmark prints the shortest time of each.
 const ROUNDS: u8 = 5;
 
 const HEAD: &str = "asked for  a second | ns whole    words httparse     desk    reply";
@@ -88,7 +88,7 @@ impl<S: ClubStore + Drop> Bench<S> {
     }
 
     // Returns the time in which the desk answers all requests, and the time of writing the texts of
-    // the replies. Fails if the last text differs from `last`, the last reply of the whole
+    // the replies. Fails if the last text doesn't begin with `last`, the last reply of the whole
     // exchanges.
     fn decided_and_written(
         &mut self,

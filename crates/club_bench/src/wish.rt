@@ -15,7 +15,8 @@ const HOURS_A_DAY: u16 = 14;
 /// A kind of request.
 #[derive(Clone, Copy)]
 pub(crate) enum Wish {
-    /// A booking of a slot. Bookings with different indices are for different slots.
+    /// A booking of a slot. Bookings with different indices are for different slots. If their keys
+    /// are the same, their booking numbers are different.
     Booking,
     /// A request for the account of the key's member.
     Account,
