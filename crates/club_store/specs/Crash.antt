@@ -8,7 +8,7 @@ use Rattle.sqlite.specs.FileStore as file
 use Rattle.club_core.specs.Club.{Club}
 use Rattle.club_tables.specs.Tables.{IsLeftOf, Represents, IsFound}
 
--- After any crash, the store contains the database of one of these clubs.
+-- If the disk is clean, the store contains the database of one of these clubs after any crash.
 abbrev pub LeavesOneOf : {S : Type 0} → Ghosts S → S → List Club → Type 0
 LeavesOneOf g store clubs = IsClean (g.view store) → (trees : Trees) → g.recovers store trees → IsLeftOf trees clubs
 
