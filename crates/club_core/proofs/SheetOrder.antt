@@ -48,7 +48,8 @@ module _ {X : Type 0} (R : X → X → Type 0) (asymmetric : Asymmetric R) where
         | inr there ↦ there
       ]
 
-  -- Two lists are equal if they have the same elements in the same strict order.
+  -- Two lists are equal if they have the same elements and are both sorted by the asymmetric
+  -- relation `R`.
   pub one_order : (xs ys : List X) → AllPairs R xs → AllPairs R ys → ((z : X) → Contains xs z → Contains ys z) → ((z : X) → Contains ys z → Contains xs z) →
       xs ≡ ys
   one_order [] [] p q to back = refl
@@ -93,7 +94,7 @@ module _ {X : Type 0} (R Same : X → X → Type 0) (transitive : (x y z : X) �
         ]
       ]
 
-  -- Every list without equal elements can be sorted.
+  -- A list can be sorted by `R` if no two of its elements are related by `Same`.
   pub ordering : (xs : List X) → AllPairs (λ x y. ¬ (Same x y)) xs → (zs : List X) × IsOrdering R xs zs
   ordering [] new = ([], record { same = IsPermutation-refl []; sorted = nothing_sorted })
   ordering (x ∷ xs) new =
@@ -115,7 +116,7 @@ before_once a b h k =
 precedes_once : Asymmetric Precedes
 precedes_once a b h k = grind (arith, before_once)
 
--- Only one list of bookings can be the rows of a day's sheet.
+-- For each day, at most one list of bookings can be the rows of the day sheet.
 pub one_list : (club : Club) (day : ℕ) (rows others : List Booking) → AreRowsOf club day rows → AreRowsOf club day others → rows ≡ others
 one_list club day rows others a b =
     let there = IsPermutation-trans rows (filter (is_on day) club.bookings) others (IsPermutation-sym _ rows a.same) b.same in

@@ -68,7 +68,7 @@ right-of places options n m e same h =
     rw (not_zero places h) refl in
     ap (λ s. styled_decimal s n) e ∙ wide ∙ padded_integral-right places (decimal n) ∙ ap (λ k. right_in places (decimal k)) same
 
--- The text of a day sheet's row, with its line feed.
+-- The text of a row in a day sheet, built from the row's columns and ending with a line feed.
 unfoldable pub laid_text : List ℕ → ℕ → List ℕ → List ℕ → List ℕ → List ℕ → List ℕ
 laid_text facility hour key number persons charge =
     facility ++ (codes " " ++ (two_digits hour ++
@@ -80,7 +80,7 @@ pub laid_text-row_text : (row : Booking) (facility key number persons charge : L
 unfolding laid_text
 laid_text-row_text row facility key number persons charge f k n p c = rw (f, k, n, p, c) (simp append_assoc)
 
--- The text of the totals line in a day sheet, with its line feed.
+-- The text of the totals line in a day sheet, ending with a line feed.
 unfoldable pub laid_totals : ℕ → ℕ → ℕ → List ℕ
 laid_totals count persons charge =
     codes "Total bookings " ++ (decimal count ++ (codes ", persons " ++ (decimal persons ++ (codes ", charge " ++ (decimal charge ++ 10 ∷ [])))))

@@ -8,7 +8,7 @@ use Rattle.club_core.specs.declared.{refusal.Refusal.Refusal, reply.Reply.{Reply
 abbrev pub IsServed : Reply → Type 0
 IsServed reply = (refusal : Refusal) → reply ≢ Refused refusal
 
--- The caveat is understood, and it allows the request.
+-- The desk understands the caveat, and the caveat allows the request.
 abbrev pub IsAllowedBy : Ask → Option Caveat → Type 0
 IsAllowedBy ask None = ⊥
 IsAllowedBy ask (Some caveat) = Permits caveat ask
@@ -20,7 +20,8 @@ pub record IsAcceptedPass (pass : Pass) (request : Request) (moment : ℕ) (basi
   pub not_revoked : basis.key.revoked ≡ false
   pub permission : All (IsAllowedBy (ask_of (view_of basis request moment) request moment)) pass.caveats
 
--- The text is a pass that names a key of the club, and the pass is accepted for the request.
+-- The request has a valid pass that names a key of the club, and the desk accepts this pass for the
+-- request.
 pub record IsAcceptedIn (club : Club) (words : Words) (moment : ℕ) : Type 0 where
   pub pass : Pass
   pub basis : Basis
@@ -28,9 +29,9 @@ pub record IsAcceptedIn (club : Club) (words : Words) (moment : ℕ) : Type 0 wh
   pub known : basis_of club words ≡ Some basis
   pub acceptance : IsAcceptedPass pass words.request moment basis
 
--- The text is a pass that allows its holder to make the request. The pass names a key of the club,
--- and the key isn't revoked. A root of the key signs the pass, and that root is valid when the
--- request comes. Each caveat of the pass allows the request.
+-- The request has a valid pass that allows the request. The pass names a key of the club, and the
+-- key isn't revoked. A root of the key signs the pass, and that root is valid when the request
+-- comes. Each caveat of the pass allows the request.
 pub record IsEntitled (club : Club) (words : Words) (moment : ℕ) : Type 0 where
   pub pass : Pass
   pub basis : Basis

@@ -39,7 +39,7 @@ abbrev pub good_until : ℕ → List ℕ → OlderRoot
 good_until until root = record { root = root; until = until }
 
 -- A key's row after a rotation. Only the row of the key with this name changes. The key's former
--- root becomes its older root.
+-- root becomes the key's older root.
 abbrev pub rotated_key : List ℕ → List ℕ → ℕ → Key → Key
 rotated_key name root until key = record key {
   root = if bytes_eq key.name name then root else key.root;

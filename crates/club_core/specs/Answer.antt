@@ -1,5 +1,6 @@
 -- Defines the answer to a request. The rules first accept or refuse the pass, and then decide the
--- request. The answer depends only on the request, its pass, its moment and its basis.
+-- request. The answer depends only on the request, the pass, the moment of the request and the
+-- basis.
 use Rattle.std.specs.Prelude.{ℕ, not, Bool, false, [], ◌∷◌, Option, Some, None, Result, Ok, Err, is_some, option_map}
 use Rattle.pass_caveats.specs.{Fault.first_fault_of, declared.{ask.Ask.Ask, fault.CaveatFault.{CaveatFault, TheVariants.{NotUnderstood, Denied}}}}
 use Rattle.club_rows.specs.{Facility.charge_of, declared.facility.Facility.Facility}
@@ -11,7 +12,7 @@ use Rattle.club_core.specs.declared.{refusal.Refusal.TheVariants.{CaveatNotUnder
 use Rattle.club_core.specs.declared.view.View.{View}
 use Rattle.club_core.specs.declared.request.Request.TheVariants as asked
 
--- The points that the request would charge. Only a booking under an unused number at a known
+-- The points that the request would charge. Only a booking with an unused number at a known
 -- facility charges points.
 abbrev pub owed_at : Request → Bool → Option Facility → ℕ
 owed_at (asked.Book slot number guests) false (Some facility) = charge_of facility guests
@@ -36,24 +37,27 @@ form_refusal Malformed = PassMalformed
 form_refusal ThirdParty = ThirdPartyCaveat
 form_refusal TooMany = TooManyCaveats
 
--- The answer after the rules tested the caveats. The first argument is the first fault of the
--- caveats, and determines the refusal. If no caveat has a fault, the answer is the given verdict.
+-- The answer after the rules have tested the caveats. The first argument is the first fault of the
+-- caveats. If there is a fault, the answer is the refusal for this fault. Otherwise, the answer is
+-- the second argument.
 abbrev pub after_caveats : Option CaveatFault → Verdict → Verdict
 after_caveats None verdict = verdict
 after_caveats (Some (NotUnderstood n)) verdict = refusal_verdict (CaveatNotUnderstood n)
 after_caveats (Some (Denied n)) verdict = refusal_verdict (CaveatDenies n)
 
 -- The answer to a request with a decoded pass. The view is `None` if the club doesn't have the
--- pass's key. `is_signed` is true if a root of the key that is valid at the moment signs the pass.
--- `fault` is the first fault of the pass's caveats.
+-- pass's key. `is_signed` is true if a root of the key signs the pass and is valid at the moment.
+-- `fault` is the fault of the first caveat that doesn't allow the request, or `None` if all caveats
+-- allow the request.
 abbrev pub answer_by_view : Option View → Bool → Option CaveatFault → Request → ℕ → Verdict
 answer_by_view None is_signed fault request moment = refusal_verdict NotVerified
 answer_by_view (Some view) is_signed fault request moment =
     first_of (line_if (not is_signed) (refusal_verdict NotVerified) ∷ line_if view.key.revoked (refusal_verdict KeyRevoked) ∷ [])
     (after_caveats fault (verdict_of view request moment))
 
--- The answer to a request, computed from its basis and its decoded pass, or from the fault of the
--- pass's text. The basis is `None` if the pass names no key of the club.
+-- The answer to a request, computed from the basis and the decoded pass. If the pass's text has a
+-- fault, the fault alone determines the answer. The basis is `None` if the pass names no key of the
+-- club.
 abbrev pub answer_to : Result Pass PassFault → Request → ℕ → Option Basis → Verdict
 answer_to (Err fault) request moment basis = refusal_verdict (form_refusal fault)
 answer_to (Ok pass) request moment None = refusal_verdict NotVerified

@@ -1,5 +1,6 @@
 -- Defines the basis and the view of a request. The basis contains the rows on which the answer may
--- depend. The view contains the rows and sums that decide the request, computed from the basis.
+-- depend. The view contains the rows and sums that the rules need to decide the request. `view_of`
+-- computes the view from the basis.
 use Rattle.std.specs.Prelude.{ℕ, false, List, Option, Some, None, Result, Ok, Err, option_map, option_and_then}
 use Rattle.club_values.specs.declared.slot.Slot.{Slot}
 use Rattle.club_rows.specs.{Key.row_of_key, declared.{booking.Booking.Booking, facility.Facility.Facility, key.Key.Key, member.Member.Member}}
@@ -8,7 +9,7 @@ use Rattle.club_core.specs.{Request.{request_slot, request_number}, Sums.{taken_
 use Rattle.club_core.specs.declared.{account.MemberAccount.MemberAccount, pass_fault.PassFault.PassFault, request.Request.Request, slot_use.SlotUse.SlotUse}
 use Rattle.club_core.specs.declared.view.{KeyView.KeyView, View.View}
 
--- The number of persons in a slot, counted over these bookings, and whether the slot is closed.
+-- The number of persons in a slot, summed over these bookings, and whether the slot is closed.
 -- Without a slot, the number of persons is 0 and `closed` is false.
 abbrev pub slot_use_by : List Booking → Club → Option Slot → SlotUse
 slot_use_by bookings club None = record { taken = 0; closed = false }
@@ -18,15 +19,15 @@ slot_use_by bookings club (Some slot) = record { taken = taken_in slot bookings;
 abbrev pub slot_use : Club → Slot → SlotUse
 slot_use club slot = slot_use_by club.bookings club (Some slot)
 
--- A member's row with its balance.
+-- A member's row together with the member's balance.
 abbrev pub club_account : Club → Member → MemberAccount
 club_account club member = record { member = member; balance = balance_of member (bookings_of member.name club) }
 
 abbrev pub account_named : List ℕ → Club → Option MemberAccount
 account_named name club = option_map (club_account club) (member_named name club)
 
--- The state of a slot: its facility, if the facility is known, its number of persons, and whether
--- the slot is closed.
+-- The state of a slot. `facility` is `None` if there is no slot, or if the club doesn't have the
+-- slot's facility. `held` contains the number of persons, and whether the slot is closed.
 pub record SlotState : Type 0 where
   pub facility : Option Facility
   pub held : SlotUse
@@ -37,16 +38,16 @@ state_of club slot = record {
   held = slot_use_by club.bookings club slot;
 }
 
--- The rows on which the answer to a request may depend. `bookings` are the bookings under all keys
--- of the member.
+-- The rows on which the answer to a request may depend. `bookings` are the bookings made with any
+-- key of the member.
 pub record Basis : Type 0 where
   pub key : Key
   pub member : Member
   pub bookings : List Booking
   pub state : SlotState
 
--- The basis of a request under a key. The basis is `None` if the club has no row for the key's
--- member.
+-- The basis of a request that is made with this key. The basis is `None` if the club has no row for
+-- the key's member.
 abbrev pub basis_under : Club → Request → Key → Option Basis
 basis_under club request key =
     option_map (λ (member : Member). record {
@@ -57,8 +58,8 @@ basis_under club request key =
     })
     (member_named key.member club)
 
--- The name of the key in a pass's identifier. The name is `None` if the text isn't a pass, or if
--- the identifier names no key.
+-- The name of the key in a pass's identifier. The name is `None` if the pass's text has a fault, or
+-- if the identifier names no key.
 abbrev pub key_of : Result Pass PassFault → Option (List ℕ)
 key_of (Ok pass) = pass.key
 key_of (Err fault) = None
@@ -83,17 +84,18 @@ view_of basis request moment = record {
   booking = option_and_then (λ (number : ℕ). booking_under basis.key.name number basis.bookings) (request_number request);
 }
 
--- The view of a request under the key with this name. The view is `None` if no key has this name.
+-- The view of a request that is made with the key that has this name. The view is `None` if no key
+-- has this name.
 abbrev pub view_in : Club → List ℕ → Request → ℕ → Option View
 view_in club key request moment =
     option_map (λ (basis : Basis). view_of basis request moment)
     (option_and_then (basis_under club request) (key_named key club))
 
--- The basis's key, with its view of the request.
+-- The key in the basis, and the view of the request.
 abbrev pub seen_of : Request → ℕ → Basis → KeyView
 seen_of request moment basis = record { key = basis.key; view = view_of basis request moment }
 
--- The key with this name, and the view of a request under that key. The result is `None` if no key
--- has this name.
+-- The key with this name, and the view of a request that is made with this key. The result is
+-- `None` if no key has this name.
 abbrev pub key_view_in : Club → List ℕ → Request → ℕ → Option KeyView
 key_view_in club key request moment = option_map (seen_of request moment) (option_and_then (basis_under club request) (key_named key club))

@@ -5,7 +5,7 @@ use Rattle.club_rows.specs.{Booking.same_slot, Rows.{IsMember, IsFacility, IsKey
 use Rattle.club_rows.specs.declared.{facility.Facility.Facility, key.Key.Key, member.Member.Member}
 use Rattle.club_core.specs.Sums.{cost_of, taken_in}
 
--- The rows of a club, oldest first, and its closed slots.
+-- The rows of a club, and the closed slots. Each list begins with the oldest element.
 pub record Club : Type 0 where
   pub members : List Member
   pub facilities : List Facility
@@ -16,7 +16,8 @@ pub record Club : Type 0 where
 abbrev pub empty_club : Club
 empty_club = record { members = []; facilities = []; keys = []; bookings = []; closed = [] }
 
--- The first member with this name. In a sound club, at most one member has the name.
+-- The first member with this name. In a club that satisfies the invariants, at most one member has
+-- the name.
 abbrev pub member_named : List ℕ → Club → Option Member
 member_named name club = find (λ (member : Member). bytes_eq member.name name) club.members
 
@@ -37,11 +38,11 @@ keys_of member club = filter (λ (key : Key). bytes_eq key.member member) club.k
 abbrev pub is_key_of : List ℕ → Club → List ℕ → Bool
 is_key_of member club name = list_any (λ (key : Key). bytes_eq key.name name) (keys_of member club)
 
--- The bookings under all keys of the member with this name.
+-- The bookings made with any key of the member with this name.
 abbrev pub bookings_of : List ℕ → Club → List Booking
 bookings_of member club = filter (λ (booking : Booking). is_key_of member club booking.key) club.bookings
 
--- Each row of the club is within its limits.
+-- Each value in the club's rows is within its limits.
 pub record HasRows (club : Club) : Type 0 where
   pub members : All IsMember club.members
   pub facilities : All IsFacility club.facilities
@@ -57,7 +58,7 @@ pub record HasUniqueNames (club : Club) : Type 0 where
   pub bookings : AllPairs (λ (a : Booking) (b : Booking). ¬ ((a.key ≡ b.key) × (a.number ≡ b.number))) club.bookings
   pub closed : AllPairs (λ (a : Slot) (b : Slot). a ≢ b) club.closed
 
--- Each name that a row refers to is the name of an existing row.
+-- Rows name only members, keys and facilities that exist.
 pub record HasReferences (club : Club) : Type 0 where
   pub keys : All (λ (key : Key). Contains (map (λ (m : Member). m.name) club.members) key.member) club.keys
   pub bookings : All (λ (booking : Booking). Contains (map (λ (k : Key). k.name) club.keys) booking.key) club.bookings
@@ -71,5 +72,5 @@ pub record IsSound (club : Club) : Type 0 where
   pub references : HasReferences club
   -- No member's balance is below 0.
   pub balances : All (λ (member : Member). sum_by cost_of (bookings_of member.name club) ≤ member.credited) club.members
-  -- No slot has more persons than places.
+  -- No slot has more persons than its facility has places.
   pub places : All (λ (facility : Facility). (slot : Slot) → slot.facility ≡ facility.name → taken_in slot club.bookings ≤ facility.places) club.facilities

@@ -28,7 +28,7 @@ IsCommand (CancelBooking key number) = IsName key × IsBookingNumber number
 IsCommand (CloseSlot slot) = IsSlot slot
 IsCommand (OpenSlot slot) = IsSlot slot
 
--- Each value of the event is within its limits. The moment of a request has no limit.
+-- Each value of the event is within its limits. The moment of a request may be any number.
 abbrev pub IsEvent : Event → Type 0
 IsEvent (Asked words moment) = IsRequest words.request
 IsEvent (Commanded command) = IsCommand command

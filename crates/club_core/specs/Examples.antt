@@ -1,4 +1,4 @@
--- Example runs that start from an empty club.
+-- Example runs that start from a small example club.
 use Rattle.std.specs.Prelude.{◌≡◌, ℕ, true, false, List, [], ◌∷◌, Option, Some, Ok, replicate, codes}
 use Rattle.club_values.specs.declared.{kind.Kind.TheVariants.Court, slot.Slot.Slot}
 use Rattle.pass_caveats.specs.declared.caveat.Caveat.{Caveat, TheVariants.Spend}
@@ -41,7 +41,7 @@ soon = 29_627_580
 abbrev pub late : ℕ
 late = 29_627_641
 
--- A request with a pass of the key amy-1 that has these caveats.
+-- A request with a valid pass of the key amy-1. The pass has these caveats.
 abbrev pub ask_with : List (Option Caveat) → Request → ℕ → Event
 ask_with caveats request moment =
     Asked (record { pass = Ok (record { key = Some (codes "amy-1"); caveats = caveats; is_signed = λ _. true }); request = request }) moment
@@ -65,8 +65,8 @@ BooksAndCancels =
     (ask (asked.Book (slot_at 18) 7 2) noon ∷ ask asked.Account noon ∷ ask (asked.Cancel (slot_at 18) 7) noon ∷ [])
     ≡ served_booking 7 600 1 ∷ account 9_400 1 600 ∷ served_cancellation 7 600 ∷ []
 
--- A repeated booking gets the first reply and charges nothing, even after its cancellation and
--- after the slot has begun.
+-- If a member repeats a booking request, the reply is the same as the first time, even after a
+-- cancellation and after the slot has begun. The repeated request charges nothing.
 abbrev pub RepeatsAfterACancellation : Type 0
 RepeatsAfterACancellation =
     replies_of opened_club
@@ -150,8 +150,8 @@ DebitsAMember =
     ∷ ToOffice (NotDone Unknown)
     ∷ []
 
--- A new quota applies from the next booking on. Open bookings stay, even if they exceed the new
--- quota.
+-- A new quota applies from the next booking on. The member's open bookings remain valid, even if
+-- their number exceeds the new quota.
 abbrev pub SetsAQuota : Type 0
 SetsAQuota =
     replies_of opened_club
@@ -176,8 +176,8 @@ SetsAQuota =
     ∷ ToOffice (NotDone Unknown)
     ∷ []
 
--- A facility's new numbers apply from the next booking on. Earlier bookings keep their charge,
--- places left and hour. The office can't set fewer places than a slot has persons.
+-- A facility's new places, price and opening hours apply from the next booking on. Earlier bookings
+-- don't change. The office can't set the places below the number of persons in a slot.
 abbrev pub SetsAFacility : Type 0
 SetsAFacility =
     replies_of opened_club
@@ -210,8 +210,9 @@ SetsAFacility =
     ∷ ToOffice (NotDone Unknown)
     ∷ []
 
--- A cancellation by the office refunds the whole charge, even after the slot has begun. Later
--- repeats of the member's requests get the recorded replies.
+-- A cancellation by the office refunds the whole charge, even after the slot has begun. If the
+-- member then repeats the booking or the cancellation, the reply contains the recorded charge or
+-- refund.
 abbrev pub CancelsForAMember : Type 0
 CancelsForAMember =
     replies_of opened_club
@@ -240,7 +241,8 @@ CancelsForAMember =
     ∷ ToOffice (NotDone Unknown)
     ∷ []
 
--- If the office cancels a booking that its member cancelled before, the member's refund stays.
+-- If the member has already cancelled a booking, a cancellation by the office doesn't change the
+-- refund.
 abbrev pub KeepsARefund : Type 0
 KeepsARefund =
     replies_of opened_club

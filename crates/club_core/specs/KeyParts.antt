@@ -1,4 +1,4 @@
--- Defines the part of a key that a store keeps apart from the key's row.
+-- Defines the older root of a key. A store keeps this root separately from the key's row.
 use Rattle.std.specs.Prelude.{ℕ, List, Option, option_and_then}
 use Rattle.club_rows.specs.declared.key.{Key.Key, OlderRoot.OlderRoot}
 use Rattle.club_core.specs.Club.{Club, key_named}

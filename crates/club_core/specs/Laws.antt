@@ -1,4 +1,4 @@
--- Laws about the definitions of a club, its requests and its day sheets.
+-- Laws about clubs, requests and day sheets.
 use Rattle.std.specs.Prelude.{◌≡◌, ◌↔◌, ◌⊎◌, ℕ, ◌≤◌, IsTrue, List, Contains, Option, Some, None, option_map}
 use Rattle.club_values.specs.declared.slot.Slot.{Slot}
 use Rattle.club_rows.specs.declared.{booking.Booking.Booking, key.Key.Key}
@@ -13,23 +13,24 @@ pub record KeepsWhereRefused (verdict : Verdict) : Type 0 where
 abbrev pub RefusalsChangeNothing : Type 0
 RefusalsChangeNothing = (words : Words) (moment : ℕ) (basis : Option Basis) → KeepsWhereRefused (answer_by_basis words moment basis)
 
--- A club has at most one sheet for a day.
+-- A club has at most one day sheet for each day.
 abbrev pub OneSheet : Type 0
 OneSheet = (club : Club) (day : ℕ) (text other : List ℕ) → IsSheet club day text → IsSheet club day other → text ≡ other
 
--- The view of the key that a pass names is the view that the rules use to decide the request.
+-- For the key that a pass names, `view_in` returns the view that the rules use to decide the
+-- request.
 abbrev pub ViewsDecide : Type 0
 ViewsDecide = (club : Club) (words : Words) (moment : ℕ) (name : List ℕ) → key_of words.pass ≡ Some name →
     view_in club name words.request moment ≡ option_map (λ (basis : Basis). view_of basis words.request moment) (basis_of club words)
 
--- `is_signed_under` returns true if and only if a root of the key that is valid at the moment signs
--- the pass.
+-- `is_signed_under` returns true if and only if a root of the key signs the pass and is valid at
+-- the given moment.
 abbrev pub TestsTheSignature : Type 0
 TestsTheSignature = (pass : Pass) (key : Key) (moment : ℕ) →
     IsTrue (is_signed_under pass key moment) ↔ IsSignedUnder pass key moment
 
 -- The bookings of a key's member are enough to compute the points that the key has spent. The same
--- bookings are enough to find the key's booking under a number.
+-- bookings are enough to find the key's booking with a given number.
 pub record HasOwnBookings (club : Club) (key : Key) : Type 0 where
   pub spent : spent_under key.name (bookings_of key.member club) ≡ spent_under key.name club.bookings
   pub booking : (number : ℕ) → booking_under key.name number (bookings_of key.member club) ≡ booking_under key.name number club.bookings
@@ -46,6 +47,6 @@ pub record IsMostTaken (facility : List ℕ) (bookings : List Booking) (most : �
 abbrev pub MostTaken : Type 0
 MostTaken = (facility : List ℕ) (bookings : List Booking) → IsMostTaken facility bookings (most_taken_in facility bookings)
 
--- A sound club has a sheet for each day.
+-- A club that satisfies the invariants has a day sheet for each day.
 abbrev pub SomeSheet : Type 0
 SomeSheet = (club : Club) → IsSound club → (day : ℕ) → (text : List ℕ) × IsSheet club day text

@@ -1,5 +1,5 @@
--- Defines how the rules decide the office's commands. The first true condition in a list decides
--- the command.
+-- Defines how the rules decide the office's commands. Each decision is a list of conditions with
+-- results. The first true condition determines the result.
 use Rattle.std.specs.{Prelude.{ℕ, ◌+◌, ◌&&◌, not, Bool, false, List, [], ◌∷◌, nat_lt, nat_le, is_some, Option, Some, None, Result, Ok, Err}, Str.bytes_eq}
 use Rattle.club_values.specs.declared.slot.Slot.{Slot}
 use Rattle.club_rows.specs.{Facility.is_open_at, Limits.{credited_limit, quota_limit, places_limit, price_limit, shutting_limit}}
@@ -82,8 +82,8 @@ close_verdict held slot (Some facility) =
     ∷ [])
     (Ok (Some (MarkClosed slot)))
 
--- The decision on a command: the change that it makes, or the fault of its refusal. The change is
--- `None` if the command cancels a booking that is already cancelled.
+-- The decision on a command: the change that the command makes, or the fault if the rules refuse
+-- the command. The change is `None` if the command cancels a booking that is already cancelled.
 abbrev pub command_verdict : CommandView → Command → Result (Option Change) OfficeFault
 command_verdict view (AddMember name quota) =
     first_of

@@ -4,9 +4,9 @@ use Rattle.pass_caveats.specs.declared.caveat.Caveat.{Caveat}
 use Rattle.club_rows.specs.{Key.older_root_at, declared.key.Key.Key}
 use Rattle.club_core.specs.declared.{pass_fault.PassFault.PassFault, request.Request.Request}
 
--- A decoded pass. `key` is the name of the key in its identifier, or `None` if the identifier names
--- no key. A caveat is `None` if it isn't understood. `is_signed` tests whether a root signs the
--- pass.
+-- A decoded pass. `key` is the key's name in the pass's identifier, or `None` if the identifier
+-- names no key. A caveat is `None` if the desk doesn't understand the caveat. `is_signed` tests
+-- whether a root signs the pass.
 pub record Pass : Type 0 where
   pub key : Option (List ℕ)
   pub caveats : List (Option Caveat)
@@ -17,19 +17,19 @@ pub record Words : Type 0 where
   pub pass : Result Pass PassFault
   pub request : Request
 
--- The root is valid at the given moment. The key's root is always valid. The key's older root is
--- valid if the moment is before the root's end.
+-- The root is valid at the given moment. The key's current root is always valid. The key's older
+-- root is valid until it expires.
 abbrev pub IsGoodRoot : Key → ℕ → List ℕ → Type 0
 IsGoodRoot key moment root = (root ≡ key.root) ⊎ (older_root_at key.older moment ≡ Some root)
 
--- A root of the key that is valid at the given moment signs the pass.
+-- A root of the key signs the pass, and this root is valid at the given moment.
 pub record IsSignedUnder (pass : Pass) (key : Key) (moment : ℕ) : Type 0 where
   pub root : List ℕ
   pub good : IsGoodRoot key moment root
   pub signed : IsTrue (pass.is_signed root)
 
--- Whether the pass is signed under the key's root, or under the key's older root before the root's
--- end.
+-- Whether the key's current root signs the pass, or the key's older root signs the pass and hasn't
+-- expired at the given moment.
 abbrev pub is_signed_under : Pass → Key → ℕ → Bool
 is_signed_under pass key moment =
     pass.is_signed key.root || option_map_or pass.is_signed (older_root_at key.older moment) false

@@ -37,8 +37,8 @@ details_of BalanceTooLow = details 20 (codes "balance too low")
 details_of SlotHasBegun = details 21 (codes "slot has begun")
 details_of Unavailable = details 22 (codes "unavailable")
 
--- The position of the refusing caveat, counted from 1. The position is `None` for all refusals
--- except `CaveatNotUnderstood` and `CaveatDenies`.
+-- The position of the caveat that caused the refusal, counted from 1. The position is `None` for
+-- all refusals except `CaveatNotUnderstood` and `CaveatDenies`.
 abbrev pub caveat_of_refusal : Refusal → Option ℕ
 caveat_of_refusal (CaveatNotUnderstood n) = Some n
 caveat_of_refusal (CaveatDenies n) = Some n

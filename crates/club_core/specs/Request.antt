@@ -1,4 +1,4 @@
--- Defines the parts of a request.
+-- Defines the action, guests, slot and number of a request.
 use Rattle.std.specs.Prelude.{ℕ, Option, Some, None}
 use Rattle.club_values.specs.declared.{action.Action.Action, slot.Slot.Slot}
 use Rattle.club_values.specs.declared.action.Action.TheVariants as actions

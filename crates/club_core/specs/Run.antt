@@ -6,13 +6,13 @@ use Rattle.club_core.specs.declared.command.{Command.TheVariants.{CancelBooking,
 use Rattle.club_core.specs.declared.{command.{OfficeAnswer.TheVariants.{Done, NewKey, NotDone}, OfficeFault.OfficeFault}, reply.Reply.Reply}
 use Rattle.club_core.specs.declared.verdict.Verdict.{Verdict}
 
--- A request with the moment when it comes, or a command of the office.
+-- A request and the moment when the request comes, or a command of the office.
 pub data Event : Type 0 where
   Asked : (words : Words) (moment : ℕ) → Event
   Commanded : (command : Command) → Event
 
 -- The response to an event: the reply to a request, or the answer to a command. `O` is the type of
--- the answer.
+-- an answer to a command.
 pub data Response (O : Type 0) : Type 0 where
   ToMember : (reply : Reply) → Response O
   ToOffice : (answer : O) → Response O

@@ -1,5 +1,7 @@
--- Defines the rows and events on which a member's replies depend. The rows are the member's part of
--- the club. The events are the member's own events, with other members' use of the requested slots.
+-- Defines the rows and events on which a member's replies depend. The rows are the member's row,
+-- keys and bookings, and all facilities. The events are the member's requests, and the office's
+-- changes to these rows. Each request comes with the number of persons that other members bring to
+-- the slot, and whether the slot is closed.
 use Rattle.std.specs.Prelude.{ℕ, ◌+◌, not, Bool, true, false, List, [], ◌∷◌, ◌++◌, filter, Option, Some, None, Result, Ok, Err, option_map, if◌then◌else◌}
 use Rattle.std.specs.Str.{bytes_eq}
 use Rattle.club_values.specs.declared.slot.Slot.{Slot}
@@ -13,13 +15,14 @@ use Rattle.club_core.specs.declared.{command.OfficeFault.OfficeFault, reply.Repl
 abbrev pub bookings_of_others : List ℕ → Club → List Booking
 bookings_of_others member club = filter (λ (booking : Booking). not (is_key_of member club booking.key)) club.bookings
 
--- The number of other members' persons in a slot, and whether the slot is closed.
+-- The number of persons in a slot, without the bookings of the member with this name, and whether
+-- the slot is closed.
 abbrev pub outside : List ℕ → Club → Option Slot → SlotUse
 outside member club slot = slot_use_by (bookings_of_others member club) club slot
 
--- An event that concerns a member: a request under a key of the member, or a change of the member's
--- part of the club. A request includes the number of other members' persons in its slot, and
--- whether the slot is closed.
+-- An event that concerns one member: a request with a key of the member, or a change by the office
+-- of the rows in `part_of`. For the slot of a request, `others` contains the number of persons
+-- without the member's bookings, and whether the slot is closed.
 pub data OwnEvent : Type 0 where
   OwnAsk : (words : Words) (moment : ℕ) (others : SlotUse) → OwnEvent
   OwnChange : (change : Change) → OwnEvent
@@ -46,8 +49,8 @@ own_change name club (Err fault) = []
 own_change name club (Ok None) = []
 own_change name club (Ok (Some change)) = if is_own name club change then OwnChange change ∷ [] else []
 
--- The member's own event for a request. The list is empty if the request's pass names no key of the
--- member.
+-- A list with the member's own event for a request. The list is empty if the request's pass names
+-- no key of the member.
 abbrev pub own_ask : List ℕ → Club → Words → ℕ → Option Basis → List OwnEvent
 own_ask name club words moment None = []
 own_ask name club words moment (Some basis) =
@@ -72,8 +75,8 @@ part_of name club = record {
   closed = [];
 }
 
--- The basis from the member's part of the club, after adding other members' persons to the slot.
--- `others` also states whether the slot is closed.
+-- The basis after adding the persons in `others` to the persons in the slot. `others` also says
+-- whether the slot is closed.
 abbrev pub with_others : SlotUse → Basis → Basis
 with_others others basis = record basis {
   state = record basis.state {

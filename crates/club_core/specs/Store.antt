@@ -1,4 +1,5 @@
--- Defines the promises of a store that keeps a club's rows.
+-- Defines the promises of a store that keeps a club's rows. A crash state is a club that the store
+-- may contain after a crash instead of the current club.
 use Rattle.std.specs.Prelude.{◌≡◌, ℕ, ◌≤◌, false, List, [], ◌∷◌, Option, Some, None, Result, IfOk, MatchResult}
 use Rattle.club_rows.specs.declared.{booking.Booking.Booking, facility.Facility.Facility, key.Key.Key, member.Member.Member}
 use Rattle.club_core.specs.{After.after, Club.{Club, IsSound, key_named, member_named, facility_named}, Sums.booking_under, declared.change.Change.Change}
@@ -9,7 +10,7 @@ use Rattle.club_core.specs.declared.{change.Change.TheVariants.{ReplaceQuota, In
 abbrev pub HasMember : List ℕ → Club → Type 0
 HasMember name club = (row : Member) × (member_named name club ≡ Some row)
 
--- The club has a member with this name, and the member's `credited` is at least these points.
+-- The club has a member with this name, and the member's `credited` is at least `points`.
 abbrev pub HasCredited : List ℕ → ℕ → Club → Type 0
 HasCredited name points club = (row : Member) × (member_named name club ≡ Some row) × (points ≤ row.credited)
 
@@ -21,27 +22,29 @@ HasFacility name club = (row : Facility) × (facility_named name club ≡ Some r
 abbrev pub HasKey : List ℕ → Club → Type 0
 HasKey name club = (row : Key) × (key_named name club ≡ Some row)
 
--- The key with this name belongs to the member.
+-- The club has a key with the name `key`, and this key belongs to `member`.
 abbrev pub IsOwnedBy : List ℕ → List ℕ → Club → Type 0
 IsOwnedBy member key club = (row : Key) × (key_named key club ≡ Some row) × (row.member ≡ member)
 
--- The key with this name has this root.
+-- The club has a key with the name `key`, and the current root of this key is `root`.
 abbrev pub HasRoot : List ℕ → List ℕ → Club → Type 0
 HasRoot key root club = (row : Key) × (key_named key club ≡ Some row) × (row.root ≡ root)
 
--- The booking is on record with the same values, and isn't cancelled.
+-- The club contains this booking with the same values, and the booking isn't cancelled.
 abbrev pub IsToCancel : Booking → Club → Type 0
 IsToCancel booking club = (booking_under booking.key booking.number club.bookings ≡ Some booking) × (booking.cancelled ≡ false)
 
 -- The change matches the club's rows:
 --
 -- - The member, key or facility that the change edits exists.
--- - The facility of a slot to open exists.
+-- - If the change opens a slot, the slot's facility exists.
 -- - A debit is at most the member's `credited`.
 -- - A new key has no older root.
--- - A rotated key has the former root.
--- - A booking's key belongs to the member.
--- - A booking to cancel is on record with the same values, and isn't cancelled.
+-- - If the change rotates a key, `former` is the key's current root.
+-- - If the change inserts or cancels a booking, the booking's key belongs to the member in the
+--   change.
+-- - If the change cancels a booking, the club contains the booking with the same values, and the
+--   booking isn't cancelled.
 abbrev pub IsTrueOf : Change → Club → Type 0
 IsTrueOf (AddCredit name points) club = HasMember name club
 IsTrueOf (TakeCredit name points) club = HasCredited name points club
@@ -55,39 +58,39 @@ IsTrueOf (InsertBooking booking member) club = IsOwnedBy member booking.key club
 IsTrueOf (MarkCancelled booking member refund) club = IsToCancel booking club × IsOwnedBy member booking.key club
 IsTrueOf change club = Unit {0}
 
--- The change matches the club's rows, and the club after the change is sound.
+-- The change matches the club's rows, and the changed club satisfies the invariants.
 pub record FitsClub (change : Change) (club : Club) : Type 0 where
   pub carries : IsTrueOf change club
   pub sound : IsSound (after change club)
 
--- A call applies a change, or fails. An applied change matches the club's rows and leaves a sound
--- club. A failed call leaves the club unchanged. If the change doesn't fit the club, the failed
--- call has no effect. If the change fits the club, a crash after the failed call may leave the
--- changed club.
+-- A call applies a change, or fails. If the call succeeds, the change fits the club, the store
+-- contains the changed club, and the store has no crash states. If the call fails, the store's club
+-- doesn't change. If the change doesn't fit the club, the crash states don't change either. If the
+-- call fails but the change fits, the changed club becomes a crash state.
 abbrev pub Changes : {S E : Type 0} → (S → Club → List Club → Type 0) → Change → S → S → Result (Unit {0}) E → Type 0
 Changes Represents change old new result =
     (club : Club) (others : List Club) → Represents old club others
     → MatchResult result (λ _. FitsClub change club × Represents new (after change club) [])
     (λ _. (IsSound (after change club) → Represents new club (after change club ∷ others)) × (¬ FitsClub change club → Represents new club others))
 
--- The call changes neither the store's club nor its possible crash states.
+-- The call changes neither the store's club nor the store's crash states.
 abbrev pub KeepsClub : {S : Type 0} → (S → Club → List Club → Type 0) → S → S → Type 0
 KeepsClub Represents old new = (club : Club) (others : List Club) → Represents old club others → Represents new club others
 
--- If the call succeeds, its result matches the current club.
+-- If the call succeeds, the call's result matches the current club.
 abbrev pub Returns : {S A E : Type 0} → (S → Club → List Club → Type 0) → S → Result A E → (Club → A → Type 0) → Type 0
 Returns Represents old answer IsReturned = (club : Club) (others : List Club) → Represents old club others → IfOk answer (IsReturned club)
 
--- A successful read doesn't affect later failures. Each failure from the state after the read is
--- also a failure from the state before the read. In a failure, `None` means a read and `Some` means
--- a change.
+-- A successful read doesn't affect later failures. If a later call can fail from the state after
+-- the read, the call can fail in the same way from the state before the read. `wish` is the change
+-- that the later call tries to apply, or `None` if the later call reads.
 abbrev pub IsRead : {S : Type 0} → (Option Change → S → StoreFault → S → Type 0) → S → S → Type 0
 IsRead {S} Fails old new = (wish : Option Change) (fault : StoreFault) (later : S) → Fails wish new fault later → Fails wish old fault later
 
 -- The promises of a read if the disk is clean after the read:
 --
 -- - The disk was clean before the read.
--- - The read changes neither the store's club nor its possible crash states.
+-- - The read changes neither the store's club nor the store's crash states.
 -- - If the read succeeds, its result matches the club, and the read doesn't affect later failures.
 -- - If the read fails, the failure satisfies `Fails`.
 pub record ReadsStore {S A : Type 0} (IsClean : S → Type 0) (Represents : S → Club → List Club → Type 0)

@@ -3,11 +3,11 @@ use Rattle.std.specs.{Prelude.{ℕ, ◌-◌, ◌==◌, ◌&&◌, not, Bool, List
 use Rattle.club_values.specs.{Slot.start_of, declared.slot.Slot.Slot}
 use Rattle.club_rows.specs.{Booking.{same_slot, persons_of}, declared.{booking.Booking.Booking, member.Member.Member}}
 
--- Whether a booking occupies places of the slot. A cancelled booking occupies no places.
+-- Whether a booking occupies places in the slot. A cancelled booking occupies no places.
 abbrev pub is_in : Slot → Booking → Bool
 is_in slot booking = not booking.cancelled && same_slot booking.slot slot
 
--- The number of persons in the slot, counted over these bookings.
+-- The number of persons in the slot, summed over these bookings.
 abbrev pub taken_in : Slot → List Booking → ℕ
 taken_in slot bookings = sum_by persons_of (filter (is_in slot) bookings)
 
@@ -24,11 +24,11 @@ most_taken_in facility bookings = fold (λ most booking. max most (taken_in book
 abbrev pub cost_of : Booking → ℕ
 cost_of booking = booking.charge - booking.refund
 
--- Whether a booking was made under the key with this name.
+-- Whether the booking's key has this name.
 abbrev pub is_under : List ℕ → Booking → Bool
 is_under key booking = bytes_eq booking.key key
 
--- The points that a key has spent.
+-- The points that a key has spent, summed over the key's bookings in the list.
 abbrev pub spent_under : List ℕ → List Booking → ℕ
 spent_under key bookings = sum_by cost_of (filter (is_under key) bookings)
 
@@ -45,6 +45,6 @@ is_to_come moment booking = not booking.cancelled && nat_lt moment (start_of boo
 abbrev pub count_to_come : ℕ → List Booking → ℕ
 count_to_come moment bookings = length (filter (is_to_come moment) bookings)
 
--- The key's booking under a number.
+-- The key's booking with this number.
 abbrev pub booking_under : List ℕ → ℕ → List Booking → Option Booking
 booking_under key number bookings = find (λ booking. is_under key booking && booking.number == number) bookings

@@ -1,4 +1,5 @@
--- Defines the answer to an accepted request. The first true condition in a list decides the answer.
+-- Defines the answer to a request after the desk has accepted the pass. The first true condition in
+-- a list determines the answer.
 use Rattle.std.specs.Prelude.{ℕ, ◌+◌, ◌-◌, ◌==◌, ◌&&◌, not, false, List, [], ◌∷◌, nat_lt, nat_le, if◌then◌else◌, Option, Some, None}
 use Rattle.club_values.specs.{Slot.start_of, declared.slot.Slot.Slot}
 use Rattle.club_core.specs.{Lines.{Line, line_if, first_of}, declared.{change.Change.TheVariants.{InsertBooking, MarkCancelled}, refusal.Refusal.Refusal}}
@@ -9,15 +10,15 @@ use Rattle.club_core.specs.declared.{verdict.Verdict.Verdict, view.View.View}
 use Rattle.club_rows.specs.{Booking.{same_slot, refund_at}, Facility.{charge_of, is_bookable}, declared.{booking.Booking.Booking, facility.Facility.Facility}}
 use Rattle.club_core.specs.declared.request.Request.TheVariants as asked
 
--- A reply that changes nothing.
+-- A verdict with this reply and without a change.
 abbrev pub reply_only : Reply → Verdict
 reply_only reply = record { reply = reply; change = None }
 
--- A refusal, which changes nothing.
+-- A verdict with this refusal and without a change.
 abbrev pub refusal_verdict : Refusal → Verdict
 refusal_verdict refusal = reply_only (Refused refusal)
 
--- The reply to a repeated booking, which is the booking's first reply.
+-- The verdict on a repeated booking. The reply is the same as the first time, and nothing changes.
 abbrev pub booked_before : Booking → Verdict
 booked_before booking = reply_only (Booked booking.key booking.number booking.charge booking.left)
 
@@ -35,8 +36,8 @@ new_booking view slot number guests facility = record {
   refund = 0;
 }
 
--- The reply to a new booking, and the change that inserts its row. The booking's key belongs to
--- `member`.
+-- The reply to a new booking, and the change that inserts the booking's row. The booking's key
+-- belongs to `member`.
 abbrev pub booked_now : Booking → List ℕ → Verdict
 booked_now booking member = record {
   reply = Booked booking.key booking.number booking.charge booking.left;
@@ -55,13 +56,15 @@ cancelled_now booking member refund = record {
 abbrev pub cancelled_before : Booking → Verdict
 cancelled_before booking = reply_only (Cancelled booking.key booking.number booking.refund)
 
--- The answer to a booking under a used number. If the slot and the number of guests are the same,
--- the answer is the booking's first reply. Otherwise, the answer is the refusal `NumberUsed`.
+-- The answer to a booking whose number the key has already used. If the slot and the number of
+-- guests are the same, the answer repeats the first booking's reply. Otherwise, the answer is the
+-- refusal `NumberUsed`.
 abbrev pub repeat_booking_verdict : Booking → Slot → ℕ → Verdict
 repeat_booking_verdict booking slot guests =
     if same_slot booking.slot slot && booking.guests == guests then booked_before booking else refusal_verdict NumberUsed
 
--- The conditions that refuse a booking under an unused number.
+-- The conditions under which the rules refuse a booking with an unused number, each with its
+-- refusal.
 abbrev pub book_lines : View → Slot → ℕ → ℕ → Facility → List (Line Verdict)
 book_lines view slot guests moment facility =
     line_if (not (is_bookable facility slot moment)) (refusal_verdict NotBookable)
@@ -71,26 +74,26 @@ book_lines view slot guests moment facility =
     ∷ line_if (nat_lt view.balance (charge_of facility guests)) (refusal_verdict BalanceTooLow)
     ∷ []
 
--- The answer to a booking under an unused number.
+-- The answer to a booking with an unused number.
 abbrev pub new_verdict : View → Slot → ℕ → ℕ → ℕ → Option Facility → Verdict
 new_verdict view slot number guests moment None = refusal_verdict NoSuchFacility
 new_verdict view slot number guests moment (Some facility) =
     first_of (book_lines view slot guests moment facility) (booked_now (new_booking view slot number guests facility) view.key.member)
 
--- The verdict `recorded` for the booking on record, or the verdict `other` if no booking is on
--- record.
+-- The verdict that `recorded` returns for the recorded booking, or `other` if there is no recorded
+-- booking.
 abbrev pub recorded_or : Option Booking → (Booking → Verdict) → Verdict → Verdict
 recorded_or None recorded other = other
 recorded_or (Some booking) recorded other = recorded booking
 
--- The answer to a booking. If the number is used, the booking is a repeat.
+-- The answer to a booking. If the key has already used the number, the booking is a repeat.
 abbrev pub book_verdict : View → Slot → ℕ → ℕ → ℕ → Verdict
 book_verdict view slot number guests moment =
     recorded_or view.booking (λ booking. repeat_booking_verdict booking slot guests)
     (new_verdict view slot number guests moment view.facility)
 
--- The conditions under which the cancellation of a recorded booking changes nothing, with their
--- answers.
+-- The conditions under which the cancellation of a recorded booking changes nothing, each with its
+-- answer.
 abbrev pub cancel_lines : Booking → Slot → ℕ → List (Line Verdict)
 cancel_lines booking slot moment =
     line_if (not (same_slot booking.slot slot)) (refusal_verdict NumberUsed)
@@ -98,12 +101,12 @@ cancel_lines booking slot moment =
     ∷ line_if (nat_le (start_of booking.slot) moment) (refusal_verdict SlotHasBegun)
     ∷ []
 
--- The answer to a cancellation of a recorded booking. The booking's key belongs to the member.
+-- The answer to a cancellation of a recorded booking. The booking's key belongs to `member`.
 abbrev pub cancel_recorded_verdict : Booking → List ℕ → Slot → ℕ → Verdict
 cancel_recorded_verdict booking member slot moment =
     first_of (cancel_lines booking slot moment) (cancelled_now booking member (refund_at booking moment))
 
--- The answer to a cancellation under an unused number.
+-- The answer to a cancellation whose number the key hasn't used.
 abbrev pub unknown_verdict : Option Facility → Verdict
 unknown_verdict None = refusal_verdict NoSuchFacility
 unknown_verdict (Some facility) = refusal_verdict NoSuchBooking
@@ -123,7 +126,7 @@ shown_at view slot (Some facility) =
 abbrev pub account_verdict : View → Verdict
 account_verdict view = reply_only (AccountShown view.member.name view.balance view.member.quota view.open_count view.spent)
 
--- The answer to an accepted request.
+-- The answer to a request after the desk has accepted the pass.
 abbrev pub verdict_of : View → Request → ℕ → Verdict
 verdict_of view (asked.View slot) moment = shown_at view slot view.facility
 verdict_of view (asked.Book slot number guests) moment = book_verdict view slot number guests moment

@@ -1,4 +1,4 @@
-//! Answers a request: accepts or refuses its pass, then decides the request from its key's view.
+//! Answers a request: accepts or refuses the pass, then decides the request from a view.
 
 ghost use Rattle.std.specs.{Option.option_copied, Prelude.{◌≡◌}};
 ghost use Rattle.club_core.specs.Answer.{answer_by_view};
@@ -12,9 +12,10 @@ use club_values::Moment;
 use pass_caveats::CaveatFault;
 
 /// Returns the reply to a request with a decoded pass, and the change to apply. `view` is the view
-/// of the pass's key, or `None` if the club doesn't have this key. `is_signed` is true if a root of
-/// the key that is valid at the moment signs the pass. `fault` is the first fault of the pass's
-/// caveats. An unknown key and a wrong signature get the same refusal, whatever the caveats are.
+/// of the request, or `None` if the club doesn't have the pass's key. `is_signed` is true if a root
+/// of the key signs the pass and is valid at `moment`. `fault` is the fault of the first caveat
+/// that doesn't allow the request, or `None` if all caveats allow the request. An unknown key and a
+/// wrong signature get the same refusal, whatever the caveats are.
 pub fn answer(
     view: Option<&View>,
     is_signed: bool,

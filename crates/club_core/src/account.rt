@@ -1,19 +1,19 @@
-//! Defines a member's row with its balance.
+//! Defines a member's row together with the member's balance.
 
 ghost use Rattle.std.specs.Prelude.{◌≡◌, ◌-◌};
 
 use club_rows::Member;
 
-/// A member's row with its balance.
+/// A member's row together with the member's balance.
 #[derive(Clone, Copy, Debug, PartialEq, Eq)]
 pub struct MemberAccount {
     pub member: Member,
-    /// The points credited to the member minus the cost of its bookings.
+    /// The points credited to the member minus the cost of the member's bookings.
     pub balance: u32,
 }
 
 impl MemberAccount {
-    /// Returns the points that the member's bookings have cost, under all its keys.
+    /// Returns the points that the member has spent: `credited` minus `balance`.
     pub fn used(&self) -> u32
         ensures { result ≡ self.now.member.credited - self.now.balance }
     {

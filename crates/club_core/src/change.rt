@@ -3,9 +3,8 @@
 use club_rows::{Booking, Facility, Key, Member, Root};
 use club_values::{Moment, Name, Slot};
 
-/// A change of the club's rows. The change contains the row values on which the decision was based.
-/// A store doesn't read the rows before it applies the change. The store refuses the change if the
-/// rows have other values.
+/// A change of the club's rows. Some changes contain row values on which the decision was based. A
+/// store refuses such a change if the rows no longer have these values.
 #[derive(Clone, Copy, Debug, PartialEq, Eq)]
 pub enum Change {
     InsertMember(Member),
@@ -13,7 +12,8 @@ pub enum Change {
         member: Name,
         points: u32,
     },
-    /// Subtracts points from the member's `credited`, which must be at least these points.
+    /// Subtracts points from the member's `credited`. The member's `credited` must be at least
+    /// `points`.
     TakeCredit {
         member: Name,
         points: u32,
@@ -36,8 +36,8 @@ pub enum Change {
     MarkRevoked {
         key: Name,
     },
-    /// Replaces the root of a key whose current root is `former`. The former root becomes the older
-    /// root, and expires at the moment `until`. The store drops the previous older root.
+    /// Replaces the root of a key whose current root is `former`. The former root becomes the key's
+    /// older root, and expires at the moment `until`. The store drops the previous older root.
     ReplaceRoot {
         key: Name,
         former: Root,
@@ -45,15 +45,15 @@ pub enum Change {
         until: Moment,
     },
     MarkClosed(Slot),
-    /// Opens a slot of an existing facility. An open slot stays open.
+    /// Opens a slot of an existing facility. A slot that is already open stays open.
     MarkOpen(Slot),
-    /// Inserts a booking. The booking's key belongs to `member`.
+    /// Inserts a booking. The booking's key must belong to `member`.
     InsertBooking {
         booking: Booking,
         member: Name,
     },
-    /// Marks a booking as cancelled, and records its refund. `booking` is the stored row of a
-    /// booking that isn't cancelled yet. The booking's key belongs to `member`.
+    /// Marks a booking as cancelled, and records the refund. `booking` must be the stored row of a
+    /// booking that isn't cancelled yet. The booking's key must belong to `member`.
     MarkCancelled {
         booking: Booking,
         member: Name,

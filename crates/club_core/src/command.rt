@@ -1,4 +1,4 @@
-//! Defines the commands of the office, the answers to the commands, and their faults.
+//! Defines the commands of the office, with their answers and faults.
 
 ghost use Rattle.std.specs.Prelude.{◌≡◌};
 
@@ -27,7 +27,8 @@ pub enum Command {
         member: Name,
         points: u32,
     },
-    /// Sets a member's quota. Open bookings stay, even if they exceed the new quota.
+    /// Sets a member's quota. The member's open bookings remain valid, even if their number exceeds
+    /// the new quota.
     SetQuota {
         member: Name,
         quota: u32,
@@ -40,8 +41,8 @@ pub enum Command {
         opens: u32,
         shuts: u32,
     },
-    /// Sets the places, price and opening hours of a facility. The facility's kind doesn't change.
-    /// Existing bookings keep their slot, charge and places left.
+    /// Sets the places, price and opening hours of a facility. The facility's kind and the existing
+    /// bookings don't change.
     SetFacility {
         name: Name,
         places: u32,
@@ -57,8 +58,8 @@ pub enum Command {
     RevokeKey {
         name: Name,
     },
-    /// Replaces a key's root. The desk accepts passes signed under the former root until the moment
-    /// `until`, or until the next rotation of the key. From then on, the desk refuses these passes.
+    /// Replaces a key's root. The desk still accepts passes that the former root signs, until the
+    /// moment `until` or the key's next rotation, whichever comes first.
     RotateKey {
         name: Name,
         root: Root,
@@ -80,11 +81,13 @@ pub enum Command {
 pub enum OfficeFault {
     /// The new name is taken, the key already has the root, or the slot is already closed.
     Exists,
-    /// No member, key or facility has the name, or the key has no booking under the number.
+    /// No member, key or facility has the name, or the key has no booking with the number.
     Unknown,
-    /// A number is outside its limits, or an hour is outside the opening hours.
+    /// A number is outside its limits, an hour is outside the opening hours, or a debit exceeds the
+    /// balance.
     OutOfRange,
-    /// The slot has bookings, or one of the facility's slots has more persons than the new places.
+    /// The slot has bookings, or one of the facility's slots has more persons than the new number
+    /// of places.
     SlotInUse,
 }
 
@@ -109,7 +112,8 @@ impl Error for OfficeFault {}
 impl Command {
     ghost use Rattle.club_core.specs.Events.{IsCommand};
 
-    /// Proves, by its contract, that each name, slot and root of a command is within its limits.
+    /// Exists only for its contract, which states that the names, slots, roots, booking numbers and
+    /// moments of a command are within their limits.
     pub fn within(&self)
         ensures { IsCommand self.now }
     {
@@ -146,8 +150,8 @@ impl Command {
 #[derive(Clone, Copy, Debug, PartialEq, Eq)]
 pub enum OfficeAnswer {
     Done,
-    /// The office added a key, or replaced its root. The name and the root determine the signatures
-    /// of the key's passes.
+    /// The office added a key, or replaced a key's root. The name and the root determine the
+    /// signatures of the key's passes.
     NewKey { name: Name, root: Root },
     NotDone(OfficeFault),
 }

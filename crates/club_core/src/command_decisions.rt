@@ -1,5 +1,5 @@
 //! Decides the commands of the office from their views. Each decision tests its conditions in
-//! order. The first test that fails refuses the command.
+//! order, and refuses the command at the first condition that fails.
 
 ghost use Rattle.std.specs.Prelude.{◌≡◌, not, nat_lt};
 ghost use Rattle.club_rows.specs.Limits.{quota_limit};
@@ -257,8 +257,8 @@ fn open_slot(view: &CommandView, slot: &Slot) -> Result<Option<Change>, OfficeFa
     Ok(Some(Change::MarkOpen(*slot)))
 }
 
-/// Returns the change that a command makes, decided from the command's view. Returns `None` if the
-/// command cancels a booking that is already cancelled.
+/// Decides a command from the command's view, and returns the change that the command makes.
+/// Returns `None` if the command cancels a booking that is already cancelled.
 ///
 /// # Errors
 ///
@@ -267,7 +267,7 @@ fn open_slot(view: &CommandView, slot: &Slot) -> Result<Option<Change>, OfficeFa
 /// - `Unknown`: the command's member, key, facility or booking doesn't exist.
 /// - `Exists`: the new name is taken, the key already has the root, or the slot is already closed.
 /// - `SlotInUse`: the slot has bookings, or one of the facility's slots has more persons than the
-///   new places.
+///   new number of places.
 pub fn decide_command(view: &CommandView, command: &Command) -> Result<Option<Change>, OfficeFault>
     ensures { result ≡ command_verdict view.now command.now }
 {

@@ -1,5 +1,5 @@
-//! Decides the four kinds of requests, after the desk accepted the pass. Each decision is a list of
-//! conditions. The first condition that is true determines the reply.
+//! Decides the four kinds of requests, after the desk has accepted the pass. Each decision tests a
+//! list of conditions in order. The first condition that is true determines the reply.
 
 ghost use Rattle.std.specs.Prelude.{◌≡◌, Some};
 ghost use Rattle.club_rows.specs.Facility as facilities;
@@ -20,7 +20,8 @@ use club_values::{MINUTES_A_DAY, Moment, Name, Slot};
 /// request.
 const BOOKING_WINDOW: u64 = 60 * MINUTES_A_DAY as u64;
 
-/// Returns whether a slot of the facility can be booked at the given moment.
+/// Returns whether the facility is open at the slot's hour, and the slot begins within the booking
+/// window.
 fn is_bookable(facility: &Facility, slot: &Slot, moment: Moment) -> bool
     ensures { result ≡ facilities.is_bookable facility.now slot.now moment }
 {
@@ -46,8 +47,8 @@ pub fn decide_view(view: &View, slot: &Slot) -> Verdict
     }
 }
 
-/// Answers a booking under a number that the key has used. Returns the first reply if the slot and
-/// the number of guests are the same, and otherwise refuses with `NumberUsed`.
+/// Answers a booking whose number the key has already used. Returns the first booking's reply if
+/// the slot and the number of guests are the same. Otherwise, refuses with `NumberUsed`.
 fn repeat_booking(booking: &Booking, slot: &Slot, guests: Guests) -> Verdict
     ensures { result ≡ repeat_booking_verdict booking.now slot.now guests }
 {
@@ -62,7 +63,7 @@ fn repeat_booking(booking: &Booking, slot: &Slot, guests: Guests) -> Verdict
     })
 }
 
-/// Decides a booking under an unused number at a known facility.
+/// Decides a booking with an unused number at a known facility.
 fn book_at(
     view: &View,
     facility: &Facility,
@@ -103,8 +104,8 @@ fn book_at(
     Verdict::new_booking(booking, &view.key.member)
 }
 
-/// Decides a booking. The verdict contains the reply. If the decision makes a new booking, the
-/// verdict also contains the row to insert.
+/// Decides a booking. The verdict contains the reply. For a new booking, the verdict also contains
+/// the row to insert.
 pub fn decide_book(
     view: &View,
     slot: &Slot,
@@ -141,8 +142,8 @@ fn cancel_recorded(booking: &Booking, member: &Name, slot: &Slot, moment: Moment
     Verdict::new_cancellation(booking, member, booking.refund_at(moment))
 }
 
-/// Decides a cancellation. The verdict contains the reply. If the decision cancels the booking, the
-/// verdict also contains the refund to record.
+/// Decides a cancellation. The verdict contains the reply. For a new cancellation, the verdict also
+/// contains the refund to record.
 pub fn decide_cancel(view: &View, slot: &Slot, moment: Moment) -> Verdict
     ensures { result ≡ cancel_verdict view.now slot.now moment }
 {
@@ -153,7 +154,8 @@ pub fn decide_cancel(view: &View, slot: &Slot, moment: Moment) -> Verdict
     }
 }
 
-/// Returns the member's balance, quota and open bookings, and the points that the key has spent.
+/// Returns the member's balance, quota and number of open bookings, and the points that the key has
+/// spent.
 pub fn decide_account(view: &View) -> Verdict
     ensures { result ≡ account_verdict view.now }
 {

@@ -7,12 +7,13 @@ ghost use Rattle.club_core.specs.{Examples.CancelsUnderARevokedKey, Laws.Refusal
 ghost use Rattle.club_core.specs.Laws.{ViewsDecide, TestsTheSignature, OwnBookings, MostTaken};
 ghost use Rattle.club_core.specs.{Laws.{OneSheet, SomeSheet}, Looks.LooksNoFurther};
 
-/// A member books a slot, views the account, and cancels the booking.
+/// A member can book a slot, view the account, and cancel the booking.
 pub fn books_and_cancels()
     ensures { BooksAndCancels }
 {}
 
-/// A repeated booking gets the first reply and charges nothing, even after its cancellation.
+/// If a member repeats a booking request, the reply is the same as the first time, even after a
+/// cancellation. The repeated request charges nothing.
 pub fn repeats_after_a_cancellation()
     ensures { RepeatsAfterACancellation }
 {}
@@ -32,13 +33,14 @@ pub fn debits_a_member()
     ensures { DebitsAMember }
 {}
 
-/// A new quota applies from the next booking on. Open bookings stay, even if they exceed the new
-/// quota.
+/// A new quota applies from the next booking on. The member's open bookings remain valid, even if
+/// their number exceeds the new quota.
 pub fn sets_a_quota()
     ensures { SetsAQuota }
 {}
 
-/// A facility's new numbers apply from the next booking on. Earlier bookings don't change.
+/// A facility's new places, price and opening hours apply from the next booking on. Earlier
+/// bookings don't change.
 pub fn sets_a_facility()
     ensures { SetsAFacility }
 {}
@@ -48,7 +50,8 @@ pub fn cancels_for_a_member()
     ensures { CancelsForAMember }
 {}
 
-/// If the office cancels a booking that its member cancelled before, the member's refund stays.
+/// If the member has already cancelled a booking, a cancellation by the office doesn't change the
+/// refund.
 pub fn keeps_a_refund()
     ensures { KeepsARefund }
 {}
@@ -70,26 +73,27 @@ pub fn refusals_change_nothing()
     ensures { RefusalsChangeNothing }
 {}
 
-/// The view of the key that a pass names is the view that the rules use to decide the request.
+/// For the key that a pass names, `view_in` returns the view that the rules use to decide the
+/// request.
 pub fn views_decide()
     ensures { ViewsDecide }
 {}
 
-/// An answer depends only on parts of the view. Caveats depend on the recorded booking, the
-/// facility and the points that the key has spent. Each kind of request depends on different parts
-/// of the view.
+/// The rules need only some fields of the view for an answer. The caveats need only the recorded
+/// booking, the facility and the points that the key has spent. Each kind of request needs
+/// different fields of the view.
 pub fn looks_no_further()
     ensures { LooksNoFurther }
 {}
 
-/// `is_signed_under` returns true if and only if a root of the key that is valid at the moment
-/// signs the pass.
+/// `is_signed_under` returns true if and only if a root of the key signs the pass and is valid at
+/// the given moment.
 pub fn tests_the_signature()
     ensures { TestsTheSignature }
 {}
 
 /// The bookings of a key's member are enough to compute the points that the key has spent. The same
-/// bookings are enough to find the key's booking under a number.
+/// bookings are enough to find the key's booking with a given number.
 pub fn own_bookings_suffice()
     ensures { OwnBookings }
 {}
@@ -100,7 +104,7 @@ pub fn most_taken_is_reached()
     ensures { MostTaken }
 {}
 
-/// A sound club has exactly one sheet for each day.
+/// A club that satisfies the invariants has exactly one day sheet for each day.
 pub fn one_sheet_a_day()
     ensures one { OneSheet }
     ensures some { SomeSheet }

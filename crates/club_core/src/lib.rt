@@ -1,5 +1,5 @@
-//! The rules of the club. The rules decide a request or a command from a view of the club's rows.
-//! Only `sheet_text` allocates memory.
+//! The rules of the club. The rules take a view of the club's rows, and decide the answer to a
+//! request or to a command of the office. Only `sheet_text` allocates memory.
 #![tactic(auto)]
 
 mod acceptance;

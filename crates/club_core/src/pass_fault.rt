@@ -9,7 +9,7 @@ use crate::refusal::Refusal;
 pub enum PassFault {
     /// The text has too many bytes.
     TooLong,
-    /// The text isn't a pass in any form.
+    /// The text isn't a pass in any of the supported forms.
     Malformed,
     /// The text has a third-party caveat.
     ThirdParty,

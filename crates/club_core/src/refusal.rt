@@ -4,41 +4,45 @@ ghost use Rattle.std.specs.Prelude.{◌≡◌, Some};
 
 use std::fmt;
 
-/// The kind of resource that a path names.
+/// The kind of resource that a request's path names.
 #[derive(Clone, Copy, Debug, PartialEq, Eq)]
 pub enum Resource {
     Slot,
-    /// The booking of a slot under a number.
+    /// A booking, which the path names by the slot and the booking number.
     Booking,
-    /// The account of the key's member.
+    /// The account of the member whose key the pass names.
     Account,
 }
 
-/// The reason why a request is refused. The desk tests the reasons in this order, but tests the
-/// caveats one by one, in the order of the pass. `Unavailable` can occur at any time.
+/// The reason why a request is refused. The desk tests for the reasons in the order of the
+/// variants, with two exceptions. The desk tests the caveats one by one, in the order of the pass,
+/// so `CaveatDenies` can precede `CaveatNotUnderstood`. `Unavailable` can occur at any time.
 #[derive(Clone, Copy, Debug, PartialEq, Eq)]
 pub enum Refusal {
     BadRequest,
     NoSuchPath,
-    /// The resource that the path names doesn't support the method.
+    /// The resource that the request's path names doesn't support the request's method.
     MethodNotAllowed(Resource),
     NoPass,
     PassTooLong,
     PassMalformed,
     ThirdPartyCaveat,
     TooManyCaveats,
-    /// The identifier names no key of the club, or the signature is wrong.
+    /// The pass's identifier names no key of the club, or the pass's signature is wrong.
     NotVerified,
     KeyRevoked,
-    /// A caveat isn't understood. The value is the caveat's position in the pass, counted from 1.
+    /// The desk doesn't understand a caveat. The value is the caveat's position in the pass,
+    /// counted from 1.
     CaveatNotUnderstood(usize),
     /// A caveat denies the request. The value is the caveat's position in the pass, counted from 1.
     CaveatDenies(usize),
-    /// The key has used the number for another booking.
+    /// The key already has a booking with this number, but for another slot or another number of
+    /// guests.
     NumberUsed,
     NoSuchFacility,
     NoSuchBooking,
-    /// The hour is outside the opening hours, in the past, or more than 60 days ahead.
+    /// The slot is outside the opening hours, has already begun, or begins more than 60 days after
+    /// the request.
     NotBookable,
     SlotClosed,
     NoPlaces,
@@ -112,7 +116,8 @@ impl Refusal {
         }
     }
 
-    /// Returns the position of the refusing caveat, counted from 1, or `None` for other refusals.
+    /// Returns the position of the caveat that caused the refusal, counted from 1. Returns `None`
+    /// if no caveat caused the refusal.
     pub fn caveat(self) -> Option<usize>
         ensures { result ≡ caveat_of_refusal self }
     {

@@ -20,7 +20,7 @@ pub enum Reply {
         key: Name,
         number: BookingNumber,
         charge: u32,
-        /// The places left in the slot after the booking.
+        /// The number of free places in the slot after the booking.
         left: u8,
     },
     Cancelled {
@@ -33,7 +33,7 @@ pub enum Reply {
         balance: u32,
         quota: u8,
         open_count: u64,
-        /// The points that this key has spent.
+        /// The points that the key of the request's pass has spent.
         spent: u64,
     },
     Refused(Refusal),

@@ -1,4 +1,4 @@
-//! Defines the requests to the desk, and their parts.
+//! Defines the requests to the desk.
 
 ghost use Rattle.std.specs.Prelude.{◌≡◌};
 ghost use Rattle.club_rows.specs.Rows.{IsSlot};
@@ -13,13 +13,13 @@ pub enum Request {
     View {
         slot: Slot,
     },
-    /// Books a slot under a number.
+    /// Books places in a slot for the member and the guests. The booking gets this number.
     Book {
         slot: Slot,
         number: BookingNumber,
         guests: Guests,
     },
-    /// Cancels the booking of a slot under a number.
+    /// Cancels the booking of this slot that has this number.
     Cancel {
         slot: Slot,
         number: BookingNumber,
@@ -28,7 +28,7 @@ pub enum Request {
     Account,
 }
 
-/// Proves, by its contract, that a slot is within its limits.
+/// Exists only for its contract, which states that the values of a slot are within their limits.
 pub(crate) fn slot_within(slot: &Slot)
     ensures { IsSlot slot.now }
 {
@@ -41,8 +41,8 @@ impl Request {
     ghost use Rattle.club_core.specs.{Events.IsRequest, Request.{request_action, request_slot}};
     ghost use Rattle.club_core.specs.Request.{request_number, request_guests};
 
-    /// Proves, by its contract, that the slot, number and guests of a request are within their
-    /// limits.
+    /// Exists only for its contract, which states that the slot, number and guests of a request are
+    /// within their limits.
     pub fn within(&self)
         ensures { IsRequest self.now }
     {

@@ -1,4 +1,4 @@
-//! Defines the trait of a store of the club's rows, and the store's faults.
+//! Defines the trait that each store of the club's rows implements, and the faults of a store.
 
 use crate::account::MemberAccount;
 use crate::change::Change;
@@ -8,12 +8,12 @@ use club_values::{Day, Moment, Name, Slot};
 use std::error::Error;
 use std::fmt;
 
-/// The reason why a call of a store failed.
+/// The reason why a call to a store failed.
 #[derive(Clone, Copy, Debug, PartialEq, Eq)]
 pub enum StoreFault {
     /// An allocation failed.
     Memory,
-    /// The storage failed, or contains a row outside its limits.
+    /// The storage failed, or a stored value is outside its limits.
     Storage,
 }
 
@@ -33,8 +33,9 @@ impl fmt::Display for StoreFault {
 
 impl Error for StoreFault {}
 
-/// A store of a club's rows. The store keeps its promises while its disk is clean. A disk is clean
-/// if every read returns the bytes that were written, and nothing else writes to the disk.
+/// A store of a club's rows. The promises of this trait hold while the store's disk is clean. A
+/// disk is clean if each read returns the bytes that the store wrote, and only the store writes to
+/// the disk.
 pub trait ClubStore {
     ghost use Rattle.std.specs.Prelude.{◌≡◌, ◌∷◌, All, IfErr, List, Option, Some, option_map};
     ghost use Rattle.club_core.specs.Basis.{account_named, slot_use};
@@ -45,15 +46,16 @@ pub trait ClubStore {
     ghost use Rattle.club_core.specs.declared.{change.Change.Change, store.StoreFault.StoreFault};
     ghost use Rattle.club_rows.specs.Key.{row_of_key};
 
-    // The relation of a store to its current club and its possible crash states. After a crash, the
-    // store has the current club or one of the possible crash states.
+    // Relates a store to its current club and to its list of crash states. After a crash, the store
+    // contains the current club or one of the crash states.
     ghost represents: { Self → Club → List Club → Type 0 };
 
-    // Whether the disk has been clean so far.
+    // The disk has been clean until now.
     ghost disk_is_clean: { Self → Type 0 };
 
-    // A call failed with this fault. The two states are the states before and after the call.
-    // `None` is a call that reads, and `Some` is a call that applies this change.
+    // A call failed with this fault. The two states are the store's states before and after the
+    // call. The option contains the change that the call tried to apply, or is `None` if the call
+    // tried to read.
     ghost fails: { Option Change → Self → StoreFault → Self → Type 0 };
 
     /// Returns the row of the key with this name, or `None` if no key has this name.
@@ -61,8 +63,8 @@ pub trait ClubStore {
         ensures { ReadsStore disk_is_clean represents fails self.old self.new result
             (λ club row. row ≡ option_map row_of_key (key_named name.now club)) };
 
-    /// Returns the older root of the key with this name. Returns `None` if the key was never
-    /// rotated, or if no key has this name.
+    /// Returns the older root of the key with this name, which is the root before the last
+    /// rotation. Returns `None` if the key was never rotated, or if no key has this name.
     fn older_root(&mut self, name: &Name) -> Result<Option<OlderRoot>, StoreFault>
         ensures { ReadsStore disk_is_clean represents fails self.old self.new result
             (λ club older. older ≡ older_root_of name.now club) };
@@ -83,13 +85,13 @@ pub trait ClubStore {
         ensures { ReadsStore disk_is_clean represents fails self.old self.new result
             (λ club most. most ≡ most_taken_in facility.now club.bookings) };
 
-    /// Returns the key's booking under a number, or `None` if the key has no booking under the
-    /// number.
+    /// Returns the key's booking with this number, or `None` if the key has no such booking.
     fn booking(&mut self, key: &Name, number: BookingNumber) -> Result<Option<Booking>, StoreFault>
         ensures { ReadsStore disk_is_clean represents fails self.old self.new result
             (λ club booking. booking ≡ booking_under key.now number club.bookings) };
 
-    /// Returns the member with this name and its balance, or `None` if no member has this name.
+    /// Returns the row and the balance of the member with this name, or `None` if no member has
+    /// this name.
     fn account(&mut self, member: &Name) -> Result<Option<MemberAccount>, StoreFault>
         ensures { ReadsStore disk_is_clean represents fails self.old self.new result
             (λ club account. account ≡ account_named member.now club) };
@@ -100,7 +102,8 @@ pub trait ClubStore {
         ensures { ReadsStore disk_is_clean represents fails self.old self.new result
             (λ club count. count ≡ count_to_come moment (bookings_of member.now club)) };
 
-    /// Returns the points that a key has spent.
+    /// Returns the points that a key has spent: the charges of the key's bookings minus the
+    /// refunds.
     fn spent(&mut self, key: &Name) -> Result<u64, StoreFault>
         ensures { ReadsStore disk_is_clean represents fails self.old self.new result
             (λ club spent. spent ≡ spent_under key.now club.bookings) };
@@ -113,8 +116,9 @@ pub trait ClubStore {
     /// Applies a change.
     ///
     /// The call fails without effect if the change doesn't match the club's rows, or if the changed
-    /// club would violate its invariants. If memory or storage fails, the call fails and leaves the
-    /// club unchanged, but a later crash may leave the changed club.
+    /// club would violate the invariants. If an allocation or the storage fails, the call fails,
+    /// and the store's club doesn't change. After a later crash, the store may nevertheless contain
+    /// the changed club.
     fn apply(&mut self, change: &Change) -> Result<(), StoreFault>
         ensures was_clean { disk_is_clean self.new → disk_is_clean self.old }
         ensures changed { disk_is_clean self.new →
@@ -122,7 +126,7 @@ pub trait ClubStore {
         ensures failed { disk_is_clean self.new → IfErr result
             (λ fault. fails (Some change.now) self.old fault self.new) };
 
-    // The current club and each possible crash state satisfy the club's invariants.
+    // The current club and each crash state satisfy the invariants of a club.
     ghost sound: { (store : Self) (club : Club) (others : List Club)
         → represents store club others
         → All IsSound (club ∷ others) };

@@ -1,4 +1,4 @@
-//! Defines the verdict on a request: its reply and its change.
+//! Defines the verdict on a request: the reply, and the change to the club.
 
 ghost use Rattle.std.specs.Prelude.{◌≡◌};
 
@@ -8,7 +8,7 @@ use crate::reply::Reply;
 use club_rows::Booking;
 use club_values::Name;
 
-/// The reply to a request, and the change that it makes to the club.
+/// The reply to a request, and the change that the request makes to the club.
 #[derive(Clone, Copy, Debug, PartialEq, Eq)]
 pub struct Verdict {
     pub reply: Reply,
@@ -18,7 +18,7 @@ pub struct Verdict {
 impl Verdict {
     ghost use Rattle.club_core.specs.Verdict as verdicts;
 
-    /// Returns a reply that changes nothing.
+    /// Returns a verdict with this reply and without a change.
     pub fn reply_only(reply: Reply) -> Verdict
         ensures { result ≡ verdicts.reply_only reply }
     {
@@ -28,15 +28,15 @@ impl Verdict {
         }
     }
 
-    /// Returns a refusal, which changes nothing.
+    /// Returns a verdict with this refusal and without a change.
     pub fn refuse(refusal: Refusal) -> Verdict
         ensures { result ≡ verdicts.refusal_verdict refusal }
     {
         Verdict::reply_only(Reply::Refused(refusal))
     }
 
-    /// Returns the reply to a new booking, and the change that inserts its row. The booking's key
-    /// belongs to `member`.
+    /// Returns the reply to a new booking, and the change that inserts the booking's row. The
+    /// booking's key belongs to `member`.
     pub(crate) fn new_booking(booking: Booking, member: &Name) -> Verdict
         ensures { result ≡ verdicts.booked_now booking member.now }
     {
@@ -54,7 +54,7 @@ impl Verdict {
         }
     }
 
-    /// Returns the reply to a cancellation, and the change that records this refund. The booking's
+    /// Returns the reply to a cancellation, and the change that records the refund. The booking's
     /// key belongs to `member`.
     pub(crate) fn new_cancellation(booking: &Booking, member: &Name, refund: u32) -> Verdict
         ensures { result ≡ verdicts.cancelled_now booking.now member.now refund }

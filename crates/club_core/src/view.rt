@@ -1,4 +1,4 @@
-//! Defines the view of a request: the rows and sums that decide the request.
+//! Defines the view of a request: the rows and sums that the rules need to decide the request.
 
 ghost use Rattle.std.specs.Prelude.{◌≡◌, is_some};
 ghost use Rattle.club_core.specs.Looks.{bare_view, books_anew as is_new};
@@ -8,8 +8,8 @@ use club_rows::{Booking, Facility, Key, KeyRow, Member};
 use club_values::Moment;
 use pass_caveats::Ask;
 
-/// The rows and sums that decide a request. A view contains the key of the request's pass, the
-/// key's member, and the state of the requested slot.
+/// The rows and sums that the rules need to decide a request. A view contains the key of the
+/// request's pass, the key's member, and the state of the requested slot.
 #[derive(Clone, Copy, Debug, PartialEq, Eq)]
 pub struct View {
     pub key: KeyRow,
@@ -26,12 +26,11 @@ pub struct View {
     pub taken: u64,
     /// Whether the slot is closed.
     pub closed: bool,
-    /// The key's booking under the request's number, or `None` if the key has no booking under the
-    /// number.
+    /// The key's booking with the request's booking number, or `None` if no such booking exists.
     pub booking: Option<Booking>,
 }
 
-/// A key with its older root, and the view of a request under the key.
+/// A key, including its older root, and the view of a request made with a pass of this key.
 #[derive(Clone, Copy, Debug, PartialEq, Eq)]
 pub struct KeyView {
     pub key: Key,
@@ -41,8 +40,8 @@ pub struct KeyView {
 impl View {
     ghost use Rattle.club_core.specs.Answer.{ask_of, owed_at};
 
-    /// Returns a view with the key's row only. The view has no booking and no facility, and all its
-    /// sums are 0.
+    /// Returns a view that has only the key's row and the name of the key's member. The view has no
+    /// booking and no facility, and all other numbers are 0.
     pub fn of_key(key: &KeyRow) -> View
         ensures { result ≡ bare_view key.now }
     {
@@ -70,7 +69,7 @@ impl View {
         self.booking.is_none() && self.facility.is_some()
     }
 
-    /// Returns the points that the request would charge. Only a booking under an unused number at a
+    /// Returns the points that the request would charge. Only a booking with an unused number at a
     /// known facility charges points.
     fn points_owed(&self, request: &Request) -> u32
         ensures { result ≡ owed_at request.now (is_some self.now.booking) self.now.facility }
