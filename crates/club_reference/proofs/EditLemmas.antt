@@ -3,7 +3,7 @@ use Rattle.std.proofs.Common.{◌≡◌, ℕ, ◌+◌, ◌<◌, zero, suc, List,
 use Rattle.std.proofs.lemmas.List.{get_or-map, length-map}
 use Rattle.std.specs.Prelude.{map, All}
 
--- The list after editing the elements before this index.
+-- The list after `f` has edited the elements before index `i`.
 abbrev pub edited : {X : Type 0} → (X → X) → ℕ → List X → List X
 edited f i xs = map f (take i xs) ++ drop i xs
 

@@ -53,7 +53,7 @@ pub fold_less : {X : Type 0} (f : X → ℕ) (n : ℕ) (xs : List X) → fold (�
 fold_less f n [] = omega arith
 fold_less f n (x ∷ xs) = omega (arith, fold_less f (n - f x) xs, sum_by-cons f x xs)
 
--- The amount that an element adds to a sum. An element that fails the test adds 0.
+-- The amount that an element adds to a sum. An element that fails the test `p` adds 0.
 abbrev pub part : {X : Type 0} → (X → ℕ) → (X → Bool) → X → ℕ
 part f p x = cond (p x) (f x) 0
 
@@ -222,7 +222,9 @@ spent_le : (club : Club) (key member : List ℕ) → is_key_of member club key �
 spent_le club key member held =
     sum_le cost_of (is_under key) (λ (b : Booking). is_key_of member club b.key) club.bookings (λ b. grind (arith, bytes_eq-Decides b.key key))
 
--- A basis contains a key of the club, the bookings of the key's member, and the state of the slot.
+-- The basis agrees with the club: the key belongs to the member, and the bookings are the member's
+-- bookings. For a requested slot, `state.facility` is the slot's facility in the club, and `taken`
+-- is at least the number of persons in the slot.
 record IsBasisIn (club : Club) (request : Request) (basis : Basis) : Type 0 where
   held : is_key_of basis.member.name club basis.key.name ≡ true
   owner : member_named basis.key.member club ≡ Some basis.member

@@ -1,4 +1,4 @@
--- Lemmas about the model of words, and about answers from a key's view.
+-- Lemmas about the model of `Words`, and about answers computed from a view.
 use Rattle.std.proofs.{Common.{arith, ◌≡◌, ℕ, List, [], ◌∷◌, map, Option, Some, None, refl, sym, ap, subst, Decides}, Math.Path.fun_ext}
 use Rattle.std.proofs.lemmas.{Bool.Decides.{same_from_decides, Decides-like, Decides-by_or}, List.Elements.at_from_Contains, Slice.Eq.bytes_eq-Decides}
 use Rattle.std.specs.{List.list_any, Prelude.{Contains, Result, Ok, Err, option_map}, Str.bytes_eq, Vec.vec_items}

@@ -1,4 +1,5 @@
--- Defines a member's bookings in lists of keys and bookings.
+-- Defines which bookings of a list belong to a member. A list of keys tells which keys belong to
+-- the member.
 use Rattle.std.specs.{List.list_any, Prelude.{ℕ, not, Bool, List, filter}, Str.bytes_eq}
 use Rattle.club_rows.specs.declared.{booking.Booking.Booking, key.Key.Key}
 

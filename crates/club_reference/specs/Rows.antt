@@ -1,4 +1,4 @@
--- Defines the club of the rules that lists of rows represent.
+-- Defines how contracts represent the code's lists of rows as a club.
 use Rattle.club_core.specs.{Club.Club as Rows, Run.{Outcome, EventReply}}
 use Rattle.club_reference.specs.declared.club.Club.TheInside.{Inside}
 
@@ -11,6 +11,6 @@ rows_of club = record {
   closed = club.closed.items;
 }
 
--- A reply, and the club after the reply.
+-- The outcome of a step: the reply, and the club after the step.
 abbrev pub outcome : EventReply → Rows → Outcome
 outcome reply club = record { reply = reply; club = club }

@@ -1,4 +1,4 @@
--- Defines how the code's `Words` correspond to the words of the rules.
+-- Defines how the code's `Words` correspond to the `Words` of the rules in `club_core`.
 use Rattle.std.specs.{Prelude.{◌≡◌, ◌↔◌, ℕ, List, map, Contains, IsTrue, Option, Some, None, Result, Ok, Err}, Vec.vec_items}
 use Rattle.pass_caveats.specs.Fault.{AreUnderstoodAs, first_fault_of}
 use Rattle.club_core.specs.{Answer.{answer_by_view, ask_of, form_refusal}, Pass.{Pass, Words, is_signed_under}, Verdict.refusal_verdict}
@@ -6,25 +6,25 @@ use Rattle.club_core.specs.declared.{pass_fault.PassFault.PassFault, refusal.Ref
 use Rattle.club_core.specs.declared.view.KeyView.{KeyView}
 use Rattle.club_reference.specs.declared.words.{Pass.Pass as PassInCode, Words.Words as WordsInCode}
 
--- The model of a pass has the pass's key and the meaning of each caveat. A root signs the model if
--- and only if the root is in the pass's list of roots.
+-- The model of a pass has the pass's key, and the caveat that each caveat text encodes. A root
+-- signs the model if and only if the root is in the pass's list of roots.
 pub record IsPassModel (pass : PassInCode) (model : Pass) : Type 0 where
   pub key : model.key ≡ pass.key
   pub caveats : AreUnderstoodAs (map vec_items pass.caveats.items) model.caveats
   pub signed : (root : List ℕ) → IsTrue (model.is_signed root) ↔ Contains pass.roots.items root
 
--- The model of a parsed pass, or the fault of a text that isn't a pass.
+-- `IsPassModel` defines the model of a parsed pass. The model of a fault is the same fault.
 abbrev pub IsResultModel : Result PassInCode PassFault → Result Pass PassFault → Type 0
 IsResultModel (Ok pass) (Ok model) = IsPassModel pass model
 IsResultModel (Err fault) (Err other) = other ≡ fault
 IsResultModel pass model = ⊥
 
--- The model of words contains the same request, and the model of the pass.
+-- The model of a request with its pass contains the same request, and a model of the pass.
 abbrev pub IsModelOf : WordsInCode → Words → Type 0
 IsModelOf words model = IsResultModel words.pass model.pass × (model.request ≡ words.request)
 
--- The answer to a request with a pass. `seen` is the view of the key that the pass names, or `None`
--- if there is no such key.
+-- The answer to a request with a pass. `seen` contains the key that the pass names and the view of
+-- the request, or is `None` if the club doesn't have this key.
 abbrev pub answer_seen : Result Pass PassFault → Request → ℕ → Option KeyView → Verdict
 answer_seen (Err fault) request moment seen = refusal_verdict (form_refusal fault)
 answer_seen (Ok pass) request moment None = refusal_verdict NotVerified

@@ -12,7 +12,7 @@ impl Club {
     ghost use Rattle.club_reference.specs.{Growth.is_growth, Widths.FitsWidths};
 
     /// Applies a change. Only a change that adds a row needs memory. If memory runs out, the club
-    /// is unchanged.
+    /// doesn't change.
     pub(crate) fn apply(&mut self, change: Change) -> Result<(), AllocError>
         requires { FitsWidths (after change self.old) }
         ensures ok { OnOk result (self.new ≡ after change self.old) }

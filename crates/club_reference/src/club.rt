@@ -8,8 +8,8 @@ use club_values::Slot;
 use std::alloc::{AllocError, Global};
 use std::marker::Model;
 
-/// A club whose rows are in lists, from the oldest row to the newest. In contracts, it is the club
-/// of the rules.
+/// A club whose rows are in lists, from the oldest row to the newest. Contracts represent this club
+/// as a `Club` of the rules in `club_core`.
 #[derive(Drop)]
 pub struct Club {
     pub(crate) members: Vec<Member>,

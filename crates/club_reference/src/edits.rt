@@ -1,4 +1,4 @@
-//! Edits existing rows. Each call edits all rows that match.
+//! Edits existing rows. Each call searches all rows, and edits the rows that the arguments name.
 
 ghost use Rattle.std.specs.Prelude.{◌≡◌, ◌≤◌, map, All};
 ghost use Rattle.club_rows.specs.Limits.{credited_limit};
@@ -143,8 +143,8 @@ fn rotate_row(key: &Key, name: &Name, root: &Root, until: Moment) -> Key
     key
 }
 
-/// Replaces the root of the key with this name. The key's old root becomes its older root, which is
-/// valid before the moment.
+/// Replaces the root of the key with this name. The key's former root becomes the key's older root,
+/// which expires at the moment `until`.
 #[tactic(auto, using(crate::proofs::EditLemmas::edited_more))]
 pub(crate) fn rotate(keys: &mut [Key], name: &Name, root: &Root, until: Moment)
     ensures { keys.new ≡ map (after.rotated_key name.now root.now until) keys.old }

@@ -1,6 +1,6 @@
-//! The reference machine, which carries out each step exactly as the rules define it. The machine
-//! keeps a club's rows in lists and stores no sums, so it is slow. Tests compare faster machines
-//! with the reference machine.
+//! The reference machine, which carries out requests and commands exactly as the rules define them.
+//! The machine is slow because it keeps a club's rows in lists and stores no sums. Tests compare
+//! faster machines with the reference machine.
 #![tactic(auto)]
 
 mod apply;

@@ -1,5 +1,5 @@
-//! Returns the club's rows and sums, so that tests can compare them with another machine's rows and
-//! sums.
+//! Returns the club's rows and balances. Tests compare these values with the rows and balances of
+//! other machines.
 
 ghost use Rattle.std.specs.Prelude.{◌≡◌};
 ghost use Rattle.club_core.specs.Sums as sums;

@@ -1,6 +1,6 @@
-//! The solo machine, which has only one member's part of the club. With each request, the solo
-//! machine gets the number of other members' persons in the slot. The solo machine gets no other
-//! information about other members.
+//! The solo machine, which has only one member's rows and all facilities. For each request, the
+//! caller tells the solo machine the number of persons in the slot without this member's bookings,
+//! and whether the slot is closed. The solo machine gets no other information about other members.
 
 ghost use Rattle.std.specs.Prelude.{◌≡◌, ◌≤◌, ◌<◌, ◌^◌, IfOk, IfSome, OnOk, OnErr, filter};
 ghost use Rattle.std.specs.{Prelude.option_map, Str.bytes_eq};
@@ -57,7 +57,7 @@ fn bookings_of(
         .collect(alloc)
 }
 
-/// Returns the number of other members' persons in the slot.
+/// Returns the number of persons in the slot, without the bookings of `member`.
 fn taken_by_others(keys: &[Key], bookings: &[Booking], member: &Name, slot: &Slot) -> u32
     requires { sums.taken_in slot.now (others_bookings keys.now member.now bookings.now) < 2 ^ 32 }
     ensures { result ≡ sums.taken_in slot.now (others_bookings keys.now member.now bookings.now) }
@@ -70,7 +70,8 @@ fn taken_by_others(keys: &[Key], bookings: &[Booking], member: &Name, slot: &Slo
         .sum()
 }
 
-/// Adds other members' persons in the slot to a view. Marks the slot as closed or open.
+/// Adds the persons in `others` to the persons in the view's slot. Also copies from `others`
+/// whether the slot is closed.
 fn with_outside(seen: Option<KeyView>, others: SlotUse) -> Option<KeyView>
     requires { IfSome seen (λ s. s.view.taken ≤ 50) }
     ensures { result ≡ option_map (with_outside others) seen }
@@ -86,7 +87,7 @@ impl Club {
     ghost use Rattle.club_core.specs.Run.{after_change};
     ghost use Rattle.club_core.specs.Solo as solo;
 
-    /// Returns a member's part of the club, which consists of the member's rows and all facilities.
+    /// Returns a member's part of the club: copies of the member's rows and of all facilities.
     pub fn part(&self, member: &Name) -> Result<Club, AllocError>
         ensures { IfOk result (λ part. part ≡ solo.part_of member.now self.now) }
     {
@@ -104,8 +105,8 @@ impl Club {
         })
     }
 
-    /// Returns the number of other members' persons in the requested slot, and whether the slot is
-    /// closed. If the request has no slot, the number is 0 and the slot isn't closed.
+    /// Returns the number of persons in the slot without the bookings of `member`, and whether the
+    /// slot is closed. If `slot` is `None`, the number is 0 and `closed` is false.
     #[tactic(auto, using(crate::proofs::WidthLemmas::sum_filtered_le))]
     pub fn outside(&self, member: &Name, slot: Option<Slot>) -> SlotUse
         ensures { result ≡ solo.outside member.now self.now slot }
@@ -125,8 +126,8 @@ impl Club {
         }
     }
 
-    /// Returns the answer to a request on a member's part. `others` is the use of the slot by other
-    /// members.
+    /// Returns the answer to a request of one member. `self` is the member's part of the club, and
+    /// `others` is the result of `outside` for the requested slot.
     #[tactic(auto, using(crate::proofs::WordLemmas::answers_seen, crate::proofs::WordLemmas::seen_with_others))]
     fn answer_alone(&self, words: &Words, moment: Moment, others: SlotUse) -> Verdict
         ensures value { result ≡ solo.solo_verdict self.now (words_model words.now) moment others }
@@ -137,9 +138,9 @@ impl Club {
         words.verdict(seen.as_ref(), moment)
     }
 
-    /// Answers a request on a member's part, and applies the request's change. The caller states
-    /// how other members use the slot. Only a new booking needs memory. If memory runs out, the
-    /// part is unchanged.
+    /// Answers a request of one member, and applies the request's change. `self` is the member's
+    /// part of the club, and `others` is the result of `outside` for the requested slot. Only a new
+    /// booking needs memory. If memory runs out, `self` doesn't change.
     ///
     /// # Errors
     ///

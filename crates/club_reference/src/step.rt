@@ -1,4 +1,4 @@
-//! The machine's steps, which are requests and commands.
+//! The machine's steps. Each step answers a request or carries out a command.
 
 ghost use Rattle.std.specs.Prelude.{◌≡◌, IfOk, OnErr};
 ghost use Rattle.club_core.specs.{Answer.verdict_in, Office.office_verdict};
@@ -17,7 +17,8 @@ use std::alloc::AllocError;
 impl Club {
     ghost use Rattle.club_reference.specs.Widths.{FitsWidths};
 
-    /// Returns the reply to a request at a moment, and the change of the request.
+    /// Returns the reply to a request that comes at this moment, and the change that the request
+    /// makes.
     #[tactic(auto, using(crate::proofs::WordLemmas::answers_seen))]
     fn answer(&self, words: &Words, moment: Moment) -> Verdict
         ensures value { result ≡ verdict_in self.now (words_model words.now) moment }
@@ -27,8 +28,8 @@ impl Club {
         words.verdict(self.view_for(words, moment).as_ref(), moment)
     }
 
-    /// Returns the change of a command, or the fault if the rules refuse the command. The change is
-    /// `None` if the command changes nothing.
+    /// Returns the change that a command makes, or the fault if the rules refuse the command. The
+    /// change is `None` if the command changes nothing.
     fn change_of(&self, command: &Command) -> Result<Option<Change>, OfficeFault>
         ensures value { result ≡ office_verdict self.now command.now }
         ensures fits { FitsWidths self.now }
@@ -37,8 +38,8 @@ impl Club {
         decide_command(&self.command_view(command), command)
     }
 
-    /// Answers a request at a moment, and applies the request's change. Only a new booking needs
-    /// memory. If memory runs out, the club is unchanged.
+    /// Answers a request that comes at this moment, and applies the request's change. Only a new
+    /// booking needs memory. If memory runs out, the club doesn't change.
     ///
     /// # Errors
     ///
@@ -63,7 +64,7 @@ impl Club {
     }
 
     /// Answers a command of the office, and applies the command's change. Only a new row needs
-    /// memory. If memory runs out, the club is unchanged.
+    /// memory. If memory runs out, the club doesn't change.
     ///
     /// # Errors
     ///

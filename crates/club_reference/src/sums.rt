@@ -59,7 +59,7 @@ pub(crate) fn most_persons_at(bookings: &[Booking], facility: &Name) -> u32
         )
 }
 
-/// Returns the points that the key has spent on the member's bookings.
+/// Returns the points that the key `name` has spent. Only the member's bookings count.
 pub(crate) fn spent(keys: &[Key], bookings: &[Booking], member: &Name, name: &Name) -> u64
     requires { sums.spent_under name.now (own_bookings keys.now member.now bookings.now) < 2 ^ 64 }
     ensures { result ≡ sums.spent_under name.now (own_bookings keys.now member.now bookings.now) }
@@ -95,8 +95,8 @@ pub(crate) fn balance(keys: &[Key], bookings: &[Booking], member: &Member) -> u3
     left_of(keys, bookings, member)
 }
 
-/// Returns the number of the member's open bookings at this moment. The slot of an open booking
-/// begins after the moment.
+/// Returns the number of the member's open bookings at this moment. An open booking isn't
+/// cancelled, and its slot begins after the moment.
 pub(crate) fn open_count(keys: &[Key], bookings: &[Booking], member: &Name, moment: Moment) -> u64
     ensures { result ≡ sums.count_to_come moment (own_bookings keys.now member.now bookings.now) }
 {
@@ -107,7 +107,7 @@ pub(crate) fn open_count(keys: &[Key], bookings: &[Booking], member: &Name, mome
         .count() as u64
 }
 
-/// Returns the booking with this key and this number, for any member.
+/// Returns the booking with this key and this number. The key may belong to any member.
 pub(crate) fn booking_under(
     bookings: &[Booking],
     name: &Name,
@@ -121,7 +121,7 @@ pub(crate) fn booking_under(
         .copied()
 }
 
-/// Returns the member's booking with this key and this number.
+/// Returns the booking with this key and this number, if the key belongs to the member.
 pub(crate) fn recorded_booking(
     keys: &[Key],
     bookings: &[Booking],

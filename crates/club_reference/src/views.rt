@@ -1,5 +1,5 @@
-//! The views of requests and commands. A view contains the rows and sums that the rules need for
-//! their decision.
+//! The views of requests and commands. A view contains the rows and sums that the rules need to
+//! decide a request or a command.
 
 ghost use Rattle.std.specs.Prelude.{◌≡◌, ◌≤◌, IfSome, option_map};
 ghost use Rattle.club_core.specs.Office.{rows_seen};
@@ -35,8 +35,8 @@ impl Club {
     ghost use Rattle.club_core.specs.{Basis.slot_use_by, Office.command_view};
     ghost use Rattle.club_reference.specs.computed.Words.{words_model};
 
-    /// Returns the number of persons in a slot, and whether the slot is closed. Without a slot, the
-    /// number is 0 and the slot isn't closed.
+    /// Returns the number of persons in a slot, and whether the slot is closed. If `slot` is
+    /// `None`, the number is 0 and `closed` is false.
     fn slot_use(&self, slot: Option<Slot>) -> SlotUse
         ensures value { result ≡ slot_use_by self.now.bookings self.now slot }
         ensures few { result.taken ≤ 50 }
@@ -53,7 +53,8 @@ impl Club {
         }
     }
 
-    /// Returns the view of a request under a key. Returns `None` if the key's member doesn't exist.
+    /// Returns the view of a request that is made with this key. Returns `None` if the key's member
+    /// doesn't exist.
     #[tactic(auto, using(crate::proofs::WidthLemmas::sum_filtered_le))]
     fn view_of(&self, key: &Key, request: &Request, moment: Moment) -> Option<KeyView>
         ensures few { IfSome result (λ seen. seen.view.taken ≤ 50) }
@@ -85,8 +86,8 @@ impl Club {
         Some(KeyView { key: *key, view })
     }
 
-    /// Returns the view of a request under the key that the pass names. Returns `None` if there is
-    /// no such key.
+    /// Returns the view of a request for the key that the pass names. Returns `None` if the pass
+    /// names no key of the club.
     pub(crate) fn view_for(&self, words: &Words, moment: Moment) -> Option<KeyView>
         ensures value { result
             ≡ option_map (seen_of words.now.request moment)
@@ -112,7 +113,7 @@ impl Club {
     }
 
     /// Returns the view of a command. The view contains the rows that the command names, and the
-    /// sums that the rules need for their decision.
+    /// sums that the rules need to decide the command.
     pub(crate) fn command_view(&self, command: &Command) -> CommandView
         ensures { result ≡ command_view self.now command.now }
     {

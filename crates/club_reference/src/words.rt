@@ -1,4 +1,4 @@
-//! A parsed pass, and a request with its pass.
+//! Defines a parsed pass, and a request with a parsed pass.
 
 ghost use Rattle.std.specs.{Option.option_copied, Prelude.{◌≡◌}};
 ghost use Rattle.club_core.specs.Pass as rules;
@@ -14,14 +14,14 @@ use pass_caveats::{Ask, CaveatFault, first_fault};
 pub struct Pass {
     /// The name of the key in the identifier, or `None` if the identifier names no key.
     pub key: Option<Name>,
-    /// The texts of the caveats, in the order in the pass.
+    /// The texts of the caveats, in the order of the pass.
     pub caveats: Vec<Vec<u8>>,
-    /// The roots under which the pass is signed.
+    /// The roots that sign the pass.
     pub roots: Vec<Root>,
 }
 
-/// A request with its parsed pass. If the text isn't a pass, the value contains the fault instead
-/// of the pass. The form of the pass isn't included.
+/// A request with its parsed pass. If the pass's text has a fault, `pass` contains the fault. The
+/// value doesn't record in which form (V1, V2 or JSON) the pass was written.
 #[derive(Drop)]
 pub struct Words {
     pub pass: Result<Pass, PassFault>,
@@ -33,14 +33,14 @@ impl Pass {
     ghost use Rattle.club_core.specs.Pass.{is_signed_under};
     ghost use Rattle.club_reference.specs.computed.Words.{pass_model};
 
-    /// Returns true if the pass is signed under this root.
+    /// Returns true if this root signs the pass.
     fn is_signed(&self, root: &Root) -> bool
         ensures { result ≡ (pass_model self.now).is_signed root.now }
     {
         self.roots.iter().any(|signing| *signing == *root)
     }
 
-    /// Returns true if the pass is signed under a root of the key that is valid at the moment.
+    /// Returns true if a root of the key signs the pass and is valid at the moment.
     pub fn is_signed_under(&self, key: &Key, moment: Moment) -> bool
         ensures { result ≡ is_signed_under (pass_model self.now) key.now moment }
     {
@@ -53,7 +53,8 @@ impl Pass {
         }
     }
 
-    /// Returns the first caveat that isn't understood or that denies the request.
+    /// Returns the fault of the first caveat that isn't understood or that denies the request.
+    /// Returns `None` if every caveat allows the request.
     pub fn first_fault(&self, ask: &Ask) -> Option<CaveatFault>
         ensures { result ≡ first_fault_of (pass_model self.now).caveats ask.now }
     {
@@ -66,8 +67,8 @@ impl Words {
     ghost use Rattle.club_reference.specs.Words.{IsModelOf, answer_seen};
     ghost use Rattle.club_reference.specs.computed.Words.{words_model};
 
-    /// Returns the name of the key in the pass. Returns `None` if the text isn't a pass, or if its
-    /// identifier names no key.
+    /// Returns the name of the key in the pass. Returns `None` if the pass's text has a fault, or
+    /// if the pass's identifier names no key.
     pub fn key(&self) -> Option<Name>
         ensures { result ≡ key_of (words_model self.now).pass }
     {
@@ -77,8 +78,9 @@ impl Words {
         }
     }
 
-    /// Returns the answer and the change of the request. `seen` is the view of the key that the
-    /// pass names, or `None` if the club has no such key.
+    /// Returns the reply to the request, and the change that the request makes. `seen` contains the
+    /// key that the pass names and the view of the request, or is `None` if the club doesn't have
+    /// this key.
     pub fn answer(&self, seen: Option<&KeyView>, moment: Moment) -> Verdict
         ensures { (model : rules.Words) × IsModelOf self.now model
             × (result ≡ answer_seen model.pass model.request moment (option_copied seen.entry)) }
@@ -87,8 +89,8 @@ impl Words {
         self.verdict(seen, moment)
     }
 
-    /// Returns the answer. The contract describes the answer through the computed model of the
-    /// words.
+    /// Returns the same verdict as `answer`. The contract of this function uses the model that
+    /// `words_model` computes.
     pub(crate) fn verdict(&self, seen: Option<&KeyView>, moment: Moment) -> Verdict
         ensures { result
             ≡ answer_seen (words_model self.now).pass self.now.request moment

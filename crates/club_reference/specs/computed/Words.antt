@@ -1,5 +1,5 @@
--- Computes the model of the code's words. `IsModelOf` defines the model, and a law states that the
--- computed model agrees with `IsModelOf`.
+-- Computes the model of the code's `Words`. `IsModelOf` defines the model, and a law states that
+-- the computed model agrees with `IsModelOf`.
 use Rattle.std.specs.{List.list_any, Prelude.{map, Result, Ok, Err}, Str.bytes_eq, Vec.vec_items}
 use Rattle.pass_caveats.specs.computed.CaveatOf.{caveat_of}
 use Rattle.club_core.specs.{Pass.{Pass, Words}, declared.pass_fault.PassFault.PassFault}

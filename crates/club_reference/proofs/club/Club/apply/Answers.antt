@@ -4,7 +4,7 @@ use Rattle.club_core.specs.{After.{after, cancelled_booking}, Club.Club, declare
 use Rattle.club_reference.specs.{Rows.rows_of, Widths.FitsWidths}
 use Rattle.club_reference.proofs.club.Club.apply.Goals as goal
 
--- The vector contains the bookings after the cancellation.
+-- After a cancellation, the club still satisfies its invariant.
 pub invariant_of-self-in-MarkCancelled : goal.invariant_of-self-in-MarkCancelled
 invariant_of-self-in-MarkCancelled c =
     let inside = c.self.inside in
