@@ -15,7 +15,7 @@ number_again q r n b test low high small e = grind (arith, month_and_day r small
 day_again : (n : ℕ) → IsDay n → number_of_date (year_of n) (month_of n) (day_of_month n) ≡ n
 day_again n h = grind (arith, march_year_bounds, number_again)
 
--- The four digits of a year encode this year.
+-- The formula that reads the four digits of a year returns this year.
 year_again : (y : ℕ) → 100 * (10 * (48 + y / 100 / 10 - 48) + (48 + y / 100 % 10 - 48)) + (10 * (48 + y % 100 / 10 - 48) + (48 + y % 100 % 10 - 48)) ≡ y
 year_again y = omega arith
 

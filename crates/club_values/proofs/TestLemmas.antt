@@ -1,4 +1,4 @@
--- Lemmas on Boolean tests: each test returns true if and only if the tested property holds.
+-- Lemmas on Boolean tests: each test returns true if and only if the property that it tests holds.
 use Rattle.std.proofs.Common.{◌≡◌, ℕ, ◌≤◌, true, nat_le, List, length, refl, arith, Decides}
 use Rattle.std.proofs.lemmas.Bool.Decides.{Decides-like, Decides-and, Decides-not, Decides-ltb, Decides-eqb, Decides-by_and, leb_tells}
 use Rattle.std.specs.{Int.{IsInRange, is_in_range}, List.list_all}

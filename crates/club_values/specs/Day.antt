@@ -3,8 +3,8 @@ use Rattle.std.specs.Prelude.{◌≡◌, ℕ, ◌+◌, ◌-◌, ◌*◌, ◌/◌
 use Rattle.jiff_core.specs.{Calendar.{IsCivilDate, days_from_civil}, declared.civil.date.Date.Date}
 use Rattle.club_values.specs.Digits.{two_digits, four_digits}
 
--- The first supported day is 2000-01-01, and the last supported day is 2099-12-31. Each day is a
--- number of days since 1970-01-01.
+-- The first supported day is 2000-01-01, and the last supported day is 2099-12-31. Each day is
+-- represented by the number of days since 1970-01-01.
 abbrev pub first_day : ℕ
 first_day = 10_957
 
@@ -23,7 +23,8 @@ date_text year month day = four_digits year ++ 45 ∷ two_digits month ++ 45 ∷
 abbrev pub IsDateOf : ℕ → ℕ → ℕ → ℕ → Type 0
 IsDateOf year month day n = IsCivilDate (pos year) month day × (days_from_civil (pos year) month day ≡ pos n)
 
--- The text encodes a real date from 2000 to 2099, and `n` is the day of this date.
+-- The text encodes a real date from 2000 to 2099, and `n` is the number of days from 1970-01-01 to
+-- this date.
 pub record SpellsDay (text : List ℕ) (n : ℕ) : Type 0 where
   pub year : ℕ
   pub month : ℕ
@@ -39,19 +40,19 @@ pub record AreDateParts (text : List ℕ) (year month day : ℕ) : Type 0 where
   pub short_day : day < 100
   pub spelling : text ≡ date_text year month day
 
--- The text is the text of this date, and the year of the date isn't negative.
+-- The text encodes this date in the form `YYYY-MM-DD`, and the year of the date isn't negative.
 pub record IsDateText (text : List ℕ) (date : Date) : Type 0 where
   pub year : ℕ
   pub same_year : date.year ≡ pos year
   pub spelling : text ≡ date_text year date.month date.day
 
--- The next functions compute the date of a day, with years that begin on 1 March. The last day of
--- such a year is the leap day, if the year has a leap day. Day 9556 is 1996-03-01. The function
--- `march_year` counts the years since 1996-03-01.
+-- `march_year` and the functions below compute the date of a day. These functions use years that
+-- begin on 1 March, so a leap day is always the last day of its year. Day 9556 is 1996-03-01. The
+-- function `march_year` returns the number of complete years since 1996-03-01.
 abbrev pub march_year : ℕ → ℕ
 march_year n = (4 * (n - 9556) + 3) / 1461
 
--- The number of days since the last 1 March.
+-- The number of days since the most recent 1 March.
 abbrev pub day_of_march_year : ℕ → ℕ
 day_of_march_year n = n - 9556 - 1461 * march_year n / 4
 

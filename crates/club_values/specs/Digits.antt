@@ -1,4 +1,4 @@
--- Decimal digits of numbers, with a fixed number of digits.
+-- Numbers written with a fixed number of decimal digits.
 use Rattle.std.specs.Prelude.{ℕ, ◌+◌, ◌/◌, ◌%◌, List, [], ◌∷◌, ◌++◌}
 
 -- The two decimal digits of a number below 100.

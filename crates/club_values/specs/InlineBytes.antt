@@ -1,4 +1,4 @@
--- Short strings of bytes, stored in a buffer of fixed length.
+-- Byte strings of a limited length, stored in a buffer of fixed length.
 use Rattle.std.specs.Prelude.{◌≡◌, ℕ, ◌-◌, ◌≤◌, List, ◌++◌, length, take, replicate}
 use Rattle.std.proofs.{Common.{sym, ap, ◌∙◌}, lemmas.List.length-take-le}
 use Rattle.club_values.specs.declared.inline_bytes.InlineBytes.TheInside.{Inside}

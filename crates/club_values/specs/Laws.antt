@@ -1,4 +1,4 @@
--- Laws of the definitions of texts and values.
+-- Laws about the values that texts encode.
 use Rattle.std.specs.Prelude.{◌≡◌, ◌↔◌, ℕ, List, Some}
 use Rattle.club_values.specs.{Action.action_text, Day.{IsDay, SpellsDay, day_text}, Hour.SpellsHour, Kind.kind_text}
 use Rattle.club_values.specs.{Moment.{IsMoment, SpellsMoment, moment_text}, Name.IsName, Number.SpellsNumber}
@@ -6,7 +6,8 @@ use Rattle.club_values.specs.computed.TextOf.{name_of_text, decimal_of_text, kin
 use Rattle.club_values.specs.declared.{action.Action.Action, kind.Kind.Kind}
 
 -- Each function `.._of_text` returns a value if and only if the text encodes this value. In these
--- laws, the text may be any list of numbers. The value of a name is the text itself.
+-- laws, the text may be any list of natural numbers. If the text is a name, the value is the text
+-- itself.
 abbrev pub ReadsNames : Type 0
 ReadsNames = (text name : List ℕ) → (name_of_text text ≡ Some name) ↔ (IsName text × (name ≡ text))
 
@@ -28,11 +29,11 @@ ReadsHours = (text : List ℕ) (n : ℕ) → (hour_of_text text ≡ Some n) ↔ 
 abbrev pub ReadsMoments : Type 0
 ReadsMoments = (text : List ℕ) (n : ℕ) → (moment_of_text text ≡ Some n) ↔ SpellsMoment text n
 
--- A text encodes a day if and only if it is the text that `day_text` returns for this day.
+-- A text encodes a day if and only if `day_text` returns this text for the day.
 abbrev pub IsTextOfDay : Type 0
 IsTextOfDay = (text : List ℕ) (n : ℕ) → SpellsDay text n ↔ (IsDay n × (text ≡ day_text n))
 
--- A text encodes a moment if and only if it is the text that `moment_text` returns for this moment.
+-- A text encodes a moment if and only if `moment_text` returns this text for the moment.
 abbrev pub IsTextOfMoment : Type 0
 IsTextOfMoment = (text : List ℕ) (n : ℕ) → SpellsMoment text n ↔ (IsMoment n × (text ≡ moment_text n))
 

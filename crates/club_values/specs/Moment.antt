@@ -8,8 +8,8 @@ minutes_an_hour = 60
 abbrev pub minutes_a_day : ℕ
 minutes_a_day = hours_a_day * minutes_an_hour
 
--- The first moment is 2000-01-01T00:00, and the last moment is 2099-12-31T23:59. Each moment is a
--- number of minutes since 1970-01-01T00:00.
+-- The first moment is 2000-01-01T00:00, and the last moment is 2099-12-31T23:59. Each moment is
+-- represented by the number of minutes since 1970-01-01T00:00.
 abbrev pub first_moment : ℕ
 first_moment = first_day * minutes_a_day
 

@@ -1,4 +1,4 @@
--- Limits of bookings, and the start of a slot. A slot is an hour of a facility on a day.
+-- The start of a slot, and the limit for guests. A slot is one hour at one facility on one day.
 use Rattle.std.specs.Prelude.{ℕ, ◌+◌, ◌*◌}
 use Rattle.club_values.specs.{Moment.{minutes_a_day, minutes_an_hour}, declared.slot.Slot.Slot}
 

@@ -42,8 +42,8 @@ impl Model for Day {
     ghost inverse = { λ n. record { number = n } };
 }
 
-/// Returns the year, month and day of a text `YYYY-MM-DD`, or `None` for any other text. The three
-/// numbers needn't be a real date.
+/// Returns the year, month and day in a text `YYYY-MM-DD`, or `None` for any other text. The three
+/// numbers needn't form a real date.
 fn parts_of(text: &[u8]) -> Option<(u16, u8, u8)>
     ensures { Reads (λ p. AreDateParts text.now p.0 p.1 p.2) result }
 {
@@ -57,7 +57,7 @@ fn parts_of(text: &[u8]) -> Option<(u16, u8, u8)>
     Some((u16::from(century) * 100 + u16::from(year), month, day))
 }
 
-/// Returns the date of a text `YYYY-MM-DD`, or `None` if the text isn't a real date.
+/// Returns the date that a text `YYYY-MM-DD` encodes, or `None` if the text isn't a real date.
 fn date_of(text: &[u8]) -> Option<Date>
     ensures { Reads (IsDateText text.now) result }
 {
@@ -73,7 +73,8 @@ fn day_in(text: &[u8]) -> Option<Day>
 }
 
 impl Day {
-    /// Returns the day with this number of days since 1970-01-01, or `None` if it is out of range.
+    /// Returns the day with this number of days since 1970-01-01, or `None` if the number is out of
+    /// range.
     pub fn from_number(number: u16) -> Option<Day>
         ensures within { IsSome result ↔ IsDay number }
         ensures value { IfSome result (λ day. day ≡ number) }
@@ -92,7 +93,7 @@ impl Day {
         self.number
     }
 
-    /// Returns the day of a date, or `None` if the date is out of range.
+    /// Returns the date as a `Day`, or `None` if the date is out of range.
     pub fn from_date(date: Date) -> Option<Day>
         ensures { Reads (λ day. IsDay day × (epoch_day date ≡ pos day)) result }
     {
@@ -138,7 +139,8 @@ impl Day {
         [y1, y2, y3, y4, b'-', m1, m2, b'-', d1, d2]
     }
 
-    /// Returns the day of a text `YYYY-MM-DD`, or `None` if the text isn't a real date in range.
+    /// Returns the day that a text `YYYY-MM-DD` encodes, or `None` if the text isn't a real date in
+    /// range.
     pub fn read(text: &[u8]) -> Option<Day>
         ensures spelled { Reads (SpellsDay text.now) result }
         ensures function { result ≡ day_of_text text.now }

@@ -61,7 +61,7 @@ impl Hour {
         self.number
     }
 
-    /// Returns the hour of a text of two digits, `00` to `23`, or `None` for any other text.
+    /// Returns the hour that two digits from `00` to `23` encode, or `None` for any other text.
     pub fn read(text: &[u8]) -> Option<Hour>
         ensures spelled { Reads (SpellsHour text.now) result }
         ensures function { result ≡ hour_of_text text.now }
@@ -69,7 +69,7 @@ impl Hour {
         hour_in(text)
     }
 
-    /// Returns the text of the hour, two digits.
+    /// Returns the hour as two digits.
     pub fn text(self) -> [u8; 2]
         ensures value { result ≡ digits.two_digits self }
         ensures spelled { SpellsHour result self }

@@ -1,4 +1,4 @@
-//! Short strings of bytes, stored without a heap allocation.
+//! Byte strings of a limited length, stored without a heap allocation.
 
 ghost use Rattle.std.specs.Prelude.{◌≡◌, ◌≤◌, ◌↔◌, length, IsSome, IfSome};
 

@@ -1,11 +1,12 @@
-//! Laws of the definitions of texts and values. Each law is the contract of a function with an
-//! empty body.
+//! Laws about the values that texts encode. Each law is the contract of a function with an empty
+//! body.
 
 ghost use Rattle.club_values.specs.Laws.{ReadsNames, ReadsNumbers, ReadsKinds, ReadsActions};
 ghost use Rattle.club_values.specs.Laws.{ReadsDays, ReadsHours, ReadsMoments, IsTextOfDay};
 ghost use Rattle.club_values.specs.Laws.{IsTextOfMoment, DistinctDayTexts, DistinctMomentTexts};
 
-/// `name_of_text` returns a name if and only if the text is a name. The name is the text itself.
+/// `name_of_text` returns a name if and only if the text is a name. The returned name is the text
+/// itself.
 pub fn reads_names()
     ensures { ReadsNames }
 {}
@@ -15,13 +16,13 @@ pub fn reads_numbers()
     ensures { ReadsNumbers }
 {}
 
-/// `kind_of_text` returns a kind if and only if the text is the text of this kind.
+/// `kind_of_text` returns a kind if and only if the argument is the text of this kind.
 #[tactic(auto, using(crate::proofs::TextOfLemmas::reads_kinds))]
 pub fn reads_kinds()
     ensures { ReadsKinds }
 {}
 
-/// `action_of_text` returns an action if and only if the text is the text of this action.
+/// `action_of_text` returns an action if and only if the argument is the text of this action.
 #[tactic(auto, using(crate::proofs::TextOfLemmas::reads_actions))]
 pub fn reads_actions()
     ensures { ReadsActions }
@@ -42,13 +43,12 @@ pub fn reads_moments()
     ensures { ReadsMoments }
 {}
 
-/// A text encodes a day if and only if it is the text that `day_text` returns for this day.
+/// A text encodes a day if and only if `day_text` returns this text for the day.
 pub fn is_text_of_day()
     ensures { IsTextOfDay }
 {}
 
-/// A text encodes a moment if and only if it is the text that `moment_text` returns for this
-/// moment.
+/// A text encodes a moment if and only if `moment_text` returns this text for the moment.
 pub fn is_text_of_moment()
     ensures { IsTextOfMoment }
 {}

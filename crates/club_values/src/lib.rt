@@ -1,5 +1,6 @@
-//! The values of the club: names, kinds, actions, days, hours, moments and slots. Each value except
-//! a slot has exactly one text. The functions of this crate allocate no memory.
+//! The values in the club's rows and requests: names, kinds of facilities, actions, days, hours,
+//! moments and slots. Each value except a slot has exactly one text. The functions of this crate
+//! allocate no memory.
 #![tactic(auto)]
 
 mod action;

@@ -45,7 +45,8 @@ impl Model for Moment {
     ghost inverse = { λ n. record { number = n } };
 }
 
-/// Returns the number of minutes since midnight for a text `THH:MM`, or `None` for any other text.
+/// Returns the number of minutes from midnight to the time in a text `THH:MM`, or `None` for any
+/// other text.
 fn minute_of(text: &[u8]) -> Option<u16>
     ensures { Reads (SpellsTime text.now) result }
 {
@@ -74,8 +75,8 @@ fn moment_in(text: &[u8]) -> Option<Moment>
 }
 
 impl Moment {
-    /// Returns the moment with this number of minutes since 1970-01-01T00:00, or `None` if it is
-    /// out of range.
+    /// Returns the moment with this number of minutes since 1970-01-01T00:00, or `None` if the
+    /// number is out of range.
     pub fn from_number(number: u32) -> Option<Moment>
         ensures within { IsSome result ↔ IsMoment number }
         ensures value { IfSome result (λ moment. moment ≡ number) }
@@ -86,8 +87,8 @@ impl Moment {
         Some(Moment { number })
     }
 
-    /// Returns the moment at this minute of a day, or `None` if the minute is 1,440 or more.
-    /// Minutes of a day count from 0.
+    /// Returns the moment at this minute of a day, or `None` if the minute is 1,440 or more. The
+    /// minutes of a day are numbered from 0.
     pub fn new(day: Day, minute: u16) -> Option<Moment>
         ensures within { IsSome result ↔ (minute < minutes_a_day) }
         ensures value { IfSome result (λ moment. moment ≡ day * minutes_a_day + minute) }
@@ -125,8 +126,8 @@ impl Moment {
         (self.number % u32::from(MINUTES_A_DAY)) as u16
     }
 
-    /// Returns the moment of a text `YYYY-MM-DDTHH:MM`, or `None` if the text isn't a real time in
-    /// range.
+    /// Returns the moment that a text `YYYY-MM-DDTHH:MM` encodes, or `None` if the text isn't a
+    /// real date and time in range.
     pub fn read(text: &[u8]) -> Option<Moment>
         ensures spelled { Reads (SpellsMoment text.now) result }
         ensures function { result ≡ moment_of_text text.now }

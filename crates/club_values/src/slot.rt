@@ -1,4 +1,4 @@
-//! Slots. A slot is an hour of a facility on a day.
+//! Slots. A slot is one hour at one facility on one day.
 
 ghost use Rattle.std.specs.Prelude.{◌≡◌, ◌+◌, ◌≤◌};
 ghost use Rattle.club_values.specs.Moment.{last_moment, minutes_an_hour};
@@ -11,7 +11,7 @@ use crate::name::Name;
 /// The maximum number of guests in a booking. The member who books isn't a guest.
 pub const MAX_GUESTS: u8 = 49;
 
-/// A slot: an hour of a facility on a day.
+/// A slot: one hour at one facility on one day.
 #[derive(Clone, Copy, Debug, PartialEq, Eq)]
 pub struct Slot {
     pub facility: Name,

@@ -1,6 +1,6 @@
--- Functions that compute the values of texts. `IsName`, `SpellsDay` and similar definitions
--- describe the same values without computing them. The contracts of the parsers use the functions
--- and the descriptions.
+-- Functions that compute the value that a text encodes. `IsName`, `SpellsDay` and similar
+-- definitions describe the same values without computing them. The contracts of the parsers use
+-- both the functions and the descriptions.
 use Rattle.std.specs.{Int.is_in_range, List.list_all}
 use Rattle.std.specs.Prelude.{ℕ, ◌+◌, ◌-◌, ◌*◌, ◌/◌, ◌==◌, ◌&&◌, not, Bool, true, List, length, slice_index, nat_lt, nat_le, if◌then◌else◌, Option, Some, None}
 use Rattle.std.specs.Str.{bytes_eq}
@@ -14,7 +14,7 @@ is_name bytes =
     nat_lt 0 (length bytes) && nat_le (length bytes) max_name_len && list_all is_name_byte bytes
     && not (slice_index bytes 0 == 45)
 
--- The number encoded by the two digits at index `i` of the text.
+-- The number encoded by the two digits that start at index `i` of the text.
 abbrev pub two_at : List ℕ → ℕ → ℕ
 two_at text i = 10 * (slice_index text i - 48) + (slice_index text (i + 1) - 48)
 
@@ -25,7 +25,8 @@ number_of_date year month day =
     let march_month = if nat_lt month 3 then month + 12 else month in
     9556 + 365 * years + years / 4 + (153 * march_month - 457) / 5 + (day - 1)
 
--- The day or the moment encoded by the digits at the start of the text.
+-- The day or the moment that the digits at the start of the text encode. `day_of` and `moment_of`
+-- don't check the text.
 abbrev pub day_of : List ℕ → ℕ
 day_of text = number_of_date (100 * two_at text 0 + two_at text 2) (two_at text 5) (two_at text 8)
 
