@@ -20,8 +20,8 @@ pub record IsAcceptedPass (pass : Pass) (request : Request) (moment : ℕ) (basi
   pub not_revoked : basis.key.revoked ≡ false
   pub permission : All (IsAllowedBy (ask_of (view_of basis request moment) request moment)) pass.caveats
 
--- The request has a valid pass that names a key of the club, and the desk accepts this pass for the
--- request.
+-- The request has a decoded pass that names a key of the club, and the desk accepts this pass for
+-- the request.
 pub record IsAcceptedIn (club : Club) (words : Words) (moment : ℕ) : Type 0 where
   pub pass : Pass
   pub basis : Basis
@@ -29,7 +29,7 @@ pub record IsAcceptedIn (club : Club) (words : Words) (moment : ℕ) : Type 0 wh
   pub known : basis_of club words ≡ Some basis
   pub acceptance : IsAcceptedPass pass words.request moment basis
 
--- The request has a valid pass that allows the request. The pass names a key of the club, and the
+-- The request has a decoded pass that allows the request. The pass names a key of the club, and the
 -- key isn't revoked. A root of the key signs the pass, and that root is valid when the request
 -- comes. Each caveat of the pass allows the request.
 pub record IsEntitled (club : Club) (words : Words) (moment : ℕ) : Type 0 where

@@ -84,8 +84,8 @@ view_of basis request moment = record {
   booking = option_and_then (λ (number : ℕ). booking_under basis.key.name number basis.bookings) (request_number request);
 }
 
--- The view of a request that is made with the key that has this name. The view is `None` if no key
--- has this name.
+-- The view of a request that is made with the key named `key`. The view is `None` if no key has
+-- this name.
 abbrev pub view_in : Club → List ℕ → Request → ℕ → Option View
 view_in club key request moment =
     option_map (λ (basis : Basis). view_of basis request moment)

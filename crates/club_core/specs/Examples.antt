@@ -41,7 +41,7 @@ soon = 29_627_580
 abbrev pub late : ℕ
 late = 29_627_641
 
--- A request with a valid pass of the key amy-1. The pass has these caveats.
+-- A request with a signed pass of the key amy-1. The pass has these caveats.
 abbrev pub ask_with : List (Option Caveat) → Request → ℕ → Event
 ask_with caveats request moment =
     Asked (record { pass = Ok (record { key = Some (codes "amy-1"); caveats = caveats; is_signed = λ _. true }); request = request }) moment
@@ -65,8 +65,8 @@ BooksAndCancels =
     (ask (asked.Book (slot_at 18) 7 2) noon ∷ ask asked.Account noon ∷ ask (asked.Cancel (slot_at 18) 7) noon ∷ [])
     ≡ served_booking 7 600 1 ∷ account 9_400 1 600 ∷ served_cancellation 7 600 ∷ []
 
--- If a member repeats a booking request, the reply is the same as the first time, even after a
--- cancellation and after the slot has begun. The repeated request charges nothing.
+-- If a member repeats a booking request, the reply is the same as the first time, even after the
+-- booking's cancellation and after the slot has begun. The repeated request charges nothing.
 abbrev pub RepeatsAfterACancellation : Type 0
 RepeatsAfterACancellation =
     replies_of opened_club

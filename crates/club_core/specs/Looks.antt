@@ -8,7 +8,7 @@ use Rattle.club_core.specs.{Answer.ask_of, Verdict.verdict_of, declared.{request
 use Rattle.club_core.specs.declared.request.Request.TheVariants as asked
 
 -- A view that has only the key's row and the name of the key's member. The view has no booking and
--- no facility, and all other numbers are 0.
+-- no facility, and all its numbers are 0.
 abbrev pub bare_view : KeyRow → View
 bare_view key = record {
   key = key;

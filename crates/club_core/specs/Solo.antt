@@ -1,7 +1,7 @@
 -- Defines the rows and events on which a member's replies depend. The rows are the member's row,
 -- keys and bookings, and all facilities. The events are the member's requests, and the office's
--- changes to these rows. Each request comes with the number of persons that other members bring to
--- the slot, and whether the slot is closed.
+-- changes to these rows. Each request comes with the number of persons in the slot without the
+-- member's bookings, and whether the slot is closed.
 use Rattle.std.specs.Prelude.{ℕ, ◌+◌, not, Bool, true, false, List, [], ◌∷◌, ◌++◌, filter, Option, Some, None, Result, Ok, Err, option_map, if◌then◌else◌}
 use Rattle.std.specs.Str.{bytes_eq}
 use Rattle.club_values.specs.declared.slot.Slot.{Slot}
@@ -21,7 +21,7 @@ abbrev pub outside : List ℕ → Club → Option Slot → SlotUse
 outside member club slot = slot_use_by (bookings_of_others member club) club slot
 
 -- An event that concerns one member: a request with a key of the member, or a change by the office
--- of the rows in `part_of`. For the slot of a request, `others` contains the number of persons
+-- to the rows in `part_of`. For the slot of a request, `others` contains the number of persons
 -- without the member's bookings, and whether the slot is closed.
 pub data OwnEvent : Type 0 where
   OwnAsk : (words : Words) (moment : ℕ) (others : SlotUse) → OwnEvent
@@ -75,8 +75,8 @@ part_of name club = record {
   closed = [];
 }
 
--- The basis after adding the persons in `others` to the persons in the slot. `others` also says
--- whether the slot is closed.
+-- The basis after adding the persons in `others` to the persons in the slot. The value of `closed`
+-- also comes from `others`.
 abbrev pub with_others : SlotUse → Basis → Basis
 with_others others basis = record basis {
   state = record basis.state {

@@ -13,7 +13,7 @@ pub struct MemberAccount {
 }
 
 impl MemberAccount {
-    /// Returns the points that the member has spent: `credited` minus `balance`.
+    /// Returns the points that the member has spent with all keys: `credited` minus `balance`.
     pub fn used(&self) -> u32
         ensures { result ≡ self.now.member.credited - self.now.balance }
     {

@@ -3,8 +3,9 @@
 use club_rows::{Booking, Facility, Key, Member, Root};
 use club_values::{Moment, Name, Slot};
 
-/// A change of the club's rows. Some changes contain row values on which the decision was based. A
-/// store refuses such a change if the rows no longer have these values.
+/// A change of the club's rows. A store doesn't read the rows before it applies a change. Some
+/// changes contain row values on which the decision was based. The store refuses such a change if
+/// the rows no longer have these values.
 #[derive(Clone, Copy, Debug, PartialEq, Eq)]
 pub enum Change {
     InsertMember(Member),

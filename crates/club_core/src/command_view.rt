@@ -5,7 +5,8 @@ use crate::slot_use::SlotUse;
 use club_rows::{Booking, Facility, Key, Member};
 
 /// The rows and sums that the rules need to decide a command. A field that the command doesn't need
-/// is `None` or 0. If the command needs no slot, `slot.taken` is 0 and `slot.closed` is false.
+/// is `None` or 0. Only the command `CloseSlot` needs the field `slot`. For other commands,
+/// `slot.taken` is 0 and `slot.closed` is false.
 #[derive(Clone, Copy, Debug, PartialEq, Eq)]
 pub struct CommandView {
     pub member: Option<Member>,

@@ -20,8 +20,8 @@ use club_values::{MINUTES_A_DAY, Moment, Name, Slot};
 /// request.
 const BOOKING_WINDOW: u64 = 60 * MINUTES_A_DAY as u64;
 
-/// Returns whether the facility is open at the slot's hour, and the slot begins within the booking
-/// window.
+/// Returns whether the facility is open at the slot's hour, and the slot begins after `moment` and
+/// within the booking window.
 fn is_bookable(facility: &Facility, slot: &Slot, moment: Moment) -> bool
     ensures { result ≡ facilities.is_bookable facility.now slot.now moment }
 {

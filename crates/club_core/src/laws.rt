@@ -12,8 +12,8 @@ pub fn books_and_cancels()
     ensures { BooksAndCancels }
 {}
 
-/// If a member repeats a booking request, the reply is the same as the first time, even after a
-/// cancellation. The repeated request charges nothing.
+/// If a member repeats a booking request, the reply is the same as the first time, even after the
+/// booking's cancellation. The repeated request charges nothing.
 pub fn repeats_after_a_cancellation()
     ensures { RepeatsAfterACancellation }
 {}

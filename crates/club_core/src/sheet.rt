@@ -10,10 +10,10 @@ use club_values::Day;
 use std::alloc::{AllocError, Global};
 
 /// Returns the text of the day sheet. The sheet has a line with the day, a line for each row, and a
-/// line with the totals. A sheet without rows ends with `No bookings.` instead of the totals. The
-/// caller passes in `rows` the day's bookings that aren't cancelled, ordered by facility, hour, key
-/// and number. Each row has six columns: facility, hour, key, number, persons and points. The
-/// columns are 24, 5, 24, 9, 2 and 6 characters wide.
+/// line with the totals. A sheet without rows ends with `No bookings.` instead of the totals.
+/// `rows` contains the day's bookings that aren't cancelled, ordered by facility, hour, key and
+/// number. Each row has six columns: facility, hour, key, number, persons and points. The columns
+/// are 24, 5, 24, 9, 2 and 6 characters wide.
 ///
 /// # Errors
 ///

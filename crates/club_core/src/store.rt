@@ -63,8 +63,8 @@ pub trait ClubStore {
         ensures { ReadsStore disk_is_clean represents fails self.old self.new result
             (λ club row. row ≡ option_map row_of_key (key_named name.now club)) };
 
-    /// Returns the older root of the key with this name, which is the root before the last
-    /// rotation. Returns `None` if the key was never rotated, or if no key has this name.
+    /// Returns the older root of the key with this name: the key's root before the last rotation.
+    /// Returns `None` if the key was never rotated, or if no key has this name.
     fn older_root(&mut self, name: &Name) -> Result<Option<OlderRoot>, StoreFault>
         ensures { ReadsStore disk_is_clean represents fails self.old self.new result
             (λ club older. older ≡ older_root_of name.now club) };

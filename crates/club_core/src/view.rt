@@ -41,7 +41,7 @@ impl View {
     ghost use Rattle.club_core.specs.Answer.{ask_of, owed_at};
 
     /// Returns a view that has only the key's row and the name of the key's member. The view has no
-    /// booking and no facility, and all other numbers are 0.
+    /// booking and no facility, and all its numbers are 0.
     pub fn of_key(key: &KeyRow) -> View
         ensures { result ≡ bare_view key.now }
     {
