@@ -223,8 +223,8 @@ spent_le club key member held =
     sum_le cost_of (is_under key) (λ (b : Booking). is_key_of member club b.key) club.bookings (λ b. grind (arith, bytes_eq-Decides b.key key))
 
 -- The basis agrees with the club: the key belongs to the member, and the bookings are the member's
--- bookings. For a requested slot, `state.facility` is the slot's facility in the club, and `taken`
--- is at least the number of persons in the slot.
+-- bookings. For a requested slot, `state.facility` is the slot's facility in the club, and
+-- `state.held.taken` is at least the number of persons in the slot.
 record IsBasisIn (club : Club) (request : Request) (basis : Basis) : Type 0 where
   held : is_key_of basis.member.name club basis.key.name ≡ true
   owner : member_named basis.key.member club ≡ Some basis.member

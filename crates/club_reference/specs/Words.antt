@@ -6,8 +6,9 @@ use Rattle.club_core.specs.declared.{pass_fault.PassFault.PassFault, refusal.Ref
 use Rattle.club_core.specs.declared.view.KeyView.{KeyView}
 use Rattle.club_reference.specs.declared.words.{Pass.Pass as PassInCode, Words.Words as WordsInCode}
 
--- The model of a pass has the pass's key, and the caveat that each caveat text encodes. A root
--- signs the model if and only if the root is in the pass's list of roots.
+-- The model of a pass has the pass's key. For each caveat text, the model has the caveat that the
+-- text encodes, or `None` if the text isn't understood. A root signs the model if and only if the
+-- root is in the pass's list of roots.
 pub record IsPassModel (pass : PassInCode) (model : Pass) : Type 0 where
   pub key : model.key ≡ pass.key
   pub caveats : AreUnderstoodAs (map vec_items pass.caveats.items) model.caveats

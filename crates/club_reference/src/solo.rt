@@ -1,6 +1,6 @@
 //! The solo machine, which has only one member's rows and all facilities. For each request, the
-//! caller tells the solo machine the number of persons in the slot without this member's bookings,
-//! and whether the slot is closed. The solo machine gets no other information about other members.
+//! caller passes the number of persons in the slot without this member's bookings, and whether the
+//! slot is closed. The solo machine gets no other information about other members.
 
 ghost use Rattle.std.specs.Prelude.{◌≡◌, ◌≤◌, ◌<◌, ◌^◌, IfOk, IfSome, OnOk, OnErr, filter};
 ghost use Rattle.std.specs.{Prelude.option_map, Str.bytes_eq};

@@ -86,7 +86,7 @@ impl Club {
         Some(KeyView { key: *key, view })
     }
 
-    /// Returns the view of a request for the key that the pass names. Returns `None` if the pass
+    /// Returns the key that the pass names, and the view of the request. Returns `None` if the pass
     /// names no key of the club.
     pub(crate) fn view_for(&self, words: &Words, moment: Moment) -> Option<KeyView>
         ensures value { result
