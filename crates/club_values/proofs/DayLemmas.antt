@@ -17,15 +17,15 @@ march_year_bounds n h = (omega arith, omega arith, omega arith, omega arith)
 march_days-1996 : (q : ℕ) → 3 ≤ q → q ≤ 103 → march_days (11996 + q) ≡ 4381449 + 365 * q + q / 4
 march_days-1996 q low high = omega arith
 
--- The day `r`, counted from 1 March of the year 1996 + `q`, is before the next 1 March. `r` may be
--- 365 only if the next February has 29 days.
+-- The day `r`, counted from 0 on 1 March of the year 1996 + `q`, is before the next 1 March. `r`
+-- may be 365 only if the next February has 29 days.
 leap_day-march : (q r : ℕ) → 3 ≤ q → q ≤ 102 → r < 366 → (q % 4 ≢ 3 → r < 365) → r < 365 + leap_day (pos (1997 + q))
 leap_day-march q r low high leap common = grind (arith, nat_tests)
 
 days_from_civil-is : (y m d n : ℕ) → day_count (pos y) m d ≡ n + 4371953 → days_from_civil (pos y) m d ≡ pos n
 days_from_civil-is y m d n e = omega (arith, signed_arith, days_from_civil-day_count (pos y) m d)
 
--- The formulas for the month and the day of the month give the date of day `n`, if this date is in
+-- The formulas for the month and the day of the month give the date of day `n`, if the month is
 -- March to December.
 late_date : (q r n : ℕ) → 3 ≤ q → q ≤ 103 → r < 366 → n ≡ 9556 + 365 * q + q / 4 + r → (5 * r + 461) / 153 ≤ 12 →
     IsCivilDate (pos (1996 + q)) ((5 * r + 461) / 153) ((5 * r + 461) % 153 / 5 + 1) ×
@@ -39,7 +39,7 @@ late_date q r n low high small e late =
       days_from_civil-is (1996 + q) _ _ n (omega arith),
     )
 
--- The formulas for the month and the day of the month give the date of day `n`, if this date is in
+-- The formulas for the month and the day of the month give the date of day `n`, if the month is
 -- January or February.
 early_date : (q r n : ℕ) → 3 ≤ q → q ≤ 102 → r < 365 + leap_day (pos (1997 + q)) → r < 366 → n ≡ 9556 + 365 * q + q / 4 + r → 12 < (5 * r + 461) / 153 →
     IsCivilDate (pos (1997 + q)) ((5 * r + 461) / 153 - 12) ((5 * r + 461) % 153 / 5 + 1) ×

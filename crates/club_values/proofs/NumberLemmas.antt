@@ -24,7 +24,8 @@ Decides-few_digits text = grind (arith, nat_tests)
 value_below : (text : List ℕ) → AreFewDigits text → digits_value 10 text < 10 ^ 9
 value_below text h = grind (arith, digits_value_short own text 9)
 
--- If the text has one to nine decimal digits, `parse` returns the number that these digits encode.
+-- If the text consists of one to nine decimal digits, `parse` returns the number that the text
+-- encodes.
 pub digits_read : {E : Type 0} (text read : List ℕ) (r : Result ℕ E) → are_few_digits text ≡ true → read ≡ text → ParsesUnsigned 32 10 read r →
     result_ok r ≡ number_of_digits text
 digits_read text read r few e parses = grind (arith, Decides-few_digits, value_below, parse_gives own 32 text r)
