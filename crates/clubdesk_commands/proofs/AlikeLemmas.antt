@@ -13,7 +13,8 @@ use Rattle.desk_server.specs.declared.log.LogEvent.{LogEvent, TheVariants.{Absen
 use Rattle.desk_server.specs.declared.office.{Answer.Answer, Carried.Carried}
 use Rattle.desk_server.specs.Served as served
 
--- If one desk changes from `old` to `new`, another desk changes by the relation `Gives`.
+-- `Alike old new Gives` means: if the first desk changes from `old` to `new`, the second desk
+-- changes as the relation `Gives` states.
 module _ {D E : Type 0} (Alike : D → D → (E → E → Type 0) → Type 0)
     (same : (old new : D) (Gives : E → E → Type 0) → new ≡ old → ((e : E) → Gives e e) → Alike old new Gives)
     (after : (old mid new : D) (First Second Wanted : E → E → Type 0) → Alike old mid First → Alike mid new Second

@@ -1,4 +1,4 @@
--- Lemmas for removing the machine's clock from the desk of a server.
+-- Lemmas that reduce a server over a store and a clock to a server over the store.
 use Rattle.std.proofs.Common.{◌≡◌, ℕ, List, Option, Result, ◌∙◌, ap, refl}
 use Rattle.jiff_core.specs.declared.timestamp.Timestamp.{Timestamp}
 use Rattle.club_core.specs.declared.{reply.Reply.Reply, request.Request.Request}
@@ -9,7 +9,8 @@ use Rattle.clubdesk_commands.proofs.AlikeLemmas.{run_alike}
 use Rattle.desk_server.specs.{Served.{CommandRelation, Turn}, declared.office.Answer.Answer}
 
 module _ {S Machine : Type 0} (machine : Machine) where
-  -- The clock stays the same, and the store changes by the relation `Gives`.
+  -- If the clock is `machine` before a change, the clock is `machine` after the change, and `Gives`
+  -- relates the old store to the new store.
   record Keeps (old new : S × Machine) (Gives : S → S → Type 0) : Type 0 where
     pub kept : old.1 ≡ machine → new.1 ≡ machine
     pub gives : old.1 ≡ machine → Gives old.0 new.0

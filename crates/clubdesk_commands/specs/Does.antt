@@ -1,4 +1,4 @@
--- Defines how each task of the office changes a desk, and which answer it has.
+-- Defines how each task of the office changes a desk, and how the program answers the task.
 use Rattle.std.specs.{Prelude.{◌≡◌, ℕ, List, [], ◌∷◌, ◌++◌, codes, Option, MatchOption, Result, Ok, Err, IfOk, String}, String.string_bytes}
 use Rattle.std.specs.declared.alloc.Global.{Global}
 use Rattle.club_core.specs.{Club.Club, Run.ToOffice, Sheet.IsSheet, Store.KeepsClub, declared.command.Command.Command}
@@ -21,7 +21,7 @@ abbrev pub key_command : List ℕ → KeyChange → List ℕ → Command
 key_command name (Add member) root = office.AddKey name member root
 key_command name (Rotate until) root = office.RotateKey name root until
 
--- The line consists of the text of a key's pass in this form and a line feed. There is such a line
+-- The line is the text of a key's pass in this form, followed by a line feed. Such a line exists
 -- only if the text is within the size limits of a pass.
 pub record IsPassLine (name root : List ℕ) (form : Form) (line : List ℕ) : Type 0 where
   pub text : List ℕ
@@ -33,19 +33,20 @@ abbrev pub fault_of_desk : DeskFault → Fault
 fault_of_desk (desk.Refused refusal) = Refused refusal
 fault_of_desk (desk.Store failure) = fault_of_opening failure
 
--- The answer is a fault if the desk refused the command. Otherwise, the answer is this text.
+-- If the desk replied with a fault, the answer is the program's fault for the desk's fault.
+-- Otherwise, the answer is this text.
 abbrev pub GivesReply : List ℕ → Result (List ℕ) Fault → OfficeReply → Type 0
 GivesReply text answer (replies.Refused fault) = answer ≡ Err (fault_of_desk fault)
 GivesReply text answer reply = answer ≡ Ok text
 
--- The program's answer for a listing or a sheet that the desk returned.
+-- The program's answer if the desk returned a listing, a sheet or a fault.
 abbrev pub answer_of_desk : {Z : Type 0} → Result (String Z) DeskFault → Result (List ℕ) Fault
 answer_of_desk (Ok text) = Ok (string_bytes text)
 answer_of_desk (Err fault) = Err (fault_of_desk fault)
 
 module _ {S : Type 0} (Clean : S → Type 0) (Represents : S → Club → List Club → Type 0) where
   -- The desk received a command and replied. The answer is this text, or a fault if the desk
-  -- refused the command.
+  -- replied with a fault.
   pub record IsGiven (command : Command) (text : List ℕ) (answer : Result (List ℕ) Fault) (old new : S) : Type 0 where
     pub reply : OfficeReply
     pub was_clean : Clean new → Clean old
@@ -53,12 +54,13 @@ module _ {S : Type 0} (Clean : S → Type 0) (Represents : S → Club → List C
     pub answers : GivesReply text answer reply
 
   -- The program makes the text of the answer before the desk receives the command. If memory for
-  -- the text runs out, the desk receives no command.
+  -- the text runs out, the desk doesn't receive the command.
   pub data IsAnswered (command : Command) (IsText : List ℕ → Type 0) (answer : Result (List ℕ) Fault) (old new : S) : Type 0 where
     out_of_memory : answer ≡ Err Memory → new ≡ old → IsAnswered command IsText answer old new
     command_given : (text : List ℕ) → IsText text → IsGiven command text answer old new → IsAnswered command IsText answer old new
 
-  -- The answer is a listing or a sheet that the desk returned. The club is unchanged.
+  -- The answer is the listing, the sheet or the fault that the desk returned. The club is
+  -- unchanged.
   pub record DeskShows (Shows : Club → Result (String Global) DeskFault → Type 0) (answer : Result (List ℕ) Fault) (old new : S) : Type 0 where
     pub was_clean : Clean new → Clean old
     pub kept : Clean new → KeepsClub Represents old new

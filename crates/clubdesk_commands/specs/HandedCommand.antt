@@ -13,8 +13,9 @@ abbrev pub pieces : List Text → List ℕ
 pieces [] = []
 pieces (text ∷ texts) = piece text ++ pieces texts
 
--- The encoding of a command. The encoding consists of the number of arguments, the root from
--- standard input, and the arguments. The root is an empty text if the program read no root.
+-- The encoding of a command. The encoding has the number of arguments, the root, and the arguments.
+-- Each of these texts is followed by a zero byte. The root is an empty text if the command sets no
+-- root.
 abbrev pub command_bytes : Text → List Text → List ℕ
 command_bytes root arguments = piece (decimal (length arguments)) ++ (piece root ++ pieces arguments)
 
@@ -32,8 +33,8 @@ pub record SpellsCommand (bytes : List ℕ) (root : Text) (arguments : List Text
 abbrev pub SpellsNoCommand : List ℕ → Type 0
 SpellsNoCommand bytes = (root : Text) (arguments : List Text) → SpellsCommand bytes root arguments → ⊥
 
--- The bytes consist of arguments, each followed by a zero byte, and of one or more further bytes
--- without a zero byte.
+-- The bytes are any number of arguments, each followed by a zero byte, and then one or more nonzero
+-- bytes.
 abbrev pub EndsWithoutZero : List ℕ → Type 0
 EndsWithoutZero bytes =
     (arguments : List Text) × (rest : List ℕ) × AllByRecursion IsPieceText arguments × LacksByte 0 rest × (rest ≢ []) × (bytes ≡ pieces arguments ++ rest)

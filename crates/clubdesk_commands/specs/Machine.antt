@@ -1,4 +1,4 @@
--- Defines a server that keeps a club instead of a store.
+-- Defines a server whose state is a club instead of a store.
 use Rattle.std.specs.Prelude.{◌≡◌, ℕ, List, Option}
 use Rattle.jiff_core.specs.declared.timestamp.Timestamp.{Timestamp}
 use Rattle.club_core.specs.{Club.Club, Pass.Words, Run.{Asked, ToMember}}
@@ -8,19 +8,19 @@ use Rattle.club_laws.specs.Failed.{IsStep}
 use Rattle.desk_server.specs.Served as served
 use Rattle.clubdesk_commands.specs.OfficeDesk.{CarriesOutBy}
 
--- A club represents only itself.
+-- Used as a store, a club represents only itself.
 abbrev pub IsItself : Club → Club → List Club → Type 0
 IsItself now club others = now ≡ club
 
 abbrev pub Always : Club → Type 0
 Always club = Unit {0}
 
--- The reply and the next club are the result of a step of the machine. If the request fails, the
--- club is unchanged.
+-- The reply and the next club are the result of one step of the club's state machine. If the
+-- request fails, the club is unchanged.
 abbrev pub machine_answers : ℕ → AnswerRelation Club
 machine_answers moment text request club reply next =
     (words : Words) × AreWordsOf text request words × IsStep desk_presentation club (Asked words moment) (ToMember reply) next
 
--- A command changes the club in the same way as it changes a store that represents the club.
+-- A command has the same effect on a club as on a store that represents the club.
 abbrev pub machine_commands : (Option Timestamp → Type 0) → served.CommandRelation Club
 machine_commands Given bytes club answer next = CarriesOutBy Always IsItself Given bytes club answer next

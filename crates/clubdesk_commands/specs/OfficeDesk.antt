@@ -19,19 +19,19 @@ AnswersWith (Err fault) answer =
     ((answer.carried.status ≡ fault_status fault) × IfSome (fault_line fault) (λ line. string_bytes answer.text ≡ line))
     ⊎ (answer.carried.status ≡ 4)
 
--- The log's words for a command with this name. The words are `office` and the first 24 bytes of
--- the name.
+-- The text in the log for a command with this name. The text is `office` and the first 24 bytes of
+-- the name. Without a name, the text is empty.
 abbrev pub named_line : Option Text → List ℕ
 named_line (Some name) = codes "office " ++ take 24 name ++ codes " "
 named_line None = []
 
--- The log's words for a command with this answer. If `clap` refused the arguments, the log has no
--- words, because `clap` then returns no name of a command.
+-- The text in the log for a command with this answer. If the answer is the fault `Arguments`, the
+-- text is empty, because the name may be any text.
 abbrev pub logged_line : Result (List ℕ) Fault → Option Text → List ℕ
 logged_line (Err (Arguments error)) name = []
 logged_line answer name = named_line name
 
--- The answer has this status, and the log has no words for the command.
+-- The answer has this status, and no text for the log.
 abbrev pub IsUnnamed : ℕ → Answer → Type 0
 IsUnnamed status answer = (answer.carried.status ≡ status) × (answer.carried.line ≡ [])
 
@@ -41,10 +41,10 @@ pub data AskOther (arguments : List Text) : Type 0 where
   server_asked : (file : Text) (service : Service) → AskFor arguments file (Serve service) → AskOther arguments
 
 module _ {Store : Type 0} (Clean : Store → Type 0) (Represents : Store → Club → List Club → Type 0) (Given : Option Timestamp → Type 0) where
-  -- The effect of a command with these arguments. If the arguments are valid, the desk carries out
-  -- the command in the same way as a run without a server. If the arguments leave the root of a key
-  -- to standard input, the command takes this root. If the arguments or the root are invalid, the
-  -- store is unchanged.
+  -- The effect of a command with these arguments. If the arguments are valid, the command has the
+  -- same effect and answer as in a run that opens the database itself. With `--root-stdin`, the
+  -- key's new root is decoded from `root`. If the arguments or the root are invalid, the store is
+  -- unchanged.
   pub data DoesArguments (root : Text) (arguments : List Text) (answer : Result (List ℕ) Fault) (old new : Store) : Type 0 where
     task_done : (file : Text) (task : Task) → AskFor arguments file (Office task) → Does Clean Represents Given task answer old new
         → DoesArguments root arguments answer old new
@@ -56,7 +56,7 @@ module _ {Store : Type 0} (Clean : Store → Type 0) (Represents : Store → Clu
         → DoesArguments root arguments answer old new
 
   -- The effect of the bytes that a server receives. If the bytes encode a command of the office,
-  -- the desk carries out the command once, unless memory runs out. The log gets the name of the
+  -- the desk carries out the command once, unless memory runs out. The log has the name of such a
   -- command, which is the second argument. If the bytes encode no command of the office, the store
   -- is unchanged.
   pub data CarriesOutBy (bytes : List ℕ) (old : Store) (answer : Answer) (new : Store) : Type 0 where

@@ -16,8 +16,8 @@ pub record Stream : Type 1 where
 abbrev pub stream : {S : Type 0} → (S → Option (List ℕ)) → S → S → Stream
 stream bytes old new = record { before = bytes old; after = bytes new; no_change = new ≡ old }
 
--- The change of a log during a run. `notes` states which turns the log noted. `no_change` states
--- that the log is unchanged.
+-- The change of a log during a run. `notes` states which turns of a server the log noted.
+-- `no_change` states that the log is unchanged.
 pub record LogChange : Type 1 where
   pub notes : List Turn → Type 0
   pub no_change : Type 0
@@ -48,7 +48,8 @@ IsWorkFault (Arguments error) = ⊥
 IsWorkFault BadValue = ⊥
 IsWorkFault fault = Unit {0}
 
--- The result of a run whose arguments were valid. The result is never a fault of the arguments. If
--- the run fails, it has written nothing, unless the fault is `ClockOutOfRange` or `InputOutput`.
+-- The result of a run whose arguments and input were valid. If the run fails, the fault is neither
+-- `Arguments` nor `BadValue`. A failed run has written nothing, unless the fault is
+-- `ClockOutOfRange` or `InputOutput`.
 abbrev pub EndsWork : Type 0 → Result Unit Fault → Type 0
 EndsWork Unwritten result = IfErr result (λ fault. IsWorkFault fault × ((fault ≡ ClockOutOfRange) ⊎ (fault ≡ InputOutput) ⊎ Unwritten))

@@ -34,11 +34,11 @@ outcome_of_server (Ok done) = Ok done
 outcome_of_server (Err stopped) = Err ClockOutOfRange
 
 -- The effect of a server. A server that listens serves clients until it reaches the requested
--- number of clients, or until the clock fails. The server takes the time of each client from its
--- clock, which may be the machine's clock. Before each client, and while the server waits for a
--- request, the server carries out the office's commands. If the service asks for a log, the log
--- notes all turns. A server that can't listen, can't write its address or runs out of memory serves
--- no client, and its log notes no turn.
+-- number of clients, or until the clock fails. The time of each client is the service's fixed time,
+-- or the time of the machine's clock. Before each client, and while the server waits for a request,
+-- the server carries out the office's commands. If the service asks for a log, the log notes all
+-- turns. A server that can't listen, can't write its address or runs out of memory serves no
+-- client, and its log notes no turn.
 pub data RunsServer {Desk Machine : Type 0} (Shows : Machine → Option Timestamp → Type 0) (machine : Machine)
     (Answers : ℕ → AnswerRelation Desk) (Carries : served.CommandRelation Desk) (service : Service) (turns : List Turn) (old new : Desk)
     (Noted : List Turn → Type 0) (result : Result Unit Fault) : Type 0 where
@@ -61,8 +61,9 @@ IsPortFor asked port = (port ≤ 65_535) × ((asked ≡ 0) ⊎ (port ≡ asked))
 abbrev pub IsAnnounced : ℕ → Stream → Type 0
 IsAnnounced asked written = (port : ℕ) × IsPortFor asked port × Appends written.before written.after (listening_line port)
 
--- The server doesn't listen and writes nothing. If the writer failed, the server may have written a
--- prefix of the line with its address.
+-- The server ends with this fault before it serves a client. If the fault is `Memory`, the server
+-- has written nothing. If the fault is `InputOutput`, the server may have written a prefix of the
+-- line with its address.
 abbrev pub StopsBefore : ℕ → Stream → Fault → Type 0
 StopsBefore asked written InputOutput =
     written.no_change ⊎ ((port : ℕ) × IsPortFor asked port × AppendsFront written.before written.after (listening_line port))
@@ -78,22 +79,23 @@ Announces asked written (Err fault) = StopsBefore asked written fault
 module _ {Store Machine : Type 0} (Clean : Store → Type 0) (Represents : Store → Club → List Club → Type 0)
     (Shows : Machine → Option Timestamp → Type 0) (machine : Machine)
   where
-    -- If the disk stayed clean, a server over the club has the same turns as the server over the
-    -- store. The server over the club returns the machine's replies and answers. Failed events
-    -- change nothing. At the end, the store represents the machine's club.
+    -- If the disk stayed clean, a server over the club takes the same turns as the server over the
+    -- store. The server over the club returns the replies and answers of the club's state machine.
+    -- Failed events change nothing. At the end, the store represents the club `last`, which is the
+    -- final state of the server over the club.
     abbrev pub FollowsMachine : Service → List Turn → Store → Store → (List Turn → Type 0) → Result Unit Fault → Type 0
     FollowsMachine service turns store left Noted result =
         Clean left → (club : Club) (others : List Club) → Represents store club others
         → (last : Club) × (still : List Club) × Represents left last still
         × RunsServer Shows machine machine_answers (machine_commands (Shows machine)) service turns club last Noted result
 
--- The root of a task in hexadecimal, for arguments that leave the root to standard input.
+-- The root of a task in hexadecimal. The text is empty if the task has no root.
 abbrev pub handed_root : Task → Text
 handed_root (Key command root) = encode_lower root
 handed_root task = []
 
--- The answer to a command that a server received. The answer is the server's reply, or the fault
--- `NoAnswer` if the server sent no reply.
+-- The answer to a command that the program sent to a server. The answer is the server's reply, or
+-- the fault `NoAnswer` if the server sent no reply.
 abbrev pub IsReply : Option (ℕ × List ℕ) → Result (List ℕ) Fault → Type 0
 IsReply reply (Ok text) = reply ≡ Some (0, text)
 IsReply reply (Err NoAnswer) = reply ≡ None
@@ -101,7 +103,7 @@ IsReply reply (Err (Answered status line)) = (status ≢ 0) × (reply ≡ Some (
 IsReply reply (Err fault) = ⊥
 
 -- The program sends a command with these arguments and this root to a server, and the server's
--- reply is the answer. If memory for the bytes runs out, the program sends nothing.
+-- reply is the answer. If memory for the command's bytes runs out, the program sends nothing.
 pub data IsHandedOver {Visit : Type 0} (Gives : Giving Visit) (visit : Visit) (root : Text) (arguments : List Text)
     (answer : Result (List ℕ) Fault) : Type 0 where
   not_handed : answer ≡ Err Memory → IsHandedOver Gives visit root arguments answer
@@ -128,7 +130,7 @@ module _ {D S R V Machine : Type 0} (databases : DatabasesWords D S R V) (visits
           → Performs arguments file task old new written result
 
     -- The effect of a server for the database with this name. There are three cases:
-    -- - The server opens the database, serves clients and commands at one desk, and closes the
+    -- - The server opens the database, serves clients, carries out commands, and closes the
     --   database at the end.
     -- - The server can't make the door of the database, and closes the database.
     -- - The server can't open the database.
@@ -153,12 +155,13 @@ module _ {D S R V Machine : Type 0} (databases : DatabasesWords D S R V) (visits
           → log.no_change → Runs arguments given old new written log result
       task_asked : (file : Text) (task : Task) → AskFor arguments file (Office task) → Performs arguments file task old new written result
           → EndsWork written.no_change result → given.no_change → log.no_change → Runs arguments given old new written log result
-      -- The arguments leave the root of a key to standard input. The program reads the root before
-      -- it opens the database.
+      -- The arguments ask the program to read a key's root from standard input. The program reads
+      -- the root before it opens the database.
       key_asked : (file : Text) (command : KeyCommand) (root : List ℕ) → AskFor arguments file (Rootless command) → TakesRoot given.before given.after (Ok root)
           → Performs arguments file (Key command root) old new written result → EndsWork written.no_change result → log.no_change
           → Runs arguments given old new written log result
-      -- The program can't read the input, or the input isn't a root. The run does nothing else.
+      -- The program can't read the input, or the input isn't a root. Apart from reading the input,
+      -- the run does nothing.
       root_refused : (file : Text) (command : KeyCommand) (fault : Fault) → AskFor arguments file (Rootless command)
           → TakesRoot given.before given.after (Err fault)
           → result ≡ Err fault → new ≡ old → written.no_change → log.no_change → Runs arguments given old new written log result

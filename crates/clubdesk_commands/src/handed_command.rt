@@ -9,8 +9,8 @@ use std::alloc::{AllocError, Global};
 use std::convert::AsStr;
 use std::str;
 
-/// A command that the program sends to a server: the root from standard input, and the arguments.
-/// The root is empty if the program read no root. The first argument is the program's name.
+/// A command that the program sends to a server: a key's root in hexadecimal, and the arguments.
+/// The root is empty if the command sets no root. The first argument is the program's name.
 #[derive(Drop)]
 pub struct HandedCommand {
     pub root: String,
@@ -58,8 +58,8 @@ fn push_piece(bytes: &mut Vec<u8>, text: &str) -> Result<(), AllocError>
 }
 
 /// Decodes a command, or returns `None` if the bytes encode no command. The root and the arguments
-/// must be valid UTF-8 without zero bytes. The bytes must contain as many arguments as their first
-/// number states.
+/// must be valid UTF-8 without zero bytes. The number at the start of the bytes must be the number
+/// of arguments.
 ///
 /// # Errors
 ///

@@ -8,8 +8,8 @@ use clubdesk_arguments::{Fault, root_of};
 use command_line::{fill, without_line_feed};
 use std::io::Read;
 
-/// The most bytes that the program reads, which is one byte more than the longest root in
-/// hexadecimal with a line feed.
+/// The most bytes that the program reads. The longest root has 128 hexadecimal digits, and a line
+/// feed may follow. Another byte after these 129 bytes shows that the input is too long.
 const MAX_READ: usize = 130;
 
 /// Reads a root in hexadecimal. A line feed after the root is ignored.

@@ -20,8 +20,9 @@ use std::alloc::Global;
 ///
 /// The club is unchanged after each of these faults:
 /// - `Refused`, `Memory` or `Storage`, if the desk fails.
-/// - `Memory`, if memory for the answer runs out. The desk has received no command.
-/// - `ClockOutOfRange`, if a listing needs the time and the clock shows no minute of the club.
+/// - `Memory`, if memory for the answer runs out before the desk receives the command.
+/// - `ClockOutOfRange`, if a listing needs the time, but the clock can't be read or shows a year
+///   before 2000 or after 2099.
 pub(crate) fn carry_out<C: Instants, S: ClubStore>(
     alloc: Global,
     machine: &C,
@@ -53,7 +54,7 @@ pub(crate) fn carry_out<C: Instants, S: ClubStore>(
     }
 }
 
-// Sends a command to the desk, and returns the text if the desk carries out the command.
+// Sends a command to the desk. Returns `text` if the desk carries out the command.
 fn give<S: ClubStore>(desk: &mut Desk<S>, command: &Command, text: String) -> Result<String, Fault>
     ensures given { spec.IsGiven S.disk_is_clean S.represents command.now (string_bytes text)
         (text_of result) desk.old desk.new }
@@ -65,8 +66,8 @@ fn give<S: ClubStore>(desk: &mut Desk<S>, command: &Command, text: String) -> Re
     }
 }
 
-// Returns the line with a key's pass, or `None` if memory runs out. A pass without caveats is short
-// enough for each form.
+// Returns the line with a key's pass, or `None` if memory runs out. No other error is possible,
+// because a pass without caveats is short enough for each form.
 fn pass_line(alloc: Global, name: &Name, root: &Root, form: Form) -> Option<String>
     ensures { IfSome result (λ line. spec.IsPassLine name.now root.now form
         (string_bytes line)) }

@@ -26,14 +26,14 @@ const DONE: u8 = 0;
 /// The status of bytes that don't encode a command of the office.
 const NO_COMMAND: u8 = 2;
 
-/// The status of a command if memory for the answer runs out.
+/// The status if memory for a command or for its answer runs out.
 const OUT_OF_MEMORY: u8 = 4;
 
-/// The most bytes of a command's name that the log gets. No command's name is longer.
+/// The most bytes of a command's name that the server logs. No command has a longer name.
 const MAX_NAME_LEN: usize = 24;
 
-/// A desk over an open store. The desk also has the memory and the machine's clock for the office's
-/// commands. In contracts, a desk is the pair of the store and the clock.
+/// A desk over an open store. The office's commands also need an allocator and the machine's clock.
+/// Contracts represent an `OfficeDesk` by the pair of the store and the clock.
 #[derive(Drop)]
 pub struct OfficeDesk<'a, S: ClubStore, C> {
     desk: Desk<S>,
@@ -130,7 +130,8 @@ fn answer_command<S: ClubStore, C: Instants>(
     }
 }
 
-// Makes an answer with this status and this text. The log gets only the name of the command.
+// Makes an answer with this status and this text. The log line has no argument of the command
+// except the command's name.
 fn answer_of(status: u8, name: Option<&String>, text: String) -> Answer
     ensures status { result.carried.status ≡ status }
     ensures line { result.carried.line ≡ spec.named_line

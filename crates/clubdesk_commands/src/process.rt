@@ -12,8 +12,8 @@ use command_line::{FaultLines, GivenArguments, given_arguments, report};
 use desk_server::{Databases, Log, MonotonicClock};
 use std::io::{Read, Write};
 
-/// Runs the program on the arguments of a process, and prints the text of a fault. Returns the exit
-/// status.
+/// Runs the program on the arguments of a process, and returns the exit status. If the run fails,
+/// prints the text of the fault.
 pub fn run_process<
     P: GivenArguments + FaultLines,
     C: Instants + MonotonicClock,
@@ -45,7 +45,7 @@ pub fn run_process<
     }
 }
 
-/// Returns the exit status for a run's result, and prints the text of a fault.
+/// Returns the exit status for a run's result. If the run failed, prints the text of the fault.
 pub fn finish<P: FaultLines>(process: &P, ended: Result<(), Fault>) -> u8
     ensures status { result ≡ spec.exit_status ended }
     ensures line { IfErr ended (λ fault. P.asked process.now (fault_output fault)) }

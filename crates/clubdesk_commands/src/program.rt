@@ -1,4 +1,4 @@
-//! Runs the program on given arguments, a reader, a writer and a log.
+//! Runs the program with the caller's arguments, reader, writer and log.
 
 ghost use Rattle.std.specs.Prelude.{◌≡◌, IfErr, IfOk, map};
 ghost use Rattle.clubdesk_commands.specs.{HandedCommand.command_bytes, Output.EndsWork};
@@ -19,15 +19,16 @@ use std::convert::AsStr;
 use std::io::{Read, Write};
 
 /// Runs the program on its arguments. The first argument is the program's name. `machine` is the
-/// clock for timeouts. Without `--at`, it is also the clock for the times of requests to a server.
+/// clock for timeouts. Without `--at`, `machine` also supplies the time of each request and of an
+/// account's listing.
 ///
 /// The program checks the arguments before it opens a database. A server opens the database once,
 /// and closes the database at the end. While a server runs, other runs send their commands to the
-/// server. A run without a server opens the database once, and closes the database before it writes
-/// the output. The program reads standard input only for `--root-stdin`. The input must be a root
-/// in hexadecimal, and a line feed at the end is ignored. The program reads the input before it
-/// opens the database. The texts of help and of the version come from `clap`. Only `serve --log`
-/// logs clients and commands.
+/// server. If no server has the database open, a run opens the database once. The run closes the
+/// database before it writes the output. The program reads standard input only for `--root-stdin`.
+/// The input must be a root in hexadecimal, and a line feed at the end is ignored. The program
+/// reads the input before it opens the database. The texts of help and of the version come from
+/// `clap`. Only `serve --log` logs clients and commands.
 ///
 /// # Errors
 ///
@@ -90,8 +91,9 @@ pub fn run<C: Instants + MonotonicClock, D: Databases, S: AsStr, R: Read, W: Wri
 }
 
 // Carries out a task of the office. If a server has the database open, the server carries out the
-// task. Otherwise, the function carries out the task on the database. It closes the database before
-// it writes the answer, so that a blocked writer doesn't keep the database open.
+// task. Otherwise, this function opens the database and carries out the task. This function closes
+// the database before it writes the answer, so that a blocked writer doesn't keep the database
+// open.
 fn perform<C: Instants, D: Databases, S: AsStr, W: Write>(
     alloc: Global,
     machine: &C,
@@ -159,7 +161,7 @@ fn handed_bytes<S: AsStr>(
     }
 }
 
-// Writes the text of an answer, or returns the fault of the answer.
+// Writes the text of an answer. If the answer is a fault, returns the fault and writes nothing.
 fn print<W: Write>(answer: Result<String, Fault>, writer: &mut W) -> Result<(), Fault>
     ensures prints { Prints (text_of answer) (stream W.contents writer.old writer.new) result }
     ensures ends { IfErr answer IsWorkFault → EndsWork (writer.new ≡ writer.old) result }
@@ -173,7 +175,7 @@ fn print<W: Write>(answer: Result<String, Fault>, writer: &mut W) -> Result<(), 
     }
 }
 
-// Writes the text of help or of the version. No contract states this text.
+// Writes the text of the help or of the version. No contract states this text.
 fn show<W: Write>(text: &clap::Error, writer: &mut W) -> Result<(), Fault>
     ensures { IfErr result (λ fault. fault ≡ Fault.InputOutput) }
 {

@@ -1,4 +1,4 @@
-//! Runs a server at a desk.
+//! Runs a server that passes requests and commands to a desk.
 
 ghost use Rattle.std.specs.Prelude.{◌≡◌, IfOk, List, MatchResult, false};
 ghost use Rattle.desk_server.specs.Served.{AreNoted, Turn};
@@ -23,14 +23,14 @@ use std::time::Duration;
 /// The address on which the server listens.
 const LOOPBACK: &str = "127.0.0.1";
 
-/// Serves the database with this name. The server opens the database before it writes the address,
-/// and closes the database at the end. While the server runs, the office's commands come through
-/// the database's door.
+/// Serves the database with this name. The server opens the database before it writes its address,
+/// and closes the database at the end. While the server runs, it receives the office's commands
+/// through the database's door, which is a Unix socket.
 ///
 /// # Errors
 ///
 /// Fails in the same cases as `serve`. Fails with `Storage` or `Memory` if the server can't open
-/// the database or can't make the door. The server has then written nothing.
+/// the database or can't make the door. In these two cases, the server has written nothing.
 pub fn serve_file<C: Instants + MonotonicClock, D: Databases, W: Write, G: Log>(
     rt: &HostRuntime,
     machine: &C,
@@ -73,19 +73,20 @@ pub fn serve_file<C: Instants + MonotonicClock, D: Databases, W: Write, G: Log>(
 }
 
 /// Listens on the loopback address, and writes the address and the port. The server then serves
-/// clients, and carries out the commands that come through the door.
+/// clients, and carries out the commands that it receives through `door`.
 ///
-/// If the service has a fixed time, the server uses it for each client. Otherwise, the server takes
-/// the time from the machine's clock, in the service's zone. The machine's clock also measures the
-/// timeout of a client. If the service asks for a log, the log notes each client and each command.
+/// If the service has a fixed time, the server uses this time for each client. Otherwise, the
+/// server takes the time from the machine's clock, in the service's zone. The machine's clock also
+/// measures the timeout of a client. If the service asks for a log, the server logs each client and
+/// each command.
 ///
 /// # Errors
 ///
 /// - Fails with `InputOutput` if the server can't listen or the writer fails. The server has served
 ///   no client.
 /// - Fails with `Memory` if memory runs out. The server has served no client.
-/// - Fails with `ClockOutOfRange` if a client comes when the clock shows no minute within the
-///   club's years. `ClockOutOfRange` ends the server.
+/// - Fails with `ClockOutOfRange` if a client comes while the clock can't be read or shows a year
+///   before 2000 or after 2099. The client gets no answer, and the server ends.
 pub fn serve<D: Office, C: Instants + MonotonicClock, W: Write, G: Log>(
     rt: &HostRuntime,
     machine: &C,

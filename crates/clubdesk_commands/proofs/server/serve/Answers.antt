@@ -31,7 +31,7 @@ module _ {Desk Machine : Type 0} (Shows : Machine → Option Timestamp → Type 
     }) (gives it.all it.besides),
   )
 
-  -- The server can't listen and serves no client.
+  -- The server fails before it serves a client.
   serves_nobody : (written : Stream) (fault : Fault) → new ≡ old → Noted [] → StopsBefore service.port written fault → Serves (Err fault)
   serves_nobody written Memory kept nothing stops = ([], spec.not_listened (inl refl) refl kept nothing)
   serves_nobody written InputOutput kept nothing stops = ([], spec.not_listened (inr refl) refl kept nothing)
