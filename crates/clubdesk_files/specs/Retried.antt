@@ -1,4 +1,4 @@
--- Defines how a command is sent to one server after another, until a server carries it out.
+-- Defines how the program sends a command to one server after another.
 use Rattle.std.specs.Prelude.{◌≡◌, ℕ, List, Option, IsSomeAnd}
 
 -- The effect of sending a command to the next server. The arguments are the servers before the

@@ -11,8 +11,8 @@ pub(crate) const SLEEP_MILLIS: u64 = 10;
 /// The number of attempts in one second.
 pub const ATTEMPTS_A_SECOND: u32 = 100;
 
-/// A resource that another program may be using, so that a caller may need several attempts to get
-/// it.
+/// A resource that another program may be using. A caller may need several attempts to get the
+/// resource.
 pub trait Attempts {
     type Gain;
 

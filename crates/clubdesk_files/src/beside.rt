@@ -21,15 +21,16 @@ pub(crate) const IN_MEMORY: &str = ":memory:";
 /// The path of the current folder.
 const HERE: &str = ".";
 
-/// The suffix that turns a database's name into the name of the door.
+/// The suffix of the door's name. The door is a server's socket, and its name begins with the
+/// database's name.
 const OFFICE: &str = "-office";
 
 /// The user id of root.
 const ROOT: u32 = 0;
 
-/// The opened folder of a database, and the database's name in the folder after resolving links. A
-/// path through the folder's descriptor is short enough for a socket's address, while the folder's
-/// own path may be too long.
+/// The open folder of a database, and the name of the database's file in this folder. If a link
+/// leads to the file, the folder and the name are those of the file. Paths go through the folder's
+/// descriptor, because the folder's own path may be too long for a socket's address.
 #[derive(Drop)]
 pub(crate) struct Place {
     folder: File,
@@ -37,8 +38,8 @@ pub(crate) struct Place {
 }
 
 impl Place {
-    /// Returns the place of the database at this path. A missing file has a place if its folder
-    /// exists, because a server can still have the removed file open.
+    /// Finds the folder and the name of the database at this path. The file itself may be missing,
+    /// because a server can still have a removed file open.
     pub fn find(rt: &HostRuntime, file: &str) -> io::Result<Place> {
         match fs::canonicalize(rt, file) {
             Ok(whole) => Place::of(rt, whole.as_path()),
@@ -82,7 +83,7 @@ impl Place {
         }
     }
 
-    /// Returns true if the door exists, which means that a socket has the door's name.
+    /// Returns true if a socket has the door's name.
     ///
     /// # Errors
     ///

@@ -23,8 +23,8 @@ pub struct FileDoor<'a> {
 
 impl<'a> FileDoor<'a> {
     /// Makes the door of a database, and replaces a socket that a killed server left behind. Only
-    /// the program that has the database open makes the door, so no other server listens on such a
-    /// socket.
+    /// the program that has the database open makes a door, so no server still listens on the
+    /// replaced socket.
     ///
     /// # Errors
     ///
@@ -48,8 +48,8 @@ impl<'a> FileDoor<'a> {
     }
 }
 
-// Binds a socket at a path. The mode of the socket's file is the mode of its descriptor without the
-// bits of the umask. The socket is therefore never open to other users.
+// Binds a socket at a path. The mode of the socket's file is the mode of the socket's descriptor
+// without the bits of the umask. The socket is therefore never open to other users.
 fn bind_private(rt: &HostRuntime, path: &str) -> io::Result<UnixListener> {
     let address = SocketAddr::from_pathname(path)?;
     let socket = rt.unix_socket()?;

@@ -59,7 +59,8 @@ impl<'a> Databases for Files<'a> {
     fn open(&mut self, name: &str) -> Result<FileClub, StoreFault> {
         self.tried = self.tried.saturating_add(1);
         let mut openings = ServerOpenings { rt: self.rt, name };
-        // A proof about `unwrap_or` for a result with a store would take forty seconds.
+        // The code uses `match`, because a proof about `unwrap_or` for a result with a store would
+        // take forty seconds.
         match gain(&mut openings, self.rt, MAX_OPENINGS) {
             Some(opened) => opened,
             None => Err(StoreFault::Storage),
@@ -75,8 +76,9 @@ impl<'a> Databases for Files<'a> {
         }
     }
 
-    // Committed changes are in the log next to the file. `close` copies the changes into the file.
-    // If copying fails, the changes stay in the log until the database is opened again.
+    // Committed changes are in the log next to the file. Closing the connection copies the changes
+    // into the file. If copying fails, the changes stay in the log until the database is opened
+    // again.
     fn close(&mut self, named: FileClub) {
         self.closed = self.closed.saturating_add(1);
         let NamedStore { store, file: _ } = named;

@@ -52,9 +52,9 @@ pub fn greeted<R: Read>(reader: &mut R) -> io::Result<()>
 ///
 /// # Errors
 ///
-/// - Returns the writer's error if the writer fails before the end of the command.
+/// - Returns the writer's error if sending the command or ending the stream fails.
 /// - Returns the reader's error if the reader fails, or `UnexpectedEof` if the answer is
-///   incomplete. After a failed read, it is unknown if the server carried out the command.
+///   incomplete. After a failed read, it is unknown whether the server carried out the command.
 pub fn answered<R: Read, W: CommandWriter>(
     alloc: Global,
     reader: &mut R,

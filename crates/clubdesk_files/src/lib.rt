@@ -1,6 +1,6 @@
-//! Databases in files. Only one program at a time can have a file open. A server has a door next to
-//! the file, through which it receives the office's commands. Without a server, a command opens the
-//! file itself.
+//! Databases in files. Only one program at a time can have a file open. A server has a socket,
+//! called the door, next to the file. The server receives the office's commands through the door.
+//! Without a server, a command opens the file itself.
 #![tactic(auto)]
 
 mod attempts;

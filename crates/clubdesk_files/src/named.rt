@@ -47,8 +47,8 @@ impl<S, F: Removable> NamedStore<S, F> {
     }
 }
 
-/// Each event first reads a key, a facility, a member's account or a day's bookings. The store
-/// returns the row only after it has checked that the file still has a name.
+/// The first read of each request or command is `key_row`, `facility`, `account` or `day`. These
+/// functions fail if the file has lost its name.
 impl<S: ClubStore, F: Removable> ClubStore for NamedStore<S, F> {
     ghost use Rattle.clubdesk_files.specs.Named.{FailsOrIsLost};
 

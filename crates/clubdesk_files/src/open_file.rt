@@ -7,11 +7,11 @@ use std::io::ErrorKind;
 use std::os::unix::fs::MetadataExt;
 use std::{fs, io};
 
-/// The number of descriptors in which the program searches for a store's descriptor.
+/// The number of descriptors that the program searches for a store's open file.
 const MAX_DESCRIPTORS: u32 = 1_024;
 
-/// The file that a store has open, with an additional descriptor. A check through a descriptor
-/// takes less than a fifth of the time of a check by path.
+/// An additional descriptor of the file that a store has open. A check through a descriptor takes
+/// less than a fifth of the time of a check by path.
 #[derive(Drop)]
 pub struct OpenFile {
     // The open file, or `None` if the program never checks the file.
@@ -19,8 +19,8 @@ pub struct OpenFile {
 }
 
 impl OpenFile {
-    /// Finds the database's file that a store of this program has open. A database in memory has no
-    /// file and is never checked.
+    /// Opens an additional descriptor of the database's file, which a store of this program has
+    /// open. A database in memory has no file and is never checked.
     ///
     /// # Errors
     ///
@@ -43,8 +43,8 @@ impl OpenFile {
         Err(io::Error::from(ErrorKind::NotFound))
     }
 
-    /// Returns a file that is never checked. A command that opens a database only briefly uses such
-    /// a file.
+    /// Returns a file that is never checked. Commands use such a file, because they have the
+    /// database open only briefly.
     pub(crate) fn unwatched() -> OpenFile {
         OpenFile { file: None }
     }

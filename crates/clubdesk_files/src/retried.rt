@@ -1,4 +1,4 @@
-//! Sends a command to one server after another, until a server receives all of it.
+//! Sends a command to one server after another, until a server receives all of the command.
 
 ghost use Rattle.std.specs.Prelude.{◌≡◌, ◌↔◌, ℕ, List, IsTrue, Some};
 ghost use Rattle.desk_server.specs.Databases.{in_bytes};
@@ -31,15 +31,16 @@ pub trait Servers {
     ghost hands: { Handing Self };
 
     /// Sends a command to the next server, and returns the status and the text of the answer. The
-    /// status is `NOTHING_DONE` if there is no server, or if no server received all of the command.
-    /// Returns `None` if it is unknown whether a server carried out the command.
+    /// status is `NOTHING_DONE` if there is no server, or if the server didn't receive all of the
+    /// command. Returns `None` if it is unknown whether a server carried out the command.
     fn hand_over(&mut self, command: &[u8]) -> Option<(u8, String)>
         ensures { hands self.old command.now (in_bytes result) self.new };
 }
 
-/// Sends a command to a server, and returns the status and the text of the last answer. While the
-/// answer is `NOTHING_DONE`, the function retries for ten seconds. The function never resends a
-/// command that a server may have carried out. Returns `None` if there is no answer.
+/// Sends a command to a server, and returns the status and the text of the last answer. If the
+/// status is `NOTHING_DONE`, the function sends the command again, for at most ten seconds. The
+/// function never resends a command that a server may have carried out. Returns `None` if it is
+/// unknown whether a server carried out the command.
 pub fn hand_over_until_done<S: Servers, C: Clock>(
     clock: &C,
     servers: &mut S,
@@ -80,7 +81,7 @@ fn is_before<C: Clock>(clock: &C, until: Option<Instant>) -> bool {
     }
 }
 
-/// Sends a command once, to the server that has sent its greeting. If there is no server, the
+/// Sends a command once to `server`, which has sent its greeting. If `server` is `None`, the
 /// function sends nothing.
 pub fn hand_over_to(
     alloc: Global,

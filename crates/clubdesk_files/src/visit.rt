@@ -10,17 +10,17 @@ use std::io::ErrorKind;
 use std::os::unix::net::UnixStream;
 use std::time::Duration;
 
-/// The time that a server has to send its greeting, in seconds. With the default timeout, no client
-/// can keep the server busy for this long.
+/// The time that a server has to send its greeting, in seconds. With the server's default timeout,
+/// no client can keep the server busy for this long.
 const GREETING_SECONDS: u64 = 60;
 
-/// A server of a database that has sent its greeting.
+/// A database's server that has sent its greeting.
 #[derive(Drop)]
 pub struct FileVisit<'a> {
     rt: &'a HostRuntime,
     file: String,
-    // The connection to a server that has sent its greeting. After a command was sent, it is
-    // `None`, and the next attempt connects again.
+    // The connection to a server that has sent its greeting. After an attempt to send a command,
+    // this field is `None`, and the next attempt connects again.
     greeted: Option<UnixStream>,
 }
 
@@ -48,8 +48,8 @@ pub(crate) enum Found<'a> {
     /// The server ended before it sent its greeting, and received no command.
     Ended,
     /// No server listens on the door, the database's name is too long for a door, or only root can
-    /// use the door. Without a listening server, the lock of the file shows if a server has the
-    /// file open.
+    /// use the door. In these cases, `OfficeOpenings` opens the file itself, unless another program
+    /// has the file open.
     Nobody,
 }
 
