@@ -43,7 +43,7 @@ slot_positionals = positionals_over_file (codes "FACILITY" ∷ codes "DAY" ∷ c
 -- - `add-key FILE KEY MEMBER [ROOT] [--root-stdin] [--form FORM]`
 -- - `rotate-key FILE KEY ROOT [MOMENT] [--root-stdin] [--form FORM]`
 --
--- If `rotate-key` has no argument `MOMENT`, the argument in the place of `ROOT` is the moment.
+-- If `rotate-key` gets no argument `MOMENT`, the argument `ROOT` is the moment.
 --
 -- Two more commands have options:
 -- - `serve --port P --count N [--zone RULE] [--at MOMENT] [--patience SECONDS] [--log]`

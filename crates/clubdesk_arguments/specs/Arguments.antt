@@ -16,25 +16,26 @@ use Rattle.clubdesk_arguments.specs.declared.task.Work.TheVariants.{Office, Root
 use Rattle.club_clock.specs.{Zone.zone_of, declared.clock.Clock.{Clock, TheVariants.{Fixed, InZone}}}
 use Rattle.clubdesk_arguments.specs.declared.table.CommandName.TheVariants as command
 
--- The bind operator of options, like `?` in code.
+-- The bind operator of `Option`, like `?` in code.
 infixl 10 ◌>>=◌
 abbrev pub ◌>>=◌ : {A B : Type 0} → Option A → (A → Option B) → Option B
 Some x >>= f = f x
 None >>= f = None
 
--- The value of the argument with this name, parsed as a number.
+-- The value of the argument `id`, parsed as a number.
 abbrev pub number_value : Text → List Row → Option ℕ
 number_value id rows = parse_number (value_in id rows)
 
--- The command for a key with its root. If no argument has a root, the command has no root yet.
+-- The work for a key's command. If no argument has the root, the run reads the root from standard
+-- input later.
 abbrev pub key_work : KeyCommand → Option Text → Option Work
 key_work given None = Some (Rootless given)
 key_work given (Some argument) = do
   root ← key_root_of argument
   Some (Office (Key given root))
 
--- The moment of a rotation, which is the last argument. If the root is an argument, it comes before
--- the moment.
+-- The moment of a rotation, which is the last positional argument. If the root is also an argument,
+-- the root comes before the moment.
 abbrev pub rotation_moment_in : List Row → Text
 rotation_moment_in rows = unwrap_or (first_of (codes "MOMENT") rows) (value_in (codes "ROOT-OR-MOMENT") rows)
 
@@ -44,8 +45,9 @@ rotation_root_in rows = option_and_then (λ (moment : Text). first_of (codes "RO
 abbrev pub unless_bad : Option Work → Result Work (Refusal Unit)
 unless_bad work = ok_or work (bad_value tt)
 
--- The root must come either from the argument or from standard input. `by_input` is true if the
--- flag `--root-stdin` is set. The root is checked before the form.
+-- The root argument and the form, or the reason why the arguments are refused. The root must come
+-- either from the argument or from standard input. `by_input` is true if the flag `--root-stdin` is
+-- set. The root is checked before the form.
 abbrev pub root_and_form : Option Text → Bool → Result Form (Refusal Unit) → Result (Option Text × Form) (Refusal Unit)
 root_and_form (Some argument) true form = Err (refused_as kind.ArgumentConflict)
 root_and_form None false form = Err (refused_as kind.MissingRequiredArgument)
@@ -66,7 +68,7 @@ over_file file (Err refusal) = Err refusal
 over_file file (Ok work) = Ok (record { file = file; work = work })
 
 module _ (read : Readers) where
-  -- The value of the argument with this name, parsed as a name of the club.
+  -- The value of the argument `id`, parsed as a name.
   abbrev pub name_value : Text → List Row → Option Text
   name_value id rows = read.name (value_in id rows)
 
@@ -158,7 +160,8 @@ module _ (read : Readers) where
     day ← read.day (value_in (codes "DAY") rows)
     Some (Office (Sheet day))
 
-  -- The moment in the option `--at`. Without this option, the clock in the zone.
+  -- The clock that is fixed at the moment of `--at`. Without `--at`, the machine's clock, shown in
+  -- the zone.
   abbrev pub clock_of : Text → Option Text → Option Clock
   clock_of zone None = Some (InZone zone)
   clock_of zone (Some at) = do
@@ -209,7 +212,8 @@ module _ (read : Readers) where
   abbrev pub job_of : JobOf CommandName JobModel Unit
   job_of name rows = over_file (value_in (codes "FILE") rows) (work_named name rows)
 
--- The possible results of reading the values of a row. All exact readers return the same values.
+-- The possible results of converting the values of a command's arguments to a job. Exact readers
+-- parse the values, and all exact readers return the same values.
 pub record ReadsValues (name : CommandName) (rows : List Row) (result : Result JobModel (ArgumentsFault Unit)) : Type 0 where
   pub read : Readers
   pub exact : ReadExactly read
@@ -223,8 +227,8 @@ ReadsArguments arguments result = ReadsJob clubdesk ReadsValues arguments result
 abbrev pub AskFor : List Text → Text → Work → Type 0
 AskFor arguments file work = ReadsArguments arguments (Ok (Perform (record { file = file; work = work })))
 
--- A call returns the root's argument and the form, or the expected fault. A call can also run out
--- of memory.
+-- A call returns the root argument and the form, or the expected fault. A call can also run out of
+-- memory.
 abbrev pub AnswersRoot : Result (Option Text × Form) (Refusal Unit) → Result (Option (Bor Text) × Form) (ArgumentsFault Unit) → Type 0
 AnswersRoot expected (Ok answer) = expected ≡ Ok (option_map (λ text. text.now) answer.0, answer.1)
 AnswersRoot expected (Err fault) = Answers expected (Err fault)

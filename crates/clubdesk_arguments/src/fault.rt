@@ -1,4 +1,4 @@
-//! The faults of commands, with their exit statuses and lines.
+//! The faults of commands, with their exit statuses and their lines on standard error.
 
 use club_core::{OfficeFault, StoreFault};
 use command_line::ArgumentsFault;
@@ -11,7 +11,8 @@ use std::{error, fmt, io};
 pub enum Fault {
     /// A rule of the club refuses the command.
     Refused(OfficeFault),
-    /// `clap` refused the arguments, or `--form` names an unknown form.
+    /// An argument isn't UTF-8, `clap` refused the arguments, `--form` names an unknown form, or
+    /// the root is given twice or not at all.
     Arguments(clap::Error),
     /// The value of an argument, or the root from standard input, is invalid.
     BadValue,
@@ -19,7 +20,7 @@ pub enum Fault {
     Memory,
     /// The database couldn't be opened, read or written, or it isn't a club's database.
     Storage,
-    /// The clock shows a year before 2000 or after 2099.
+    /// The clock can't be read, or shows a year before 2000 or after 2099.
     ClockOutOfRange,
     /// The program couldn't read its input or write its output, or the server couldn't listen.
     InputOutput,
@@ -34,7 +35,8 @@ impl Fault {
     ghost use Rattle.std.specs.Prelude.{◌≡◌};
     ghost use Rattle.clubdesk_arguments.specs.Fault.{fault_status};
 
-    /// Returns the exit status, from 1 to 8. For `Answered`, returns the server's status.
+    /// Returns the exit status. For `Answered`, returns the status of the server's answer. The
+    /// other faults have a status from 1 to 8.
     pub fn status(&self) -> u8
         ensures { result ≡ fault_status self.now }
     {

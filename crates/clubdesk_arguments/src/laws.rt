@@ -1,4 +1,5 @@
-//! Laws of the definitions. Each law is the contract of a function with an empty body.
+//! Laws about jobs and about parsing values. Each law is the contract of a function that returns
+//! nothing.
 
 ghost use Rattle.clubdesk_arguments.specs.{Laws.AskForOneJob, Readers.ReadExactly};
 ghost use Rattle.clubdesk_arguments.specs.computed.TextReaders.{text_readers};
@@ -7,7 +8,7 @@ use crate::task::Job;
 use club_values::laws::{reads_days, reads_hours, reads_kinds, reads_moments, reads_names};
 use command_line::laws::{arguments_ask_once, rows_answer_once};
 
-/// If arguments ask for a job, they ask for no other job and have no fault.
+/// If arguments ask for a job, parsing them returns this job or runs out of memory.
 pub fn ask_for_one_job()
     ensures { AskForOneJob }
 {
@@ -15,7 +16,7 @@ pub fn ask_for_one_job()
     arguments_ask_once::<Job<'static>>();
 }
 
-/// A computed reader returns a value if and only if the text encodes the value.
+/// Each function in `text_readers` returns a value if and only if the text encodes the value.
 pub(crate) fn readers_are_exact()
     ensures { ReadExactly text_readers }
 {

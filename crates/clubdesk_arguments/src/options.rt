@@ -28,7 +28,7 @@ pub fn number_at(arguments: &ArgMatches<'_>, id: &str) -> Option<u32>
     parse_number(value_of(arguments, id))
 }
 
-/// Returns the value of an option, or `None` if the arguments don't contain the option.
+/// Returns the value of the argument `id`, or `None` if this argument is missing.
 pub fn given<'a>(arguments: &ArgMatches<'a>, id: &str) -> Option<&'a str>
     ensures { option_map (λ text. text.now) result
         ≡ first_of id.now (rows_of (found_of arguments.now)) }
@@ -36,8 +36,8 @@ pub fn given<'a>(arguments: &ArgMatches<'a>, id: &str) -> Option<&'a str>
     arguments.get_str(id)
 }
 
-/// Returns the argument with a key's new root. Returns `None` if the arguments contain no root. If
-/// the arguments contain no root, the argument in the root's place is the moment.
+/// Returns a key's new root, or `None` if the arguments contain no root. Without a root, the
+/// argument `MOMENT` is missing, and `ROOT-OR-MOMENT` is the moment.
 pub fn rotation_root<'a>(arguments: &ArgMatches<'a>) -> Option<&'a str>
     ensures { option_map (λ text. text.now) result
         ≡ spec.rotation_root_in (rows_of (found_of arguments.now)) }
@@ -48,7 +48,7 @@ pub fn rotation_root<'a>(arguments: &ArgMatches<'a>) -> Option<&'a str>
     }
 }
 
-/// Returns the moment of a rotation, which is the last argument.
+/// Returns the moment of a rotation, which is the last positional argument.
 pub fn rotation_moment<'a>(arguments: &ArgMatches<'a>) -> &'a str
     ensures { result.now ≡ spec.rotation_moment_in (rows_of (found_of arguments.now)) }
 {
@@ -58,13 +58,13 @@ pub fn rotation_moment<'a>(arguments: &ArgMatches<'a>) -> &'a str
     }
 }
 
-/// Returns the argument with a root, and the form in the option `--form`. With `--root-stdin`, the
-/// root isn't an argument, and the first result is `None`.
+/// Returns the root argument and the form that `--form` names. With `--root-stdin`, the root comes
+/// from standard input, and the first result is `None`.
 ///
 /// # Errors
 ///
-/// Fails with `Refused` if the argument and the flag are both given or both missing, or if the form
-/// is unknown. Fails with `Memory` if memory runs out.
+/// Fails with `Refused` if the root argument and `--root-stdin` are both present or both missing.
+/// Fails with `Refused` if the form is unknown. Fails with `Memory` if memory runs out.
 pub fn root_and_form<'a>(
     alloc: Global,
     arguments: &ArgMatches<'_>,

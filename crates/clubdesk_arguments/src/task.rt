@@ -30,7 +30,7 @@ pub struct KeyCommand {
     pub form: Form,
 }
 
-/// The change that the command makes to the key.
+/// The change that a `KeyCommand` makes to its key.
 #[derive(Drop)]
 pub enum KeyChange {
     /// Adds the key for this member.
@@ -48,10 +48,10 @@ pub struct Service<'a> {
     pub count: u32,
     /// The clock that shows the moment of each request.
     pub clock: Clock<'a>,
-    /// The time limit for receiving a client's request, from 1 to 3,600 seconds. The same limit
-    /// applies anew to sending the reply, and anew to closing the connection.
+    /// The time limit for each step of a connection, from 1 to 3,600 seconds. The steps are
+    /// receiving the request, sending the reply, and closing the connection.
     pub patience: u32,
-    /// True if the server logs each connection.
+    /// True if the server logs each client and each command.
     pub log: bool,
 }
 
@@ -64,7 +64,7 @@ pub enum Work<'a> {
     Serve(Service<'a>),
 }
 
-/// The work, and the file of the database.
+/// The work of a run, and the database's file.
 #[derive(Drop)]
 pub struct Job<'a> {
     pub file: &'a str,
