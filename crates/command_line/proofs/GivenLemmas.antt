@@ -63,11 +63,11 @@ module _ (s : Shape) where
   IsStep : Walk → Text → Walk → Type 0
   IsStep w argument next = (walked s.rules [] w argument ≡ next) × (turn_fault s [] w argument ≡ [])
 
-  -- Clap can store the values of the pending argument, and the result has the given rows.
+  -- Clap can store the values of the pending argument, and clap's rows are then `now`.
   abbrev Holds : Held → List Found → Type 0
   Holds held now = ((settled s.rules held).rows ≡ now) × (settle_fault s.rules again held ≡ [])
 
-  -- Clap's walk over the arguments succeeds and ends with the given rows.
+  -- Clap's walk over the arguments succeeds and ends with the rows `now`.
   Settles : Walk → List Text → List Found → Type 0
   Settles w arguments now = (end : Walk) × (fold (walked s.rules []) w arguments ≡ end) × (walk_fault s [] w arguments ≡ []) × Holds end.held now
 
@@ -213,14 +213,14 @@ module _ (s : Shape) where
   positionals_walked i (_ ∷ given) rows now pending waiting found new ordered holds =
       positionals_walked i given rows now pending waiting found.1 new ordered holds
 
-  -- Clap's walk over the remaining arguments succeeds and adds the rows `last`.
+  -- Clap's walk over the arguments `tail` succeeds and adds the rows `last`.
   GoesOn : List Text → List Found → List Found → Type 0
   GoesOn tail last now = (rows : List Found) (pending : Option (Text × List Text)) → Holds (held_with rows pending) now → are_new now last ≡ true
       → Settles (at_option rows pending) tail (now ++ last)
 
   module _ (tail : List Text) (last : List Found) where
-    -- Clap's walk over the given options and the remaining arguments succeeds. The walk adds the
-    -- rows of the options, and then the rows `last`.
+    -- Clap's walk over the given options and the arguments `tail` succeeds. The walk adds the rows
+    -- of the options, and then the rows `last`.
     OptionsGoOn : List Given → List Found → Type 0
     OptionsGoOn given now = (rows : List Found) (pending : Option (Text × List Text)) → Holds (held_with rows pending) now
         → are_new now (option_rows given ++ last) ≡ true → Settles (at_option rows pending) (options_spelled given ++ tail) (now ++ (option_rows given ++ last))

@@ -1,5 +1,5 @@
--- This file proves that the arguments name one of a program's commands if clap accepts the
--- arguments.
+-- This file proves that if clap accepts arguments, the arguments name one of the program's
+-- commands.
 use Rattle.std.proofs.Common.{◌≡◌, ℕ, Bool, true, false, List, [], ◌∷◌, Option, Some, None, is_some, refl, codes, fold, not, ◌&&◌}
 use Rattle.std.proofs.lemmas.Bool.{false_from_ne_true, cond_both}
 use Rattle.std.specs.{List.list_any, Str.bytes_eq}

@@ -1,5 +1,4 @@
--- This file proves that clap accepts the values that are given to a row of the table, and finds
--- these values.
+-- This file proves that clap accepts all values that `can_be_given` allows, and finds these values.
 use Rattle.std.proofs.Common.{◌≡◌, ◌∙◌, true, false, List, [], ◌∷◌, ◌++◌, Option, Some, None, append_assoc, fold, refl, sym, ap, ap₂, codes, map, find, drop}
 use Rattle.std.proofs.{Common.{is_some, IsSome, option_map, subst, inl, inr}, lemmas.Bool.{and_parts, false_from_ne_true, both_ways, cases_Bool}}
 use Rattle.std.proofs.lemmas.{List.append-nil, Slice.Eq.bytes_eq-Decides}
@@ -49,7 +48,7 @@ shape_found above (next ∷ entries) name other = elim (cases_Bool (bytes_eq nex
   | inr past ↦ rw past (shape_found above entries name other)
 ]
 
--- The state of clap's walk that has stopped at the command with the given name. The list
+-- The state of clap's walk after the walk has stopped at the command with the given name. The list
 -- `arguments` has the arguments after the name.
 abbrev at_command : Text → List Text → Walk
 at_command name arguments = record (walk_from nothing_held) { stopped = Some (name, arguments) }
@@ -70,7 +69,7 @@ module _ {C : Type 0} (title : Text) (first : Entry C) (others : List (Entry C))
   abbrev app : App
   app = built (with_more (program_named title) (map shape_of_entry (first ∷ others)))
 
-  -- The shape from which the commands inherit.
+  -- The shape of the program, from which its commands inherit.
   abbrev above : Shape
   above = with_leaf_noted (marked_built (with_more (program_named title) []).top)
 

@@ -1,4 +1,4 @@
--- This file defines the arguments and the commands of a program in the terms of the library `clap`.
+-- This file defines how the library `clap` represents the arguments and the commands of a program.
 use Rattle.std.specs.Prelude.{◌≡◌, [], ◌∷◌, Some, true, false, codes}
 use Rattle.clap.specs.{Simple.on_top, Words.{App, Rule, Shape, Text, app_of, new_app, new_rule}}
 use Rattle.clap.specs.declared.builder.{action.ArgAction.TheVariants.{Append, SetTrue}, command.Command.{Command, TheViews.out-Command}}

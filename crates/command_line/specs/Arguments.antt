@@ -4,12 +4,11 @@ use Rattle.clap.specs.{Words.{IsAmong, Kinds, Row, Text, first_of, kind_of}, dec
 use Rattle.clap.specs.declared.error.kind.ErrorKind.TheVariants as kind
 use Rattle.command_line.specs.declared.errors.ArgumentsFault.{ArgumentsFault, TheVariants.{Refused, BadValue, Memory}}
 
--- The value of an option. The value is an empty text if the option is missing.
+-- The value of the argument `id`. The value is an empty text if the argument is missing.
 abbrev pub value_in : Text → List Row → Text
 value_in id rows = unwrap_or (first_of id rows) []
 
--- The command line has the given flag. Clap represents the value of a given flag by the text
--- `true`.
+-- The command line has the flag `id`. Clap stores the text `true` as the value of such a flag.
 abbrev pub is_set : Text → List Row → Bool
 is_set id rows = bytes_eq (value_in id rows) (codes "true")
 

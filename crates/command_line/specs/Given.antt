@@ -1,5 +1,5 @@
--- This file defines values for the arguments of a row. The file also defines how a command line
--- contains the values, and what clap finds for them.
+-- This file defines the arguments of a command with their values. The file also defines how a
+-- command line contains the values, and what clap finds for them.
 use Rattle.std.specs.{List.list_any, Option.option_map_or, Prelude.{◌≡◌, ◌⊎◌, ◌==◌, ◌&&◌, ◌||◌, Bool, true, false, not, List, [], ◌∷◌, ◌++◌, Some, None, codes}}
 use Rattle.std.specs.{Prelude.{fold, is_some, map, unwrap_or, if◌then◌else◌}, Str.bytes_eq}
 use Rattle.clap.specs.{Faults.{check_fault, defaults_fault}, Kinds.{Kinds, or_else}, Lexer.strip_byte, Simple.{built_leaf, new_shape, wants_index}}
@@ -7,7 +7,7 @@ use Rattle.clap.specs.{Walk.{has_long, has_row, is_empty, reading_by, with_defau
 use Rattle.clap.specs.declared.parser.matches.ValueSource.TheVariants.{CommandLine}
 use Rattle.command_line.specs.Application.{flag_named, option_named, positional_named, positionals_named}
 
--- An argument of a row with its value.
+-- An argument of a command with its value.
 --
 -- - `option_given` is an option. The first field is true if one text `--NAME=VALUE` has both the
 --   name and the value. The second field is true if the option is required. The other fields are
@@ -66,7 +66,7 @@ positional_rows (_ ∷ given) = positional_rows given
 abbrev pub rows_given : List Given → List Found
 rows_given given = option_rows given ++ positional_rows given
 
--- The command of a row, as clap builds the command.
+-- The command with this name and these arguments, as clap builds the command.
 abbrev pub shape_given : Text → List Given → Shape
 shape_given name given = built_leaf (record (new_shape name) { rules = map rule_given given })
 
@@ -85,7 +85,7 @@ abbrev pub are_apart : List Rule → List Rule → Bool
 are_apart before [] = true
 are_apart before (rule ∷ rules) = is_apart before rule && are_apart (before ++ rule ∷ []) rules
 
--- All rows belong to different arguments.
+-- Each row of the second list belongs to an argument that has no earlier row in either list.
 abbrev pub are_new : List Found → List Found → Bool
 are_new before [] = true
 are_new before (row ∷ rows) = not (has_row row.id before) && are_new (before ++ row ∷ []) rows
@@ -95,8 +95,8 @@ abbrev is_option_name : Text → Bool
 is_option_name [] = false
 is_option_name (first ∷ rest) = not (list_any (λ byte. byte == 61) (first ∷ rest))
 
--- Each option's name isn't empty and has no `=`. If an option's value is a separate argument, the
--- value doesn't begin with a dash.
+-- The name of each option and flag isn't empty and has no `=`. If an option's value is a separate
+-- argument, the value doesn't begin with a dash.
 abbrev pub are_options_named : List Given → Bool
 are_options_named [] = true
 are_options_named (option_given joined required defaults name value ∷ given) =
@@ -110,8 +110,8 @@ has_no_positionals (positional_given required name value ∷ given) = false
 has_no_positionals (positionals_given required name first more ∷ given) = false
 has_no_positionals (_ ∷ given) = has_no_positionals given
 
--- A positional argument with several values, or without a value, comes after all other positional
--- arguments with values.
+-- After a positional argument with several values, or without a value, no positional argument has a
+-- value.
 abbrev pub is_in_order : List Given → Bool
 is_in_order [] = true
 is_in_order (positionals_given required name first more ∷ given) = has_no_positionals given
@@ -122,8 +122,9 @@ is_in_order (_ ∷ given) = is_in_order given
 abbrev pub end_fault : Shape → List Found → Kinds
 end_fault shape rows = or_else (defaults_fault rows shape.rules) (check_fault shape (fold with_default rows shape.rules) false)
 
--- A row can have the given values. The name of the row isn't `help`. The arguments of the row are
--- different and in order. Each required argument of the row is present.
+-- The command allows these arguments with their values. The command's name isn't `help`, and the
+-- options have valid names and values. The arguments are different and in order. Each required
+-- argument is present.
 abbrev pub can_be_given : Text → List Given → Bool
 can_be_given name given =
     let shape = shape_given name given in

@@ -1,4 +1,4 @@
--- This file defines the job that arguments ask for. A job is a row's command with the values of its
+-- This file defines the job that arguments ask for. A job is a command with the values of its
 -- arguments.
 use Rattle.std.specs.{Option.ok_or, Prelude.{◌≡◌, ◌⊎◌, List, [], Option, Some, None, Result, Ok, Err, codes}}
 use Rattle.clap.specs.{Words.{Row, Text, kind_of}, declared.error.kind.ErrorKind.ErrorKind}
@@ -8,12 +8,12 @@ use Rattle.command_line.specs.{Arguments.{HasText, IsRefusedAs, value_in}, FormN
 use Rattle.command_line.specs.declared.{errors.ArgumentsFault.{ArgumentsFault, TheVariants.{Refused, BadValue, Memory}}, job.Asked.Asked}
 use Rattle.command_line.specs.declared.job.Asked.TheVariants.{ShowText, Perform}
 
--- The reason why a row's arguments ask for no job: an error of clap, or an invalid argument.
+-- The reason why a command's arguments ask for no job: an error of clap, or an invalid argument.
 pub data Refusal (V : Type 0) : Type 0 where
   refused_as : ErrorKind → Refusal V
   bad_value : V → Refusal V
 
--- The bind operator of results, which works like `?` in code.
+-- The bind operator of `Result`, which works like `?` in code.
 infixl 10 ◌>>=◌
 abbrev pub ◌>>=◌ : {A B V : Type 0} → Result A (Refusal V) → (A → Result B (Refusal V)) → Result B (Refusal V)
 Ok x >>= f = f x
@@ -35,23 +35,23 @@ Answers expected (Err (Refused error)) = expected ≡ Err (refused_as (kind_of e
 Answers expected (Err (BadValue value)) = expected ≡ Err (bad_value value)
 Answers expected (Err Memory) = Unit {0}
 
--- A relation `ReadsRow` describes a call by three terms: a command, the rows that clap found, and a
--- result that the call may return.
+-- `ReadsRow` is the type of a relation between a command, the rows that clap found, and a result
+-- that a call may return.
 abbrev pub ReadsRow : Type 0 → Type 0 → Type 0 → Type 1
 ReadsRow C J V = C → List Row → Result J (ArgumentsFault V) → Type 0
 
--- Clap found a row, and a call that reads the row may return the result.
+-- Clap found a command, and a call that reads the command's values may return the result.
 abbrev pub ReadsFound : {C J V : Type 0} → ReadsRow C J V → Option (C × List Row) → Result J (ArgumentsFault V) → Type 0
 ReadsFound Reads None result = ⊥
 ReadsFound Reads (Some row) result = Reads row.0 row.1 result
 
--- Clap accepts the arguments. A call that reads the row that the arguments name may return the
--- result.
+-- Clap accepts the arguments. The arguments name a command, and a call that reads the command's
+-- values may return the result.
 abbrev pub ReadsAccepted : {C J V : Type 0} → Table C → ReadsRow C J V → List Text → Result J (ArgumentsFault V) → Type 0
 ReadsAccepted table Reads arguments result = (refusals table arguments ≡ []) × ReadsFound Reads (asked table arguments) result
 
--- The results of reading arguments. Clap checks the arguments first, and then the row reads its
--- values.
+-- The possible results of parsing arguments. Clap checks the arguments first, and the command then
+-- checks its values.
 abbrev pub ReadsJob : {C J V : Type 0} → Table C → ReadsRow C J V → List Text → Result (Asked J) (ArgumentsFault V) → Type 0
 ReadsJob table Reads arguments (Ok (ShowText text)) = HasText (refusals table arguments)
 ReadsJob table Reads arguments (Ok (Perform job)) = ReadsAccepted table Reads arguments (Ok job)

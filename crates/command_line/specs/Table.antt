@@ -60,8 +60,9 @@ asked_in table found = option_and_then (λ found. option_map (λ entry. (entry.c
 unfoldable pub asked : {C : Type 0} → Table C → List Text → Option (C × List Found)
 asked table arguments = asked_in table (subcommand_of (app_of_table table) arguments)
 
--- The conditions on the table of a program. Clap can parse the arguments of each row by rules that
--- don't refer to one another. A row can be given a value for each of its arguments.
+-- The conditions on the table of a program. Clap's specs define the results of parsing the
+-- program's arguments, and no argument's rule refers to another argument. Each rule describes an
+-- option, a flag or a positional argument. Each command allows any value for each of its arguments.
 pub record IsGood {C : Type 0} (table : Table C) : Type 0 where
   pub free : is_simple_and_free (app_of_table table) ≡ true
   pub rules : (value : Text → Text) → map (λ entry. map rule_given (map (given_by value) entry.rules)) table.entries ≡ map (λ entry. entry.rules) table.entries

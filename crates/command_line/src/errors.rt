@@ -14,7 +14,7 @@ use std::alloc::{AllocError, Global};
 pub enum ArgumentsFault<V> {
     /// An error with its text. `clap` or this crate made the error.
     Refused(Error),
-    /// An argument is an invalid value.
+    /// An argument has an invalid value.
     BadValue(V),
     /// Memory ran out.
     Memory,
@@ -40,7 +40,7 @@ pub fn text_fault<C: Commands, V>(alloc: Global) -> ArgumentsFault<V>
     arguments_fault::<C, V>(alloc, ErrorKind::ValueValidation, message)
 }
 
-/// Returns the fault for a name that no form has.
+/// Returns the fault for the name of an unknown form.
 pub fn form_fault<C: Commands, V>(alloc: Global, name: &str) -> ArgumentsFault<V>
     ensures { IsOfKind kinds.InvalidValue result }
 {

@@ -1,4 +1,4 @@
-//! Parses arguments into a job. A job is the command of a row with the values of its arguments.
+//! Parses arguments into a job. A job is a command with the values of its arguments.
 
 ghost use Rattle.std.specs.Prelude.{◌≡◌, IsSome, map};
 ghost use Rattle.clap.specs.Words.{found_of, rows_of, subcommand_rows_of};
@@ -61,7 +61,7 @@ pub fn read_job<'a, J: Job<'a>, S: AsStr>(
 ) -> Result<Asked<J>, ArgumentsFault<J::BadValue>>
     ensures { ReadsJob J.Command.table J.Reads (map S.text arguments.entry.now) result }
 {
-    // By the law `arguments_name_a_row`, arguments that `clap` accepts name a row.
+    // By the law `arguments_name_a_row`, arguments that `clap` accepts name a row of the table.
     arguments_name_a_row::<J::Command>();
     let Ok(application) = J::Command::application(alloc) else {
         return Err(ArgumentsFault::Memory);
@@ -80,7 +80,7 @@ pub fn read_job<'a, J: Job<'a>, S: AsStr>(
     }
 }
 
-// Returns the job of the row that the arguments name.
+// Returns the job of the command that the arguments name.
 fn job_found<'a, J: Job<'a>>(
     alloc: Global,
     mut matches: ArgMatches<'a>,

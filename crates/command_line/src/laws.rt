@@ -6,30 +6,29 @@ ghost use Rattle.command_line.specs.JobLaws.{RowsTakeWhatTheyAreGiven, WordsName
 
 use crate::job::Job;
 
-/// If `clap` accepts arguments for the program of a table, the arguments name one of the table's
-/// rows.
+/// If `clap` accepts arguments for a program, the arguments name a row of the program's table.
 #[tactic(auto, using(crate::proofs::RowLemmas::arguments_name_a_row))]
 pub fn arguments_name_a_row<C: Copy>()
     ensures { WordsNameARow C }
 {}
 
-/// If a row can be given some values, `clap` accepts arguments with these values. `clap` finds
+/// `clap` accepts all values that `can_be_given` allows for a command's arguments. `clap` finds
 /// exactly these values, and the defaults of the arguments without a value. An option is
 /// `--NAME=VALUE` or `--NAME VALUE`, and a flag is `--NAME`. Options and flags come first, in the
-/// row's order. After the options come `--` and the positional arguments.
+/// order of the command's row in the table. After the options come `--` and the positional
+/// arguments.
 pub fn rows_take_what_they_are_given<C: Copy>()
     ensures { RowsTakeWhatTheyAreGiven C }
 {}
 
-/// If a function computes a row's job from the row's values, the row has at most one job. If the
-/// row has a job, the only possible fault is that memory runs out.
+/// If the expected result of a call is a job, the call returns this job or runs out of memory.
 #[tactic(auto, using(crate::proofs::JobLemmas::answers_once))]
 pub fn rows_answer_once<J, V>()
     ensures { RowsAnswerOnce J V }
 {}
 
-/// If each row has at most one job, arguments ask for at most one job. If arguments ask for a job,
-/// the only possible fault is that memory runs out.
+/// If arguments ask for a job, parsing them returns this job or runs out of memory. The law
+/// requires `ReadsOnce`, which states the same for a command's values.
 pub fn arguments_ask_once<'a, J: Job<'a>>()
     ensures { ReadsOnce J.Reads → AskOnce J.Command.table J.Reads }
 {}

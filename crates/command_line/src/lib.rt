@@ -1,5 +1,6 @@
-//! The code that both command-line programs share. The crate builds and parses command lines. The
-//! crate also parses roots and the names of forms, reads input up to a limit, and writes texts.
+//! The code that the programs `clubdesk` and `passtool` share. The crate builds a program's
+//! commands for `clap`, and parses arguments. The crate also parses roots and the names of forms,
+//! reads input up to a limit, and writes texts.
 #![tactic(auto)]
 
 mod errors;

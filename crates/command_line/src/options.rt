@@ -49,15 +49,15 @@ pub fn make_positionals<'a>(alloc: Global, name: &'a str, value: &'a str, help: 
         .help(help)
 }
 
-/// Returns the value of an option. Returns an empty text if the option is missing.
+/// Returns the value of the argument `id`. Returns an empty text if the argument is missing.
 pub fn value_of<'a>(options: &ArgMatches<'a>, id: &str) -> &'a str
     ensures { result.now ≡ value_in id.now (rows_of (found_of options.now)) }
 {
     options.get_str(id).unwrap_or("")
 }
 
-/// Returns true if the command line has the given flag. `clap` represents the value of a given flag
-/// by the text `true`.
+/// Returns true if the command line has the flag `id`. `clap` stores the text `true` as the value
+/// of such a flag.
 pub fn is_set(options: &ArgMatches<'_>, id: &str) -> bool
     ensures { result ≡ is_set id.now (rows_of (found_of options.now)) }
 {

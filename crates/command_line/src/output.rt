@@ -12,8 +12,8 @@ use std::io::{self, ErrorKind, Write};
 ///
 /// # Errors
 ///
-/// Returns the writer's error, unless the error is an interruption by a signal. Before an error the
-/// writer may have taken a prefix of the text, or all of the text.
+/// Returns the writer's error, unless the error is an interruption by a signal. Before an error,
+/// the writer may have written a prefix of the text, or all of the text.
 pub fn write_text<W: Write>(writer: &mut W, text: &str) -> io::Result<()>
     ensures ok { OnOk result (Appends (W.contents writer.old) (W.contents writer.new) text.now) }
     ensures err { OnErr result
@@ -42,9 +42,8 @@ pub fn flush<W: Write>(writer: &mut W) -> io::Result<()>
     Err(io::Error::from(ErrorKind::TimedOut))
 }
 
-// Writes until the writer has taken all bytes. The contract of this function states how many bytes
-// were written before an error. The contract of `write_all` doesn't state the number of bytes
-// written.
+// Writes all of the bytes. The contract of this function states that the writer has written a
+// prefix of the bytes before an error. The contract of `write_all` doesn't state this.
 fn write_bytes<W: Write>(writer: &mut W, bytes: &[u8]) -> io::Result<()>
     ensures ok { OnOk result (Appends (W.contents writer.old) (W.contents writer.new) bytes.now) }
     ensures err { OnErr result

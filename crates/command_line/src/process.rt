@@ -38,14 +38,15 @@ impl<R: Env + AllocGlobal> GivenArguments for R {
     }
 }
 
-/// A place where a program prints the text of a fault.
+/// An output for the texts of a program's faults.
 pub trait FaultLines {
     ghost use Rattle.std.specs.Prelude.{ℕ, List, Option};
 
     // A text that the program tried to print, if the text is known.
     ghost asked: { Self → Option (List ℕ) → Type 0 };
 
-    /// Prints a text. Ignores a failure to print, since no place is left to report the failure.
+    /// Prints a text. Ignores a failure to print, because the program can't report the failure
+    /// anywhere else.
     fn print_text<F: Display>(&self, text: &F)
         ensures { asked self.now (F.output text.now) };
 }

@@ -1,4 +1,4 @@
-//! The root under which a pass is signed.
+//! The root, which is the secret key that signs a pass.
 
 ghost use Rattle.std.specs.Prelude.{◌≡◌, ◌≤◌, length};
 ghost use Rattle.command_line.specs.Root.{root_of};

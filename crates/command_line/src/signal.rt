@@ -4,7 +4,8 @@ ghost use Rattle.std.specs.{IoError.error_kind, Prelude.{◌≡◌, ◌↔◌, I
 
 use std::io::{Error, ErrorKind};
 
-/// Returns true if a signal interrupted the call. The caller may repeat an interrupted call.
+/// Returns true if the error means that a signal interrupted the call. The caller may repeat such a
+/// call.
 pub(crate) fn is_interrupted(error: &Error) -> bool
     ensures { IsTrue result ↔ (error_kind error.now ≡ ErrorKind.Interrupted) }
 {

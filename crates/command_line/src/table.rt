@@ -10,8 +10,8 @@ use crate::tree::{make_program, new_command, with_argument, with_command};
 use clap::{Arg, Command};
 use std::alloc::{AllocError, Global};
 
-/// An argument of a command. The fields are the argument's name, the name of its value in the help,
-/// and the text of the help.
+/// An argument of a command. The fields are the argument's name, the name that the help shows for
+/// its value, and the help text.
 #[derive(Clone, Copy)]
 pub enum Argument {
     /// The option `--NAME VALUE`.
@@ -36,7 +36,7 @@ pub enum Argument {
 }
 
 /// A command of a program: its value, its name, its help, and its arguments. The field `help` is
-/// the last text of the command's help.
+/// the text at the end of the command's help.
 pub struct Row<C: Copy> {
     pub command: C,
     pub name: &'static str,
@@ -62,8 +62,8 @@ pub trait Commands: Copy {
     // The rows of the program's table.
     ghost table: { Table Self };
 
-    /// Returns the program for `clap`. The contract of this function covers the program's
-    /// arguments.
+    /// Returns the program for `clap`. The contract also states that the table meets the conditions
+    /// of `IsGood`.
     fn application<'a>(alloc: Global) -> Result<Command<'a>, AllocError>
         ensures made { IfOk result (λ made. app_of made ≡ app_of_table table) }
         ensures good { IsGood table };

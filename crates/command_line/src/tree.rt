@@ -8,7 +8,7 @@ ghost use Rattle.command_line.specs.Application.{IsMade, program_named};
 use clap::{Arg, Command};
 use std::alloc::{AllocError, Global};
 
-/// The version of both programs, which `--version` prints.
+/// The version of `clubdesk` and `passtool`, which `--version` prints.
 const VERSION: &str = "0.1.0";
 
 /// Returns a program without commands. The program's long help ends with the exit statuses.
