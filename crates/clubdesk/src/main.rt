@@ -17,9 +17,9 @@ fn main(rt: HostRuntime) -> ExitCode {
     ExitCode::from(run_over_files(&rt, Program { rt: &rt }))
 }
 
-// Runs the program with the arguments and standard streams of the process. This type also
-// implements the traits of the process, because the borrow checker doesn't cover `main` with a type
-// of another crate in its place.
+// Runs the program with the arguments and standard streams of the process. `Program` also
+// implements the traits of the process, `GivenArguments` and `FaultLines`. If `main` used a type of
+// another crate instead of `Program`, the borrow checker couldn't check `main`.
 #[derive(Drop)]
 struct Program<'a> {
     rt: &'a HostRuntime,
