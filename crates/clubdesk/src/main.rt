@@ -19,7 +19,7 @@ fn main(rt: HostRuntime) -> ExitCode {
 
 // Runs the program with the arguments and standard streams of the process. `Program` also
 // implements the traits of the process, `GivenArguments` and `FaultLines`. If `main` used a type of
-// another crate instead of `Program`, the borrow checker couldn't check `main`.
+// another crate instead of `Program`, the borrow checker wouldn't check `main`.
 #[derive(Drop)]
 struct Program<'a> {
     rt: &'a HostRuntime,
