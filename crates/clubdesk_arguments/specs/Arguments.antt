@@ -26,8 +26,8 @@ None >>= f = None
 abbrev pub number_value : Text → List Row → Option ℕ
 number_value id rows = parse_number (value_in id rows)
 
--- The work for a key's command. If no argument has the root, the run reads the root from standard
--- input later.
+-- The work for a key's command. If no argument has the root, the root comes from standard input
+-- later.
 abbrev pub key_work : KeyCommand → Option Text → Option Work
 key_work given None = Some (Rootless given)
 key_work given (Some argument) = do
@@ -212,8 +212,8 @@ module _ (read : Readers) where
   abbrev pub job_of : JobOf CommandName JobModel Unit
   job_of name rows = over_file (value_in (codes "FILE") rows) (work_named name rows)
 
--- The possible results of converting the values of a command's arguments to a job. Exact readers
--- parse the values, and all exact readers return the same values.
+-- The possible results of converting the values of a command's arguments to a job. The choice of
+-- `read` doesn't matter, because all exact readers return the same values.
 pub record ReadsValues (name : CommandName) (rows : List Row) (result : Result JobModel (ArgumentsFault Unit)) : Type 0 where
   pub read : Readers
   pub exact : ReadExactly read

@@ -159,8 +159,8 @@ fn rotate_key<'a>(arguments: &ArgMatches<'a>, root: Option<&str>, form: Form) ->
     key_work(KeyCommand { name, change, form }, root)
 }
 
-// Returns the work for a key's command. If `root` is `None`, the run reads the root from standard
-// input later.
+// Returns the work for a key's command. If `root` is `None`, the root comes from standard input
+// later.
 fn key_work<'a>(command: KeyCommand, root: Option<&str>) -> Option<Work<'a>>
     ensures { result ≡ spec.key_work command (option_map (λ text. text.now) root.entry) }
 {

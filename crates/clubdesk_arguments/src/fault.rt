@@ -11,8 +11,10 @@ use std::{error, fmt, io};
 pub enum Fault {
     /// A rule of the club refuses the command.
     Refused(OfficeFault),
-    /// An argument isn't UTF-8, `clap` refused the arguments, `--form` names an unknown form, or
-    /// the root is given twice or not at all.
+    /// The arguments are wrong. The cases are:
+    /// - An argument isn't UTF-8, or `clap` refused the arguments.
+    /// - `--form` names an unknown form.
+    /// - A command that needs a root has both a root argument and `--root-stdin`, or neither.
     Arguments(clap::Error),
     /// The value of an argument, or the root from standard input, is invalid.
     BadValue,

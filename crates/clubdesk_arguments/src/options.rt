@@ -28,7 +28,7 @@ pub fn number_at(arguments: &ArgMatches<'_>, id: &str) -> Option<u32>
     parse_number(value_of(arguments, id))
 }
 
-/// Returns the value of the argument `id`, or `None` if this argument is missing.
+/// Returns the first value that `clap` found for the argument `id`, or `None` if `clap` found none.
 pub fn given<'a>(arguments: &ArgMatches<'a>, id: &str) -> Option<&'a str>
     ensures { option_map (λ text. text.now) result
         ≡ first_of id.now (rows_of (found_of arguments.now)) }

@@ -48,8 +48,8 @@ pub struct Service<'a> {
     pub count: u32,
     /// The clock that shows the moment of each request.
     pub clock: Clock<'a>,
-    /// The time limit for each step of a connection, from 1 to 3,600 seconds. The steps are
-    /// receiving the request, sending the reply, and closing the connection.
+    /// The time limit for each step of a client's connection, from 1 to 3,600 seconds. The steps
+    /// are receiving the request, sending the reply, and closing the connection.
     pub patience: u32,
     /// True if the server logs each client and each command.
     pub log: bool,
