@@ -21,8 +21,8 @@ pub(crate) const IN_MEMORY: &str = ":memory:";
 /// The path of the current folder.
 const HERE: &str = ".";
 
-/// The suffix of the door's name. The door is a server's socket, and its name begins with the
-/// database's name.
+/// The suffix of the door's name. The door is a server's socket. The name of the door is the
+/// database's name with this suffix.
 const OFFICE: &str = "-office";
 
 /// The user id of root.
@@ -38,8 +38,8 @@ pub(crate) struct Place {
 }
 
 impl Place {
-    /// Finds the folder and the name of the database at this path. The file itself may be missing,
-    /// because a server can still have a removed file open.
+    /// Finds the folder and the name of the database at this path. The folder must exist. The file
+    /// may be missing, because a server can still have a removed file open.
     pub fn find(rt: &HostRuntime, file: &str) -> io::Result<Place> {
         match fs::canonicalize(rt, file) {
             Ok(whole) => Place::of(rt, whole.as_path()),

@@ -43,8 +43,8 @@ impl OpenFile {
         Err(io::Error::from(ErrorKind::NotFound))
     }
 
-    /// Returns a file that is never checked. Commands use such a file, because they have the
-    /// database open only briefly.
+    /// Returns a file that is never checked. The office's commands use such a file, because they
+    /// have the database open only briefly.
     pub(crate) fn unwatched() -> OpenFile {
         OpenFile { file: None }
     }

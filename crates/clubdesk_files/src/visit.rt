@@ -48,8 +48,8 @@ pub(crate) enum Found<'a> {
     /// The server ended before it sent its greeting, and received no command.
     Ended,
     /// No server listens on the door, the database's name is too long for a door, or only root can
-    /// use the door. In these cases, `OfficeOpenings` opens the file itself, unless another program
-    /// has the file open.
+    /// use the door. In these cases, `OfficeOpenings` opens the file itself, unless the file's lock
+    /// shows that another program has the file open.
     Nobody,
 }
 
