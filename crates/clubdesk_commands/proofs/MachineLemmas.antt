@@ -36,7 +36,8 @@ is_other reply h = refl
 
 module _ {S : Type 0} (Clean : S → Type 0) (Represents : S → Club → List Club → Type 0) where
   -- If the disk is clean after the change, the disk was clean before the change. In this case,
-  -- `Gives` relates each club of the old store to a club that the new store represents.
+  -- `Gives` relates each club that the old store represents to a club that the new store
+  -- represents.
   pub record Simulates (old new : S) (Gives : Club → Club → Type 0) : Type 0 where
     pub was_clean : Clean new → Clean old
     pub follows : Clean new → (club : Club) (others : List Club) → Represents old club others

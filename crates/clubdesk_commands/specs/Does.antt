@@ -59,8 +59,8 @@ module _ {S : Type 0} (Clean : S → Type 0) (Represents : S → Club → List C
     out_of_memory : answer ≡ Err Memory → new ≡ old → IsAnswered command IsText answer old new
     command_given : (text : List ℕ) → IsText text → IsGiven command text answer old new → IsAnswered command IsText answer old new
 
-  -- The answer is the listing, the sheet or the fault that the desk returned. The club is
-  -- unchanged.
+  -- The answer is the listing or the sheet that the desk returned, or the program's fault for the
+  -- desk's fault. The club is unchanged.
   pub record DeskShows (Shows : Club → Result (String Global) DeskFault → Type 0) (answer : Result (List ℕ) Fault) (old new : S) : Type 0 where
     pub was_clean : Clean new → Clean old
     pub kept : Clean new → KeepsClub Represents old new

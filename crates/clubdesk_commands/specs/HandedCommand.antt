@@ -13,9 +13,9 @@ abbrev pub pieces : List Text → List ℕ
 pieces [] = []
 pieces (text ∷ texts) = piece text ++ pieces texts
 
--- The encoding of a command. The encoding has the number of arguments, the root, and the arguments.
--- Each of these texts is followed by a zero byte. The root is an empty text if the command sets no
--- root.
+-- The encoding of a command. The encoding consists of the number of arguments in decimal, the root,
+-- and the arguments. Each of these texts is followed by a zero byte. The root is an empty text if
+-- the command gives no root to a key.
 abbrev pub command_bytes : Text → List Text → List ℕ
 command_bytes root arguments = piece (decimal (length arguments)) ++ (piece root ++ pieces arguments)
 

@@ -26,7 +26,7 @@ named_line (Some name) = codes "office " ++ take 24 name ++ codes " "
 named_line None = []
 
 -- The text in the log for a command with this answer. If the answer is the fault `Arguments`, the
--- text is empty, because the name may be any text.
+-- text is empty, because `name` may then be any text.
 abbrev pub logged_line : Result (List ℕ) Fault → Option Text → List ℕ
 logged_line (Err (Arguments error)) name = []
 logged_line answer name = named_line name
@@ -56,9 +56,9 @@ module _ {Store : Type 0} (Clean : Store → Type 0) (Represents : Store → Clu
         → DoesArguments root arguments answer old new
 
   -- The effect of the bytes that a server receives. If the bytes encode a command of the office,
-  -- the desk carries out the command once, unless memory runs out. The log has the name of such a
-  -- command, which is the second argument. If the bytes encode no command of the office, the store
-  -- is unchanged.
+  -- the desk carries out the command once, unless memory runs out. The answer has the text for the
+  -- log that `logged_line` defines. The command's name is the second argument. If the bytes encode
+  -- no command of the office, the store is unchanged.
   pub data CarriesOutBy (bytes : List ℕ) (old : Store) (answer : Answer) (new : Store) : Type 0 where
     command_done : (root : Text) (arguments : List Text) (result : Result (List ℕ) Fault) → SpellsCommand bytes root arguments
         → DoesArguments root arguments result old new

@@ -10,7 +10,8 @@ use std::convert::AsStr;
 use std::str;
 
 /// A command that the program sends to a server: a key's root in hexadecimal, and the arguments.
-/// The root is empty if the command sets no root. The first argument is the program's name.
+/// The root is empty if the command gives no root to a key. The first argument is the program's
+/// name.
 #[derive(Drop)]
 pub struct HandedCommand {
     pub root: String,

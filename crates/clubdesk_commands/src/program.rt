@@ -24,11 +24,11 @@ use std::io::{Read, Write};
 ///
 /// The program checks the arguments before it opens a database. A server opens the database once,
 /// and closes the database at the end. While a server runs, other runs send their commands to the
-/// server. If no server has the database open, a run opens the database once. The run closes the
-/// database before it writes the output. The program reads standard input only for `--root-stdin`.
-/// The input must be a root in hexadecimal, and a line feed at the end is ignored. The program
-/// reads the input before it opens the database. The texts of help and of the version come from
-/// `clap`. Only `serve --log` logs clients and commands.
+/// server. If no server has the database open, a command of the office opens the database once. The
+/// command closes the database before it writes the output. The program reads standard input only
+/// for `--root-stdin`. The input must be a root in hexadecimal, and a line feed at the end is
+/// ignored. The program reads the input before it opens the database. The texts of help and of the
+/// version come from `clap`. Only `serve --log` logs clients and commands.
 ///
 /// # Errors
 ///
