@@ -4,7 +4,7 @@ use Rattle.clap.specs.{Words.{IsAmong, Kinds, Row, Text, first_of, kind_of}, dec
 use Rattle.clap.specs.declared.error.kind.ErrorKind.TheVariants as kind
 use Rattle.command_line.specs.declared.errors.ArgumentsFault.{ArgumentsFault, TheVariants.{Refused, BadValue, Memory}}
 
--- The value of the argument `id`. The value is an empty text if the argument is missing.
+-- The first value that clap found for the argument `id`, or an empty text if clap found none.
 abbrev pub value_in : Text → List Row → Text
 value_in id rows = unwrap_or (first_of id rows) []
 

@@ -110,8 +110,8 @@ has_no_positionals (positional_given required name value ∷ given) = false
 has_no_positionals (positionals_given required name first more ∷ given) = false
 has_no_positionals (_ ∷ given) = has_no_positionals given
 
--- After a positional argument with several values, or without a value, no positional argument has a
--- value.
+-- After `positionals_given`, or after a positional argument without a value, no positional argument
+-- has a value.
 abbrev pub is_in_order : List Given → Bool
 is_in_order [] = true
 is_in_order (positionals_given required name first more ∷ given) = has_no_positionals given

@@ -49,7 +49,8 @@ pub fn make_positionals<'a>(alloc: Global, name: &'a str, value: &'a str, help: 
         .help(help)
 }
 
-/// Returns the value of the argument `id`. Returns an empty text if the argument is missing.
+/// Returns the first value that `clap` found for the argument `id`. Returns an empty text if `clap`
+/// found no value.
 pub fn value_of<'a>(options: &ArgMatches<'a>, id: &str) -> &'a str
     ensures { result.now ≡ value_in id.now (rows_of (found_of options.now)) }
 {
