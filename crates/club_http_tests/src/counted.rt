@@ -12,14 +12,14 @@ use test_kit::exchanges::{BAD_REQUEST, BOOKED_7, UNAVAILABLE};
 use test_kit::replies;
 use test_kit::requests::BOOK_7;
 
-/// The request of a booking, with a head of 116 bytes and a body of 12.
+/// A request for a booking, with a head of 116 bytes and a body of 12.
 const BOOKING: &str = "PUT /slots/court-1/2026-05-01/18/bookings/7 HTTP/1.1\r\nHost: club\r\n\
     Authorization: Bearer AgEJ\r\nContent-Length: 12\r\n\r\n{\"guests\":2}";
 
 const _: () = prove!(BOOKING.len() == 128);
 
-/// The result of an exchange, the desk's last request, and the text of the reply. A failed writer
-/// has a prefix of the text.
+/// The result of an exchange, the desk's last request, and the text of the reply. If the writer
+/// fails, it gets only a prefix of the text.
 type Ended = (Result<Reply, AnswerFault>, Option<Request>, &'static str);
 
 const IS_BAD: Ended = (Ok(Reply::Refused(Refusal::BadRequest)), None, BAD_REQUEST);

@@ -9,7 +9,8 @@ use std::io::{Read, Write};
 use std::net::TcpStream;
 use std::os::unix::net::UnixStream;
 
-/// A client that sends more bytes of its request at each command.
+/// A client that sends its request in pieces. When the desk gets a command, the client sends the
+/// next piece.
 #[derive(Drop)]
 pub struct Sender<'d> {
     pub client: &'d TcpStream,
@@ -27,12 +28,12 @@ impl Sender<'_> {
     }
 }
 
-/// A desk that counts requests and commands. All requests get one reply, and all commands one
-/// answer.
+/// A desk that counts requests and commands. All requests get the same reply, and all commands get
+/// the same answer.
 #[derive(Drop)]
 pub struct Desk<'d> {
     pub alloc: Global,
-    /// The desk counts only the requests at this moment.
+    /// The desk counts a request only if the request comes at this moment.
     pub moment: Moment,
     pub reply: Reply,
     /// The status and the text of each answer.
@@ -44,11 +45,12 @@ pub struct Desk<'d> {
     /// The total number of bytes of all commands.
     pub bytes: usize,
     pub sender: Option<Sender<'d>>,
-    /// The desk reads this connection to its end at a request, and stores the bytes in `got`.
+    /// When the desk gets a request, it reads this connection to the end, and stores the bytes in
+    /// `got`.
     pub office: Option<&'d UnixStream>,
     pub got: Vec<u8>,
     pub journal: Option<&'d Journal>,
-    /// A request and a command take this many milliseconds of the journal's clock.
+    /// The milliseconds that a request and a command take on the journal's clock.
     pub asking_takes: u64,
     pub command_takes: u64,
 }

@@ -8,14 +8,14 @@ use std::time::Clock;
 use test_kit::Piece;
 use test_kit::moments::NOON;
 
-/// A helper for sockets needs `Net` in its own bound. The borrow checker doesn't cover a test that
-/// gets `Net` through this trait.
+/// A helper that uses sockets must have `Net` in its own bounds. The borrow checker doesn't cover a
+/// test that gets `Net` through this trait.
 pub(crate) trait Runtime: Abort + Alloc<A = Global> + Clock {}
 
 impl<R: Abort + Alloc<A = Global> + Clock> Runtime for R {}
 
-/// Ends the test unless the values are equal. The proof of a test that calls this function takes a
-/// third of the time that it takes with an assertion.
+/// Ends the test unless the values are equal. A test that calls this function is proved in a third
+/// of the time of a test that asserts.
 pub(crate) fn expect_eq<T: PartialEq + Debug>(rt: &impl Runtime, returned: &T, want: &T) {
     assert_eq!(rt; returned, want);
 }

@@ -4,7 +4,7 @@ use crate::bodies::is_whole;
 use crate::expect::{Runtime, expect_row, join};
 use test_kit::Piece;
 
-/// A text, and whether a complete request is its prefix.
+/// A text, and whether the text begins with a complete request.
 static WHOLE: [(&str, bool); 11] = [
     ("", false),
     ("GET /account HTTP/1.1\r\n\r", false),
@@ -12,7 +12,7 @@ static WHOLE: [(&str, bool); 11] = [
     ("GET /account HTTP/1.1\n\n", false),
     ("GET /account HTTP/1.1\r\n\n", false),
     ("GET /account HTTP/1.1\r\n\r\r\n", false),
-    // An invalid head needs no further bytes.
+    // A request with an invalid head counts as complete.
     ("\r\n\r\n", true),
     ("GET\r\n\r\n", true),
     ("PUT / HTTP/1.1\r\nContent-Length: 2\r\n\r\n{", false),
@@ -21,7 +21,7 @@ static WHOLE: [(&str, bool); 11] = [
     ("PUT / HTTP/1.1\r\nContent-Length: 257\r\n\r\n", true),
 ];
 
-/// Long texts. A head has at most 16,384 bytes.
+/// Long texts, and whether each begins with a complete request. A head has at most 16,384 bytes.
 static LONG: [(&[Piece], bool); 3] = [
     (&[(16_383, "a")], false),
     (&[(16_384, "a")], true),

@@ -1,4 +1,4 @@
-//! The bytes of the longest reply, and of the buffer after the reply.
+//! The bytes of the longest reply. Writing the reply doesn't change the rest of the buffer.
 
 use crate::expect::{Runtime, expect_row};
 use club_core::Reply;

@@ -1,4 +1,4 @@
-//! Tests of servers with connections in memory, and helpers of the tests over sockets.
+//! Tests of servers with connections in memory, and helpers for the tests over sockets.
 
 mod accepted;
 mod at_the_door;
@@ -56,7 +56,7 @@ fn patience() -> Duration {
     Duration::from_secs(10)
 }
 
-/// Returns a reply about a court that `taken` persons booked.
+/// Returns the reply that shows a court's slot with `taken` persons.
 fn slot_shown(slot: Slot, price: u16, taken: u64) -> Reply {
     Reply::SlotShown {
         slot,
@@ -68,7 +68,7 @@ fn slot_shown(slot: Slot, price: u16, taken: u64) -> Reply {
     }
 }
 
-/// Accepts the listener's next client. The office's commands come at the door.
+/// Accepts the listener's next client. The office's commands come through `door`.
 fn client_at<'a, C: time::Clock>(
     rt: &impl Runtime,
     listener: &'a TcpListener,
@@ -118,8 +118,9 @@ static FAILING: [Wire<'static>; 10] = [
     Wire::Client(WHOLE),
 ];
 
-/// The clients to serve, and the expected waits for an arrival. The other numbers are the desk's
-/// requests, its commands, and their bytes. A command doesn't count as a client.
+/// The number of clients to serve, and the expected number of waits for an arrival. Then the
+/// numbers of the desk's requests, of its commands, and of the commands' bytes. A command doesn't
+/// count as a client.
 static COUNTS: [(u32, u64, u64, u64, usize); 5] = [
     (0, 0, 0, 0, 0),
     (1, 1, 1, 0, 0),
@@ -128,7 +129,7 @@ static COUNTS: [(u32, u64, u64, u64, usize); 5] = [
     (6, 9, 3, 2, 21),
 ];
 
-// A client that fails counts as served. The server continues after a refused request.
+// A client whose connection fails counts as served. The server continues after a refused request.
 #[test]
 fn serves_as_many_as_asked(rt: HostRuntime) {
     for (count, waited, asked, commanded, bytes) in &COUNTS {

@@ -4,11 +4,12 @@ ghost use Rattle.std.specs.Prelude.{◌≤◌};
 
 use club_http::{Inlet, Outlet};
 
-/// A reader that returns a few bytes per call. A call after its last byte returns none, or fails.
+/// A reader that returns a few bytes per call. After the last byte, a call returns no bytes or
+/// fails.
 #[derive(Drop)]
 pub struct Pieces<'a> {
     pub left: &'a [u8],
-    /// A call returns at most this many bytes and one more.
+    /// One less than the largest number of bytes that a call returns.
     behind_first: usize,
     fails: bool,
     pub calls: u64,
@@ -54,7 +55,8 @@ impl Inlet for Pieces<'_> {
 
 pub const ROOM: usize = 512;
 
-/// A writer that accepts a few bytes per call. A call after `limit` bytes fails, or accepts none.
+/// A writer that accepts a few bytes per call. After `limit` bytes, a call fails or accepts no
+/// bytes.
 #[derive(Drop)]
 pub struct Narrow {
     bytes: [u8; ROOM],

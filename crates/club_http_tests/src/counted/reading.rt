@@ -1,4 +1,5 @@
-//! Tests of how many calls read a request. No call comes after the request's last byte.
+//! Tests of how often an exchange calls the reader. After the request's last byte, the exchange
+//! doesn't call the reader again.
 
 use super::doubles::Pieces;
 use super::{BOOKING, Ended, IS_BAD, NO_REQUEST, booked, returns};
@@ -7,8 +8,8 @@ use crate::expect::{Runtime, expect_eq, join};
 use std::ops::Range;
 use test_kit::Piece;
 
-/// The most bytes per call, the calls, and the bytes left unread. The reader fails if a call comes
-/// after its last byte.
+/// The largest number of bytes per call, the number of calls, and the number of unread bytes. After
+/// its last byte, the reader fails.
 type Reading = (usize, u64, usize);
 
 fn is_read(rt: &impl Runtime, text: &str, (step, calls, left): &Reading, want: &Ended) {
@@ -35,7 +36,7 @@ static LONGEST_READINGS: [Reading; 4] = [
     (1, 16_640, 0),
 ];
 
-/// A text without the end of a head is a bad request after 16,384 bytes.
+/// If a head doesn't end within 16,384 bytes, the exchange refuses the request as bad.
 static ENDLESS: [Reading; 3] = [(1, 16_384, 3_616), (600, 28, 3_360), (200_000, 1, 3_360)];
 
 fn is_read_so(rt: &impl Runtime, pieces: &[Piece], readings: &[Reading], want: &Ended) {
@@ -58,7 +59,8 @@ fn endless_head(rt: HostRuntime) {
     is_read_so(&rt, &[(20_000, "x")], &ENDLESS, &IS_BAD);
 }
 
-/// Returns the reading of a request of `len` bytes and five more, at `step` bytes per call.
+/// Returns the expected `Reading` of a request of `len` bytes with five more bytes after it. A call
+/// returns at most `step` bytes.
 fn by_steps(len: usize, step: usize) -> Reading {
     let calls = len.div_ceil(step.max(1));
     let taken = calls.saturating_mul(step);
@@ -73,7 +75,7 @@ fn is_read_by_steps(rt: &impl Runtime, text: &str, steps: Range<usize>, want: &E
     }
 }
 
-/// Header fields of 0, 5, 6 and 7 bytes move the end of the head to each remainder modulo 4.
+/// With header fields of 0, 5, 6 and 7 bytes, the head's length has each remainder modulo 4.
 static FIELDS: [&str; 4] = ["", "A: \r\n", "A: b\r\n", "A: bc\r\n"];
 
 fn with_field(rt: &impl Runtime, field: &str) -> String {
@@ -92,7 +94,8 @@ fn splits_a_request(rt: HostRuntime) {
     }
 }
 
-/// Texts with an incomplete CR LF CR LF before the first complete one.
+/// Each text has a CR LF CR LF before `GET /`. In all but the first text, other CR and LF bytes
+/// come before the CR LF CR LF.
 static PARTS: [&str; 5] = [
     "\r\n\r\nGET /",
     "\r\r\n\r\nGET /",

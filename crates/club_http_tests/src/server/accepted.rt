@@ -1,5 +1,5 @@
-//! Exchanges over a connection that a listener accepted. A test sets the clock. Only these tests
-//! refuse an exchange with other limits, or one that reads or writes fewer bytes.
+//! Exchanges over a connection that a listener accepted. Each test sets the clock. Only these tests
+//! fail if an exchange has other time limits, or reads or writes fewer bytes.
 
 use super::{Journal, client_at, exchange, new_face, patience, slot_shown};
 use crate::desk::Desk;
@@ -22,8 +22,8 @@ const LAST_HOUR: PlainSlot = PlainSlot {
     ..FIRST_HOUR
 };
 
-/// A request, its moment, the decoded request, the reply, and the text of the reply. The desk
-/// replies that the slot is free if the reply is `None`.
+/// A request, its moment, the decoded request, the reply, and the text of the reply. If the reply
+/// is `None`, the desk replies that the slot is free.
 static ROWS: [(&str, &str, PlainRequest, Option<PlainReply>, &str); 5] = [
     (
         exchanges::BOOK_7,
@@ -114,9 +114,10 @@ fn exchanges_of_each_day(rt: HostRuntime) {
 
 const WHOLE: usize = exchanges::BOOK_7.len();
 
-/// The sent bytes, the milliseconds before the exchange, the milliseconds that the desk takes, the
-/// desk's requests, and the fault. The client has ten seconds from its connection, and ten more
-/// from the reply's first byte. The server serves a late request that is complete.
+/// The number of sent bytes, the milliseconds before the exchange, the milliseconds that the desk
+/// takes, the number of the desk's requests, and the fault. The client has ten seconds after its
+/// connection is accepted, and ten more seconds after the reply's first byte. The server serves a
+/// late request if the request is complete.
 static LIMITS: [(usize, u64, u64, u64, Option<AnswerFault>); 6] = [
     (WHOLE, 0, 0, 1, None),
     (WHOLE, 9_999, 0, 1, None),

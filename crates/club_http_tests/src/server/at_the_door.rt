@@ -1,5 +1,5 @@
-//! The office's commands at the server's door, alone and while clients wait. No contract states
-//! which bytes a socket sends or receives.
+//! The office's commands at the server's door, which is a Unix socket. Some commands come while
+//! clients wait. No contract states which bytes a socket sends or receives.
 
 use super::by_the_door::{door_at, new_path};
 use super::doubles::HandSet;
@@ -17,7 +17,8 @@ use std::os::unix::net::{UnixListener, UnixStream};
 use std::test::Fail;
 use std::time::{Clock, Duration};
 
-/// A sender ends its side of the connection, stays silent, or closes the connection.
+/// After sending its bytes, a sender ends its side of the connection, stays silent, or closes the
+/// connection.
 #[derive(Clone, Copy, Debug, PartialEq, Eq)]
 enum Then {
     Ends,
@@ -29,7 +30,8 @@ type Sent = (usize, Then);
 
 const NOTHING: &[u8] = b"!\x09nothing was done\0";
 
-/// A sender, the commands that the desk carries out, the bytes of the commands, and the answer.
+/// A sender, the number of commands that the desk carries out, the number of their bytes, and the
+/// answer.
 static ROWS: [(Sent, u64, usize, &[u8]); 8] = [
     ((8, Then::Ends), 1, 8, b"!\x01\0"),
     ((0, Then::Ends), 1, 0, b"!\x01\0"),
@@ -76,7 +78,8 @@ fn visits<C: Clock>(
     fs::remove_file(rt, path.as_str())?;
     let mut got = Vec::new(rt.alloc());
     if let Some(mut sender) = sender {
-        // The client resets the connection if the server left bytes unread.
+        // This read may end with an error, because the server may close the connection without
+        // reading all bytes.
         let _ = sender.read_to_end(&mut got);
     }
     Ok((whole, got))
@@ -94,10 +97,10 @@ fn senders_at_a_door(rt: HostRuntime) -> Result<(), Fail> {
     Ok(())
 }
 
-/// The clock advances by these milliseconds at each reading. A command has 200 milliseconds.
+/// The milliseconds that each reading adds to the clock. A command has 200 milliseconds to arrive.
 static LATE: [u64; 4] = [0, 150, 200, 1_000];
 
-// A suspended server still carries out a command that has come.
+// Even if the server was suspended for too long, it carries out a command that has already arrived.
 #[test]
 fn a_command_that_is_there_is_in_time(rt: HostRuntime) -> Result<(), Fail> {
     for step in &LATE {
@@ -141,8 +144,8 @@ fn is_command<A: Arrivals>(arrivals: &mut A) -> Option<bool> {
     }
 }
 
-// The door is readable after a shutdown, and each accept at the door fails. The server pauses ten
-// milliseconds, and then accepts a client.
+// After its shutdown, the door is readable, but each accept at the door fails. The server pauses
+// ten milliseconds, and then accepts a client.
 #[test]
 fn a_door_that_fails_is_no_client(rt: HostRuntime) -> Result<(), Fail> {
     let path = new_path(&rt, "fails")?;
@@ -161,7 +164,7 @@ fn a_door_that_fails_is_no_client(rt: HostRuntime) -> Result<(), Fail> {
     Ok(())
 }
 
-/// More bytes than a socket's buffers can store.
+/// More bytes than the buffers of a socket can hold.
 const LONG: usize = 2_000_000;
 
 // The server cuts the sender off, so the sender gets an incomplete answer.

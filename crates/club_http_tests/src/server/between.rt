@@ -1,5 +1,5 @@
 //! Commands that come while the server waits for a request. No contract states how long a server
-//! waits, or whether a command or a client goes first.
+//! waits, or whether it serves a command or a client first.
 
 use super::doubles::{Script, Step, Wire};
 use super::journal::{Entries, Journal};
@@ -8,8 +8,8 @@ use crate::desk::Desk;
 use crate::expect::{Runtime, expect_eq, expect_row, noon};
 use desk_server::serve_logged;
 
-/// The steps of a client and of the office, the milliseconds that each command takes, and the calls
-/// of the server with their times. The server has a patience of ten seconds.
+/// The steps of a client and of the office, the milliseconds that each command takes, and the
+/// server's calls with their times. The server has a patience of ten seconds.
 struct Row {
     steps: &'static [Step<'static>],
     command_takes: u64,

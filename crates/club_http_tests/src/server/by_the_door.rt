@@ -1,4 +1,4 @@
-//! Commands that come at the office's door while the server waits for a client's request.
+//! Commands that come through the office's door while the server waits for a client's request.
 
 use super::{REPLY, REQUEST, client_at, desk_at_noon, exchange, new_face, patience};
 use crate::desk::{Desk, Sender};
@@ -29,7 +29,7 @@ pub fn door_at(rt: &(impl Files + Net), path: &str) -> Result<UnixListener, Fail
     Ok(door)
 }
 
-/// A read of the answer fails after a second.
+/// Sends a command to the door. A read of the answer times out after a second.
 pub fn office_at(rt: &impl Net, path: &str, command: &[u8]) -> Result<UnixStream, Fail> {
     let mut office = UnixStream::connect(rt, path)?;
     office.write_all(command)?;
@@ -38,7 +38,8 @@ pub fn office_at(rt: &impl Net, path: &str, command: &[u8]) -> Result<UnixStream
     Ok(office)
 }
 
-/// The client sends `rest` at a command. The desk reads `office` at a request.
+/// When this desk gets a command, the client sends `rest`. When the desk gets a request, it reads
+/// `office` to the end.
 fn tied_desk<'x>(
     rt: &impl Runtime,
     client: &'x TcpStream,
@@ -58,8 +59,8 @@ fn tied_desk<'x>(
     }
 }
 
-/// Returns the fault, the bytes of the commands, and the number of requests. The office must get
-/// the complete answer before the desk gets the request.
+/// Returns the fault, the number of the commands' bytes, and the number of requests. The office
+/// must get the complete answer before the desk gets the request.
 fn ends_beside_a_command<'x>(
     rt: &'x (impl Runtime + Net),
     path: &str,
@@ -133,7 +134,8 @@ impl Clock for Sending<'_> {
     }
 }
 
-// Each accept at the door fails. The server sleeps, and then serves the client first.
+// Each accept at the door fails. After a sleep, the server serves the client before it tries the
+// door again.
 #[test]
 fn a_door_that_fails_beside_a_client(rt: HostRuntime) -> Result<(), Fail> {
     let path = new_path(&rt, "fails-beside-a-client")?;

@@ -96,8 +96,8 @@ fn rules_of_no_zone(rt: HostRuntime) {
     }
 }
 
-/// The days in March and October on which summer time starts and ends in Berlin at 01:00 UTC, from
-/// 2000 to 2099.
+/// The days in March on which summer time starts in Berlin, from 2000 to 2099. `OCTOBER` has the
+/// days on which summer time ends. Both changes are at 01:00 UTC.
 static MARCH: [u8; 100] = [
     26, 25, 31, 30, 28, 27, 26, 25, 30, 29, 28, 27, 25, 31, 30, 29, 27, 26, 25, 31, 29, 28, 27, 26,
     31, 30, 29, 28, 26, 25, 31, 30, 28, 27, 26, 25, 30, 29, 28, 27, 25, 31, 30, 29, 27, 26, 25, 31,
@@ -114,7 +114,8 @@ static OCTOBER: [u8; 100] = [
     28, 27, 26, 25,
 ];
 
-/// Ends the test unless a clock in Berlin shows `time`, `seconds` after midnight UTC.
+/// Ends the test unless a clock in Berlin shows `time` when `seconds` seconds have passed since
+/// midnight UTC.
 fn shows(rt: &impl Runtime, (year, month, day): (u16, &str, u8), seconds: u16, time: &str) {
     let text = format!(in rt.alloc(); "{year}-{month}-{day}T{time}").expect(rt, "memory");
     let wanted = moment(rt, text.as_str());

@@ -1,4 +1,5 @@
-//! A journal of the calls of a client's stream, of the desk and of the log, with their times.
+//! A journal of the calls to a client's stream, to the desk and to the log, with the time of each
+//! call.
 
 use super::doubles::HandSet;
 use crate::expect::Runtime;
@@ -6,7 +7,8 @@ use desk_server::{Log, LogEvent};
 use std::alloc::Global;
 use std::cell::RefCell;
 
-/// A call, with its time limit in milliseconds, or the bytes of a write or a command.
+/// A call. The numbers are the time limit in milliseconds, and the number of bytes of a write or a
+/// command.
 #[derive(Clone, Copy, Debug)]
 pub enum Call {
     /// This wait returns the command if both the client and the office are ready.
@@ -44,7 +46,7 @@ impl Journal {
         }
     }
 
-    /// Removes the calls from the journal.
+    /// Removes the calls from the journal, and returns them as a text.
     pub fn calls(&self, rt: &impl Runtime) -> String {
         let calls = self.calls.try_replace(Vec::new(rt.alloc()));
         let calls = calls.unwrap_or(Vec::new(rt.alloc()));

@@ -13,7 +13,8 @@ use std::net::{Net, TcpListener, TcpStream};
 use std::test::Fail;
 use test_kit::{COURT_AT_18, exchanges, replies, requests};
 
-/// The client sends the request in pieces of `step` bytes. A command comes between each two pieces.
+/// The client sends the request in pieces of `step` bytes. A command comes before each piece except
+/// the first.
 fn asked_in_pieces(
     rt: &(impl Runtime + Net<Listener = TcpListener, Stream = TcpStream> + Files),
     path: &str,

@@ -63,7 +63,7 @@ const LINES: &str = "2026-04-20T12:00 office credit 1 1533
 2026-04-20T12:00 - /account 405 1533
 ";
 
-/// The server's result, the waits for an arrival, and the requests at noon.
+/// The server's result, the number of waits for an arrival, and the number of requests at noon.
 type Served = (Result<(), ClockOutOfRange>, u64, u64);
 
 /// The clock fails after `left` readings.
@@ -109,8 +109,8 @@ fn a_log_that_fails(rt: HostRuntime) {
     expect_eq(&rt, &returned, &(Ok(()), 11, 3));
 }
 
-/// The first bytes of a request, and the method and the path in the log. The log uses 96 bytes,
-/// which are enough for the longest request line.
+/// The first bytes of a request, and the method and the path in the log. The log keeps the first 96
+/// bytes of a request, which is enough for the request line of each valid request.
 static REQUEST_LINES: [(&str, Option<&str>, Option<&str>); 10] = [
     ("GET /account HTTP/1.1\r\n", Some("GET"), Some("/account")),
     ("OPTIONS * HTTP/1.1", Some("OPTIONS"), None),

@@ -43,7 +43,7 @@ fn accepts_a_client(rt: HostRuntime) {
     drop(client_at(&rt, &listener, None, &rt, patience()));
 }
 
-/// The face contains the bytes of the request.
+/// Returns the face, which contains the bytes of the request.
 fn exchanges<'x>(rt: &'x impl Runtime, listener: &'x TcpListener, asked: u64) -> Face {
     let mut face = new_face(rt);
     let mut desk = desk_at_noon(rt);
@@ -69,7 +69,8 @@ fn exchanges_over_a_socket(rt: HostRuntime) {
 
 static BEHIND: [u16; 3] = [1, 1_000, 60_000];
 
-// The client may lose its reply if the server closes the socket before it read all bytes.
+// The client may lose its reply if the server closes the socket before the server has read all
+// bytes.
 #[test]
 fn replies_before_bytes_behind_a_request(rt: HostRuntime) -> Result<(), Fail> {
     for behind in &BEHIND {
@@ -84,8 +85,8 @@ fn replies_before_bytes_behind_a_request(rt: HostRuntime) -> Result<(), Fail> {
     Ok(())
 }
 
-// The server reads the clock at the start of two limits, and at each wait, read and write. Five
-// readings show that the server doesn't wait for the client after the reply.
+// The server reads the clock when each of its two time limits starts, and at each wait, read and
+// write. Five readings show that the server doesn't wait for the client after the reply.
 #[test]
 fn closes_at_once_after_a_request(rt: HostRuntime) {
     let listener = loopback_listener(&rt);
@@ -118,12 +119,13 @@ fn waits_as_long_as_its_patience(rt: HostRuntime) {
     expect_eq(&rt, &(after.saturating_sub(before) >= patience), &true);
 }
 
-/// Each reading of this clock also reads the bytes that the client has received.
+/// A clock. Each reading of the clock also reads the bytes that the client has received.
 #[derive(Drop)]
 struct Watching<'c> {
     clock: &'c HostRuntime,
     client: &'c TcpStream,
-    // The client received `came` bytes. The client reached the end of the bytes if `ended` is true.
+    // The number of bytes that the client has received, and whether the client has reached their
+    // end.
     came: Cell<usize>,
     ended: Cell<bool>,
 }

@@ -9,7 +9,7 @@ use club_http::{AnswerFault, Inlet, Outlet};
 use desk_server::{Accepted, ClientStream, TimedStream, Waited, Woken};
 use std::time::Duration;
 
-/// A client that sends and receives a few bytes per call. A write beyond its limit fails.
+/// A client that sends and receives a few bytes per call. A write beyond the writer's limit fails.
 #[derive(Drop)]
 struct Told<'a> {
     reader: Pieces<'a>,
@@ -54,11 +54,11 @@ impl<'a> ClientStream for Told<'a> {
     }
 }
 
-/// The fault, the reads, the bytes left unread, and the bytes that the client received.
+/// The fault, and the numbers of reads, of unread bytes, and of bytes that the client received.
 type Outcome = (Option<AnswerFault>, u64, usize, usize);
 
-/// The bytes per call, the bytes that the client accepts, and the outcome. The request has 53 bytes
-/// and its reply 140.
+/// The largest number of bytes per call, the number of bytes that the client accepts, and the
+/// outcome. The request has 53 bytes and its reply 140.
 static OUTCOMES: [((usize, usize), Outcome); 5] = [
     ((ROOM, ROOM), (None, 1, 0, 140)),
     ((1, ROOM), (None, 53, 0, 140)),
