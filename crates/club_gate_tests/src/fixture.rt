@@ -1,4 +1,4 @@
-//! Scenes at a desk over tables in memory.
+//! The trait of tests that use a desk over tables in memory, and helpers for these tests.
 
 use crate::expect::{Host, expect_eq};
 use crate::values::{at, command, request};
@@ -11,8 +11,8 @@ pub(crate) trait Fixture {
     fn play<S: ClubStore + Drop>(&self, rt: &impl Host, desk: Desk<S>);
 }
 
-/// Returns the fault if the tables can't be created. Only this function names the type of the
-/// tables, since the proof of such a function takes some ten seconds.
+/// Returns the fault if the tables can't be created. Only this function names the tables' type,
+/// because each proof with that type takes ten seconds.
 pub(crate) fn try_to_play(rt: &impl Host, scene: &impl Fixture) -> Result<(), StoreFault> {
     let store = Store::open_in_memory(rt.alloc())?;
     scene.play(rt, Desk::new(rt.alloc(), store));

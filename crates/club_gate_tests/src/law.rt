@@ -8,7 +8,8 @@ use desk_theorem::{reply_from_nothing, run_and_leave, run_from_nothing};
 use sqlite::{Files, Options};
 use sqlite_disk::{Disk, Memory};
 
-/// The club books once for three passes in three forms, and charges the account once.
+/// Three requests under passes in three forms ask for the same booking. The club books and charges
+/// only once.
 static BOOKS: [Happens; 8] = [
     Happens::Commanded(PlainCommand::AddMember("amy", 5), OfficeReply::Done),
     Happens::Commanded(PlainCommand::Credit("amy", 10_000), OfficeReply::Done),
@@ -43,7 +44,7 @@ fn expect_reply_after(rt: &impl Host, rows: &[Happens], want: &PlainReply) {
     expect_eq(rt, &returned.reply, &want.reply().expect(rt, "a reply"));
 }
 
-// The second request comes to an empty club, under an unknown key.
+// The second request comes to an empty club, with the pass of an unknown key.
 #[test]
 fn answers_after_a_list(rt: HostRuntime) {
     expect_reply_after(&rt, &BOOKS[..5], &ACCOUNT_AFTER);

@@ -1,5 +1,5 @@
-//! Tests of the tables, of the store over them, and of the desk over tables in memory. Scenarios
-//! have the replies to single requests and commands.
+//! Tests of the tables, of the store over them, and of the desk over tables in memory. The
+//! scenarios test the replies to single requests and commands.
 #![tactic(auto)]
 
 #[cfg(test)]

@@ -1,17 +1,18 @@
-//! Random lists of events. The desk replies like the reference machine. The desk replies to amy
-//! like the solo machine, which has only her part of the club.
+//! Random lists of events. The desk must reply like the reference machine. To amy, the desk must
+//! reply like the solo machine, which has only her part of the club.
 
 use crate::prelude::*;
 use crate::trial::Trial;
 use test_kit::drawn::{AUDIT_AMY, AUDITORS, Asking, Event, Numbers, SLOTS, audit};
 
-// The second list of a pair starts with the club after the first list. A hundred lists in one test
-// would take most of its minute.
+// The second list of a pair starts with the club after the first list. A test may take a minute,
+// and a hundred lists would take most of that minute.
 const PAIRS: u32 = 10;
 
 const EVENTS: u32 = 60;
 
-/// A pair is played in two runs if `are_run` is true, else event by event.
+/// Two lists of events. If `are_run` is true, the desk gets each list in one call, else event by
+/// event.
 #[derive(Drop)]
 struct Pair {
     first: Vec<Event>,
@@ -44,7 +45,7 @@ impl Fixture for Pair {
     }
 }
 
-/// The last events show the accounts and the slots.
+/// The last events of a list ask for all accounts and slots.
 fn draw(rt: &impl Host, numbers: &mut Numbers) -> Vec<Event> {
     let mut events = Vec::new(rt.alloc());
     for _ in 0..EVENTS {
@@ -87,7 +88,7 @@ fn answers_more_lists_as_the_reference(rt: HostRuntime) {
     play_lists(&rt, 2_029, PAIRS, false);
 }
 
-// The reference machine never replies `Unavailable`, so the desk must never reply that.
+// The reference machine never replies `Unavailable`, so the desk must never reply `Unavailable`.
 #[test]
 fn no_unavailable_with_ample_memory(rt: HostRuntime) {
     play_lists(&rt, 2_030, PAIRS, false);

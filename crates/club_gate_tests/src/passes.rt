@@ -10,7 +10,7 @@ pub(crate) static FORMS: [Form; 3] = [Form::V1, Form::V2, Form::Json];
 
 #[derive(Clone, Copy)]
 pub(crate) enum PresentedPass {
-    /// The office's pass of a key under this root, narrowed by these caveats.
+    /// The pass that the office makes for this key under this root, narrowed by these caveats.
     Of(&'static str, &'static [u8], &'static [&'static str]),
     /// Amy's pass with a wrong signature.
     Changed,

@@ -24,12 +24,13 @@ const RECORD: &[Call] = &[Key, Record, Facility];
 
 const BOOKING: &[Call] = &[Key, Record, Facility, Slot, Account, OpenCount, Change];
 
-/// The desk reads no sum if the limit covers the charge and all that the member has used.
+/// If the spend limit covers the charge and all points that the member has used, the desk doesn't
+/// read the points that the key has spent.
 const LIMITED: &[Call] = &[
     Key, Record, Facility, Account, Slot, Account, OpenCount, Change,
 ];
 
-/// The desk reads what the key has spent if the limit is lower.
+/// If the limit is lower, the desk reads the points that the key has spent.
 const SUMMED: &[Call] = &[
     Key, Record, Facility, Account, Spent, Slot, Account, OpenCount, Change,
 ];
@@ -38,7 +39,7 @@ const OVER_THE_LIMIT: &[Call] = &[Key, Record, Facility, Account, Spent];
 
 const SUMS: &[Call] = &[Key, Account, OpenCount, Spent];
 
-/// A repeat reads the facility only if a caveat restricts the kind.
+/// For a repeated booking, the desk reads the facility only if a caveat restricts the kind.
 const REPEAT: &[Call] = &[Key, Record];
 
 const CANCELLATION: &[Call] = &[Key, Record, Change];
@@ -49,7 +50,7 @@ const BOOKING_BY_OLDER: &[Call] = &[
     Key, OlderRoot, Record, Facility, Slot, Account, OpenCount, Change,
 ];
 
-/// A pass, a request under it, the reply, and the calls of the store.
+/// A pass, a request under this pass, the reply, and the calls to the store.
 type Row = (PresentedPass, PlainRequest, PlainReply, &'static [Call]);
 
 const NOBODY: PresentedPass = PresentedPass::Of("nobody", ROOT, &[]);
@@ -82,7 +83,7 @@ const CANCEL_8: PlainRequest = PlainRequest::Cancel(COURT_AT_18, 8);
 const BOOK_NOWHERE: PlainRequest = PlainRequest::Book(NOWHERE, 7, 2);
 
 static REFUSED: [Row; 4] = [
-    // The identifier of this pass isn't that of a key.
+    // The identifier of this pass names no key.
     (PresentedPass::Unnamed, BOOK_7, NOT_VERIFIED, &[]),
     (NOBODY, BOOK_7, NOT_VERIFIED, &[Key]),
     (PresentedPass::Changed, BOOK_7, NOT_VERIFIED, BOTH_ROOTS),
@@ -94,14 +95,14 @@ static FIRST: [Row; 8] = [
     (AMY, ACCOUNT, ACCOUNT_BEFORE, SUMS),
     (AMY, BOOK_7, BOOKED_7, BOOKING),
     (SPENDS_700, BOOK_7, BOOKED_7, LIMITED),
-    // A caveat refuses these requests before the desk reads a sum.
+    // A caveat refuses the next two requests before the desk reads any sum.
     (VIEWS_THEN_SPENDS, BOOK_7, DENIED_1, RECORD),
     (VIEWS, ACCOUNT, DENIED_1, &[Key]),
     (AMY, CANCEL_7, NO_SUCH_BOOKING, RECORD),
     (AMY, BOOK_NOWHERE, NO_SUCH_FACILITY, RECORD),
 ];
 
-// Amy has booked number 7 for 600 points.
+// Amy has made booking 7 for 600 points.
 static AGAIN: [Row; 10] = [
     (AMY, BOOK_7, BOOKED_7, REPEAT),
     // A repeat costs nothing, so a spend limit doesn't refuse it.
@@ -113,7 +114,7 @@ static AGAIN: [Row; 10] = [
     (AMY, CANCEL_7, CANCELLED_7, CANCELLATION),
     (SPENDS_700, CANCEL_7, CANCELLED_7, CANCELLATION),
     (AMY, ACCOUNT, ACCOUNT_AFTER, SUMS),
-    // The key would have spent 800 points with number 8.
+    // With booking 8, the key would have spent 800 points.
     (SPENDS_700, BOOK_8, DENIED_1, OVER_THE_LIMIT),
 ];
 
@@ -137,7 +138,7 @@ const BOOKED_BY_2: PlainReply = PlainReply::Booked("amy-2", 8, 200, 0);
 
 const THREE_LIMITS: &[&str] = &["spend <= 900", "spend <= 799", "spend <= 901"];
 
-// The booking of number 7 under `amy-1` cost 600 points. Number 8 costs 200 points.
+// Booking 7 under `amy-1` cost 600 points. Booking 8 costs 200 points.
 static LIMITS: [Limited; 6] = [
     ("amy-1", &["spend <= 799"], DENIED_1, OVER_THE_LIMIT),
     ("amy-1", &["spend <= 800"], BOOKED_BY_1, LIMITED),
@@ -149,7 +150,7 @@ static LIMITS: [Limited; 6] = [
     ("amy-2", &["spend <= 199"], DENIED_1, RECORD),
 ];
 
-/// A command, the reason if the desk refuses it, and the calls of the store.
+/// A command, the fault if the desk refuses the command, and the calls to the store.
 type Commanded = (PlainCommand, Option<OfficeFault>, &'static [Call]);
 
 const PLACED: &[Call] = &[Facility, Change];
@@ -199,7 +200,7 @@ static REFUSED_COMMANDS: [Commanded; 12] = [
     (OpenSlot(NOWHERE), Some(Unknown), &[Facility]),
 ];
 
-/// Amy has booked the numbers 7 and 8, and has cancelled 8.
+/// Amy has made the bookings 7 and 8, and has cancelled 8.
 static CANCELLED: [Commanded; 4] = [
     (CancelBooking("amy-1", 7), None, CANCELS),
     (CancelBooking("amy-1", 8), None, RECORDED),
@@ -207,7 +208,8 @@ static CANCELLED: [Commanded; 4] = [
     (CancelBooking("amy-9", 7), Some(Unknown), &[Key, Record]),
 ];
 
-/// Bob's key is revoked and amy has a second key before each row.
+/// The last events before a row. Before these events, the office revokes bob's key, and adds a
+/// second key for amy.
 #[derive(Clone, Copy)]
 enum Before {
     Requests(&'static [PlainRequest]),

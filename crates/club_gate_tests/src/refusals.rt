@@ -1,4 +1,4 @@
-//! Tests of the desk's replies if its store fails, or before it calls its store.
+//! Tests of the desk's replies if its store fails, and of refusals without a call to the store.
 
 use crate::prelude::*;
 use crate::refusing::Refusing;

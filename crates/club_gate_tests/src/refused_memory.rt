@@ -10,7 +10,7 @@ use test_kit::passes::AMY_1_SECOND_SIGNATURE;
 
 const UNAVAILABLE: Reply = Reply::Refused(Refusal::Unavailable);
 
-/// Asks a second time if the first call is out of memory.
+/// If the first call is out of memory, asks a second time.
 fn reply_at_noon<S: ClubStore>(
     rt: &impl Host,
     desk: &mut Desk<S>,
@@ -69,7 +69,7 @@ static FIXTURE: [(PlainCommand, OfficeReply); 4] = [
     ),
 ];
 
-/// The older root stays good, so the pass of amy still works.
+/// The older root stays valid, so amy's pass still works.
 static COMMANDS: [(PlainCommand, OfficeReply); 9] = [
     (PlainCommand::SetFacility("court-1", 3, 100, 9, 20), DONE),
     (PlainCommand::Debit("amy", 1), DONE),
@@ -85,7 +85,7 @@ static COMMANDS: [(PlainCommand, OfficeReply); 9] = [
     (PlainCommand::RevokeKey("amy-1"), DONE),
 ];
 
-/// The answer `EXISTS` shows that the office carried out the first command.
+/// The office has already carried out the same commands, so the answers are `EXISTS`.
 static REVOKED: [(PlainCommand, OfficeReply); 2] = [
     (PlainCommand::AddMember("amy", 5), EXISTS),
     (PlainCommand::CloseSlot(COURT_AT_19), EXISTS),

@@ -20,7 +20,7 @@ pub(crate) enum Call {
     Change,
 }
 
-/// No answer needs this many calls.
+/// Each answer needs fewer calls than this number.
 const MOST: usize = 16;
 
 /// Each call from number `first` on fails with `fault`. The first call has number 1.

@@ -73,7 +73,7 @@ fn event_reply(rt: &impl Host, reference: &mut Club, event: &Event) -> EventRepl
 }
 
 impl<S: ClubStore> Trial<S> {
-    /// `desk` is the desk of an empty club.
+    /// `desk` must be the desk of an empty club.
     pub fn begin(rt: &impl Host, desk: Desk<S>) -> Trial<S> {
         let mut trial = Trial {
             desk,
@@ -123,7 +123,8 @@ impl<S: ClubStore> Trial<S> {
         }
     }
 
-    /// Gives amy's commands to her part, too.
+    /// Gives the command to the desk and to the reference machine. A command that is carried out
+    /// and concerns amy's part goes to her part, too.
     fn give(&mut self, rt: &impl Host, plain: &PlainCommand) {
         let answer = office_answer(rt, &mut self.reference, plain);
         let returned = self.desk.office(&command(rt, plain));
@@ -137,7 +138,8 @@ impl<S: ClubStore> Trial<S> {
         }
     }
 
-    /// Asks her part, too, if the request is amy's.
+    /// Asks the desk and the reference machine. Also asks amy's part if the request is under a key
+    /// of amy.
     fn ask(&mut self, rt: &impl Host, asking: &Asking) {
         let text = text_of_asking(rt, asking);
         let desk = &mut self.desk;

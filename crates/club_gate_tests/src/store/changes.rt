@@ -13,8 +13,9 @@ use club_core::MemberAccount;
 use test_kit::moments::START;
 use test_kit::{COURT, PlainFacility};
 
-/// A member has its credited points, the points of its bookings, and its quota. A slot has its
-/// persons, and whether it is closed. All bookings are under `amy-1`.
+/// The rows of a club. For a member: the credited points, the points of the bookings, and the
+/// quota. For a slot: the number of persons, and whether the slot is closed. All bookings are under
+/// `amy-1`.
 #[derive(Clone, Copy)]
 struct Seen {
     amy: Option<(u32, u32, u8)>,
@@ -27,7 +28,7 @@ struct Seen {
     open: u64,
 }
 
-/// The changes, the club after them, and changes that this club must refuse.
+/// The changes, the club after these changes, and further changes that the store must then refuse.
 type Row = (&'static [Write], Seen, &'static [Write]);
 
 const EMPTY: Seen = Seen {
@@ -84,7 +85,7 @@ const NOWHERE: PlainSlot = PlainSlot {
     ..COURT_AT_18
 };
 
-/// The court isn't open at that hour.
+/// The court isn't open at hour 22.
 const COURT_AT_22: PlainSlot = PlainSlot {
     hour: 22,
     ..COURT_AT_18
@@ -98,7 +99,7 @@ const SECOND_KEY_WITH_OLDER: Kept = Kept {
     ..AMY_1
 };
 
-/// Amy has 9,400 points. The court has one place at 18 and four at 19.
+/// Amy has 9,400 points. The court has one free place at 18 and four free places at 19.
 const UNFIT: &[Write] = &[
     Cancel(UNKNOWN_KEY, "amy", 300),
     Book("amy-2", 7, COURT_AT_19, 2, "amy", 600),
@@ -107,7 +108,7 @@ const UNFIT: &[Write] = &[
     Cancel(BOOKING_7, "amy", 601),
     Book("amy-1", 7, COURT_AT_18, 2, "amy", 600),
     Book("amy-1", 9, NOWHERE, 0, "amy", 200),
-    // The slots have one place and four places left.
+    // The slot at 18 has one free place, and the slot at 19 has four.
     Book("amy-1", 9, COURT_AT_18, 1, "amy", 200),
     Book("amy-1", 9, COURT_AT_19, 4, "amy", 200),
     Book("amy-1", 9, COURT_AT_18, 0, "amy", 9_401),
@@ -133,7 +134,8 @@ const UNFIT: &[Write] = &[
     Rotate("amy-2", OLDER, SECOND_ROOT),
 ];
 
-/// Ben has 1,000 points. A member can't pay for bookings of another member's key or get the refund.
+/// Ben has 1,000 points. A member can't pay for a booking under another member's key, and can't get
+/// the refund of such a booking.
 const UNFIT_OF_BEN: &[Write] = &[
     Book("amy-1", 9, COURT_AT_19, 2, "ben", 600),
     Cancel(BOOKING_7, "ben", 300),

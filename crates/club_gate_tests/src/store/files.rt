@@ -1,5 +1,5 @@
-//! Openings of real files. Only `do_in_file` and `make_file` open stores in files, since the proof
-//! of each takes at least half a minute.
+//! Openings of real files. Only `do_in_file` and `make_file` open stores in files, because the
+//! proof of each of these functions takes at least half a minute.
 
 use super::databases::{Contents, bookings, runs_all};
 use super::listing::shows;
@@ -10,11 +10,11 @@ use std::test::Fail;
 use std::{env, fs, process};
 use test_kit::version_1::STATEMENTS;
 
-/// A failed opening returns one of these besides its fault.
+/// The remains of a failed opening, which the opening returns with its fault.
 #[derive(Clone, Copy, Debug, PartialEq, Eq)]
 pub enum Left {
     Files,
-    /// Another connection holds the files.
+    /// Another connection has the file open.
     Held,
     /// The number of bookings, or `None` if the file has no table of bookings.
     Open(Option<i64>),
@@ -116,7 +116,7 @@ fn a_held_file(rt: HostRuntime) -> Result<(), Fail> {
 
 static NINTH: [&str; 1] = ["UPDATE desk SET version = 9"];
 
-/// The refused opening leaves the rows, so the second opening has the same result.
+/// A refused opening doesn't change the rows, so opening the file again has the same result.
 #[test]
 fn a_file_of_refused_tables(rt: HostRuntime) -> Result<(), Fail> {
     let path = path_of(&rt)?;

@@ -1,4 +1,5 @@
-//! A read of a row outside its limits fails with `Storage`. The tables have no checks.
+//! A read of a row outside its limits fails with `Storage`. The tables of these tests have no
+//! `CHECK` constraints, so the tables accept such rows.
 
 use super::databases::{database_after, runs};
 use super::listing::adopt;
@@ -101,7 +102,8 @@ fn ends(rt: &impl Host, text: &str, read: Read, want: Option<StoreFault>) {
     expect_row(rt, &text, &fault, &want);
 }
 
-/// Updates the table with each setting, and expects the fault `want` of the read.
+/// For each setting, updates the table. Then the read must fail with `want`, or must succeed if
+/// `want` is `None`.
 fn end(rt: &impl Host, read: Read, table: &str, settings: &str, want: Option<StoreFault>) {
     for setting in settings.split(';') {
         let text = format!(in rt.alloc(); "UPDATE {table} SET {setting}").expect(rt, "memory");

@@ -15,7 +15,7 @@ fn indexes<S: Alter>(rt: &impl Host, connection: &mut Connection<S>) -> i64 {
     row.get(0).expect(rt, "a number")
 }
 
-/// The first opening must create the index, and a second one must keep it.
+/// The first opening must create the index, and a second opening must keep the index.
 fn gets_the_index(rt: &impl Host, contents: Contents) {
     let mut connection = database(rt, contents);
     expect_eq(rt, &indexes(rt, &mut connection), &0);
@@ -56,7 +56,8 @@ fn rotates_a_key_once_migrated(rt: HostRuntime) {
     shows_key(&rt, &mut adopt(&rt, store.into_connection()), &ROTATED);
 }
 
-/// The contents, the statements that change the contents, and the version.
+/// The contents of a database, the statements that change the contents, and the version of the
+/// tables.
 type Other = (Contents, &'static [&'static str], Option<i64>);
 
 const NAMED_LIKE_THE_INDEX: &[&str] = &["CREATE TABLE bookings_by_key (name TEXT) STRICT"];

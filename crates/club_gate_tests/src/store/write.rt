@@ -17,13 +17,13 @@ pub(crate) enum Write {
     Numbers(&'static str, u8, u16, u8, u8),
     Key(Kept),
     Revoke(&'static str),
-    /// Passes under the former root are good until its moment.
+    /// The key, the former root with the moment until which its passes are valid, and the new root.
     Rotate(&'static str, Older, &'static [u8]),
     Close(PlainSlot),
     Open(PlainSlot),
     /// The key, the number, the slot, the guests, the member that pays, and the charge.
     Book(&'static str, u32, PlainSlot, u8, &'static str, u32),
-    /// The member gets the refund.
+    /// The booking, the member that gets the refund, and the refund.
     Cancel(PlainBooking, &'static str, u32),
 }
 
