@@ -50,7 +50,8 @@ impl Write for &Written {
     }
 }
 
-/// The command comes between two halves of the request, or alone without a request.
+/// A request, a command, or both. If there are both, the command comes between the two halves of
+/// the request.
 #[derive(Drop)]
 pub struct Arriving {
     pub request: Vec<u8>,

@@ -1,4 +1,4 @@
-//! Test doubles around a run: its input and writer, its server's clients, and its clock.
+//! Test doubles for a run: its input and writer, its server's clients, and its clock.
 
 use crate::runs::Fixture;
 use std::cell::Cell;
@@ -22,15 +22,16 @@ impl Read for Input<'_> {
     }
 }
 
-/// Counts of the calls of a database in memory.
+/// Counts of the calls to a database in memory.
 #[derive(Drop)]
 pub struct Notes {
     pub opened: Cell<u64>,
     pub closed: Cell<u64>,
-    /// The closings before the run's first write, and before a server removes its door.
+    /// The number of closings before the run's first write, and the number of closings before a
+    /// server removes its door.
     pub written: Cell<Option<u64>>,
     pub removed: Cell<Option<u64>>,
-    /// The length of the command that was handed over last.
+    /// The length of the last command that was handed over.
     pub handed: Cell<usize>,
 }
 
@@ -46,8 +47,8 @@ impl Notes {
     }
 }
 
-/// A writer with limited room. A flush after a server's line connects the clients, which send their
-/// requests at once. So one thread is enough for the server and its clients.
+/// A writer with limited room. When the server flushes its `listening on` line, the clients connect
+/// and send their requests at once. So one thread is enough for the server and its clients.
 #[derive(Drop)]
 pub struct Caller<'a> {
     rt: &'a HostRuntime,
@@ -135,8 +136,8 @@ impl Write for Caller<'_> {
     }
 }
 
-/// Without `second`, no reading succeeds. The first two monotonic readings are 0, because a
-/// connection's limit and log begin with them. Later readings are `later` microseconds.
+/// Without `second`, no reading succeeds. The first two monotonic readings are 0: the starts of a
+/// connection's time limit and of its line in the log. Later readings are `later` microseconds.
 #[derive(Drop)]
 pub struct Machine {
     second: Option<u64>,

@@ -1,4 +1,5 @@
-//! The door of a server: its file, its maker, and files that can't have a door.
+//! The door of a server: its socket file, the users who may make it, and databases that can't have
+//! a door.
 
 use crate::files::{AMY, new_club};
 use crate::runs::{ClubFile, expect_eq, new_path};
@@ -19,7 +20,7 @@ fn socket_mode(rt: &HostRuntime, path: &str) -> Option<u32> {
 
 const OWN: Option<u32> = Some(0o600);
 
-// A new door replaces an earlier door. Dropping the earlier door doesn't remove the new door.
+// A new door replaces an earlier door. When the earlier door is dropped, the new door stays.
 fn expect_door(rt: &HostRuntime, club: &ClubFile<'_>) -> Result<(), Fail> {
     let place = club.path_with("-office")?;
     let door = FileDoor::make(rt, club.path())?;
@@ -68,7 +69,8 @@ fn no_door_over_a_file(rt: HostRuntime) -> Result<(), Fail> {
     Ok(())
 }
 
-// Commands don't connect by a link either, even if the link leads to a socket.
+// If a link has the door's name, no server makes a door there. A command fails, even if the link
+// leads to a socket.
 #[test]
 fn no_door_over_a_link(rt: HostRuntime) -> Result<(), Fail> {
     let club = new_club(&rt, "linked-door", &AMY)?;
@@ -85,7 +87,8 @@ fn no_door_over_a_link(rt: HostRuntime) -> Result<(), Fail> {
     Ok(())
 }
 
-/// A user, the file's owner, the command's user, and whether the first user may make a door.
+/// The ids of a user, of the file's owner and of the command's user, and whether the first user may
+/// make a door.
 static MAKERS: [(u32, u32, u32, bool); 6] = [
     (1000, 1000, 2000, true),
     (2000, 1000, 2000, true),

@@ -24,7 +24,7 @@ fn expect_full(
     Ok(())
 }
 
-// The key stays although the pass wasn't printed.
+// The key stays in the club, although its pass wasn't printed.
 #[test]
 fn a_failing_writer(rt: HostRuntime) -> Result<(), Fail> {
     let club = ClubFile::new(&rt, "full")?;

@@ -1,4 +1,4 @@
-//! Runs of the program over files, one after the other, and a server between them.
+//! Runs of the program over files, one after the other, and of a server between two runs.
 
 use crate::runs::{ClubFile, Fixture, expect_eq};
 use crate::servers::{BOOKED, OFFICE};
@@ -66,7 +66,7 @@ fn a_file_that_was_removed(rt: HostRuntime) -> Result<(), Fail> {
     expect_reply(&rt, &club, scene, UNAVAILABLE)
 }
 
-// A command moves its changes into the file before it ends.
+// Before a command ends, it moves its changes from the log into the file.
 #[test]
 fn the_log_may_go(rt: HostRuntime) -> Result<(), Fail> {
     let club = new_club(&rt, "log", &AMY)?;
@@ -89,7 +89,7 @@ fn files_of_something_else(rt: HostRuntime) -> Result<(), Fail> {
     expect_eq(&rt, &left.as_slice(), &[b'x'; 100].as_slice())
 }
 
-/// The version's table is on the second page of a new file, and its row is at the end.
+/// In a new file, the version is the last byte of the second page.
 const VERSION_AT: usize = 8_191;
 
 #[test]

@@ -9,9 +9,10 @@ use clubdesk_commands::OfficeDesk;
 use desk_server::Office;
 use std::test::Fail;
 
-/// The number of bytes that a server gets, and a row. The row's end is the server's answer.
+/// The number of bytes that a server gets, and a row. The part after `=>` is the server's answer.
 static HANDED: [(usize, &str); 10] = [
-    // A zero byte follows each of `5`, no root, `clubdesk`, `add-member`, `club`, `amy` and `5`.
+    // The bytes are `5`, an empty root, `clubdesk`, `add-member`, `club`, `amy` and `5`, with a
+    // zero byte after each.
     (34, "add-member amy 5 => 0 done\n"),
     (34, "add-member amy 5 => 1 refused: exists"),
     (29, "debit amy 5 => 0 done\n"),
@@ -50,10 +51,11 @@ fn hands_commands_over(rt: HostRuntime) -> Result<(), Fail> {
     Ok(())
 }
 
-/// The number of arguments, no root, and the arguments. A zero byte follows each of them.
+/// The number of arguments, an empty root, and the arguments. A zero byte follows each of these.
 const WHOLE: &[u8] = b"5\0\0clubdesk\0add-member\0club\0amy\05\0";
 
-/// Status 2 means no command, and 3 a bad value. `WHOLE` is refused the second time.
+/// Status 2 means that the bytes encode no command, and status 3 means a bad value. The second
+/// `WHOLE` is refused, because the member exists.
 static COMMANDS: [(&[u8], u8); 15] = [
     (b"4\0\0clubdesk\0add-member\0club\0amy\05\0", 2),
     (b"6\0\0clubdesk\0add-member\0club\0amy\05\0", 2),

@@ -72,7 +72,8 @@ fn hands_a_command_over(rt: HostRuntime) -> Result<(), Fail> {
     Ok(())
 }
 
-/// The next server is the last one.
+/// Connections to the servers that weren't asked yet. The next attempt asks the last of these
+/// servers.
 #[derive(Drop)]
 struct Greeted(Global, Vec<UnixStream>);
 
@@ -93,10 +94,10 @@ static RETRIED: [Retried; 6] = [
     Retried(&[b"\0done\n\0", UNDONE], Some((0, "done\n")), 1, 0),
     Retried(&[UNDONE, b"\0done\n\0"], Some((0, "done\n")), 2, 10),
     Retried(&[UNDONE, UNDONE, b"\x01no\0"], Some((1, "no")), 3, 20),
-    // The first server may have carried out the command, so no other server gets it.
+    // The last asked server may have carried out the command, so no other server gets the command.
     Retried(&[b"", b"\0done\n\0"], None, 1, 0),
     Retried(&[UNDONE, b"\0done\n", b"\0done\n\0"], None, 2, 10),
-    // After ten seconds, nobody tries the command again.
+    // After ten seconds, the program stops trying.
     Retried(&[UNDONE, UNDONE], Some((9, "nothing was done")), 2, 10_000),
 ];
 
@@ -147,7 +148,8 @@ fn nothing_was_done_by_a_server_that_is_gone(rt: HostRuntime) -> Result<(), Fail
     expect_answer(&rt, &answer, &Some((0, "done\n")))
 }
 
-/// The system resets a connection with unread bytes, so each greeting has at most one byte.
+/// The system resets a connection that is closed with unread bytes, so each greeting has at most
+/// one byte.
 static NO_GREETINGS: [&[u8]; 3] = [b"", b"?", b"\0"];
 
 #[test]
@@ -175,7 +177,7 @@ fn hands_over_by_a_door_behind_a_link(rt: HostRuntime) -> Result<(), Fail> {
     expect_answer(&rt, &answer, &Some((0, "done\n")))
 }
 
-/// Fails this number of times, then succeeds.
+/// The number of attempts that fail before an attempt succeeds.
 #[derive(Drop)]
 struct Trier(u32);
 
@@ -193,7 +195,8 @@ impl Attempts for Trier {
     }
 }
 
-/// Failing attempts, whether one of five attempts succeeds, and the milliseconds slept.
+/// The number of failing attempts, whether one of five attempts succeeds, and the milliseconds
+/// slept.
 static TRIED: [(u32, bool, u64); 4] = [(0, true, 0), (1, true, 10), (4, true, 40), (5, false, 50)];
 
 #[test]

@@ -1,4 +1,4 @@
-//! Tests of runs of `clubdesk`, over clubs in files and over one in memory.
+//! Tests of runs of `clubdesk`, over clubs in files and over a club in memory.
 #![tactic(auto)]
 
 #[cfg(test)]

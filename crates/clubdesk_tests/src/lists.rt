@@ -146,7 +146,7 @@ fn answer_text(rt: &HostRuntime, answer: &OfficeAnswer) -> Result<String, Fail> 
     }
 }
 
-/// The arrivals with their moments, and the bytes that the reference machine wants.
+/// The arrivals with their moments, and the bytes that the server must write.
 #[derive(Drop)]
 struct Plan<'a> {
     rt: &'a HostRuntime,
@@ -198,7 +198,8 @@ impl<'a> Plan<'a> {
         request_bytes(self.rt, asking)
     }
 
-    // A command with a request comes between the request's halves, and is carried out first.
+    // If there are a request and a command, the command arrives between the request's halves. So
+    // the server carries the command out first.
     fn add(&mut self, asking: Option<Asking>, plain: Option<&PlainCommand>) -> Result<(), Fail> {
         let moment = asking.unwrap_or(audit(AUDIT_AMY)).moment;
         let moment = Moment::from_number(moment).ok_or("a moment")?;
@@ -214,7 +215,7 @@ impl<'a> Plan<'a> {
         Ok(())
     }
 
-    // A command that follows a request comes between the request's halves.
+    // A command that follows a request in the list arrives between the two halves of this request.
     fn add_each(&mut self, events: &[Event]) -> Result<(), Fail> {
         let mut waiting = None;
         for event in events {

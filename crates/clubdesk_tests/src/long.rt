@@ -29,7 +29,8 @@ fn at_a_path_of_4000_letters(rt: HostRuntime) -> Result<(), Fail> {
     club.play(&EDGES)
 }
 
-// The least and the greatest number of each decimal length.
+// The least and the greatest number of each length up to six digits, and the least number of seven
+// digits.
 static CREDITS: [u32; 13] = [
     1, 9, 10, 99, 100, 999, 1_000, 9_999, 10_000, 99_999, 100_000, 999_999, 1_000_000,
 ];
@@ -43,7 +44,7 @@ fn takes_credits_of_each_length(rt: HostRuntime) -> Result<(), Fail> {
     Ok(())
 }
 
-// The scenarios have the passes under roots of each length.
+// The scenarios test the passes under roots of each length.
 fn takes_a_root(rt: &HostRuntime, club: &ClubFile<'_>, hex: &str) -> Result<(), Fail> {
     let words = format!(in rt.alloc(); "rotate-key amy-1 {hex} 2099-12-31T23:59")?;
     let output = club.run(&Fixture::after(&[]), words.as_str())?;
@@ -84,7 +85,7 @@ static KEYS: [&str; 5] = [
     "add-facility a-facility-of-24-letters room 50 0 0 24 => 0 done\n",
 ];
 
-/// The hours with bookings, and the bookings of each key in an hour.
+/// The number of hours with bookings, and the number of each key's bookings in an hour.
 const HOURS: u32 = 20;
 
 const EACH: u32 = 3;

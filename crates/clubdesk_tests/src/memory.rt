@@ -48,7 +48,7 @@ impl Visit for Greeted<'_> {
     }
 }
 
-/// The only database. An opening may fail, and a server may have the database open.
+/// The only database. An opening may fail, or a server may have the database open.
 #[derive(Drop)]
 struct InMemory<'a, S: ClubStore + Drop> {
     rt: &'a HostRuntime,
@@ -129,7 +129,7 @@ impl<'a, S: ClubStore + Drop> Databases for InMemory<'a, S> {
     }
 }
 
-/// The counts include the rows before and after the run.
+/// `notes` also counts the calls of the rows before and after the run.
 #[derive(Drop)]
 pub struct Played {
     pub output: Output,

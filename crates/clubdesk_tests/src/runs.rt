@@ -1,5 +1,5 @@
-//! Runs of the program, and clubs in files. A row has a command without its database, then an end.
-//! An end is a status with the output or the fault's line.
+//! Runs of the program, and clubs in files. A row has a command without the name of its database,
+//! then the expected end. An end is a status, and the output or the line of a fault.
 
 use crate::callers::{Caller, Input, Machine, Notes};
 use club_core::StoreFault;
@@ -31,7 +31,8 @@ pub struct Fixture<'a> {
     pub later: u64,
     pub fault: Option<StoreFault>,
     pub server: Option<ServerAnswer<'a>>,
-    /// Over a file only: whether the server is killed, and a file to remove once it listens.
+    /// Over a file only: whether the server is killed, and a file to remove when the server starts
+    /// to listen.
     pub is_killed: bool,
     pub removed: Option<&'a str>,
 }

@@ -1,5 +1,5 @@
-//! Servers and shown accounts by a clock of the test. A program in another language computed the
-//! moments from the database of the zones.
+//! Servers and account listings that use a clock of the test. A program in another language
+//! computed the moments from the zone database.
 
 use crate::memory::{play, play_words};
 use crate::runs::{Fixture, expect_eq};
@@ -28,7 +28,7 @@ const NOT_BOOKABLE: &str =
     "HTTP/1.1 409 Conflict\r\nContent-Type: application/json\r\nContent-Length: 34\r\n\
     Connection: close\r\n\r\n{\"fault\":16,\"text\":\"not bookable\"}";
 
-// Returns the server's end, the reply, and the sheet afterwards.
+// Returns the expected end of the server's run, the reply, and the sheet after the run.
 fn outcome_of(word: &str) -> (&'static str, &'static str, &'static [&'static str]) {
     match word {
         "served" => ("0 ", BOOKED_7, &BOOKED),
@@ -80,12 +80,12 @@ static SERVED: [&str; 18] = [
     "1777658400; --log --at 2026-05-01T17:59 --zone CET-1CEST,M3.5.0,M10.5.0/3; served; \
         2026-05-01T17:59 $ 200 1533",
     "1777658399; --at 2026-05-01T18:00 --log; not bookable; 2026-05-01T18:00 $ 409 1533",
-    // A complete request is served even after the server's patience.
+    // The server serves a complete request even after the end of its patience.
     "0; --at 2026-04-20T12:00 --log --patience 3; served; 2026-04-20T12:00 $ 200 4000000",
     "0; --at 2026-04-20T12:00 --log --patience 4; served; 2026-04-20T12:00 $ 200 4000000",
     "0; --patience 5 --at 2026-04-20T12:00 --log; served; 2026-04-20T12:00 $ 200 4000000",
     "0; --at 2026-04-20T12:00 --log --patience 3600; served; 2026-04-20T12:00 $ 200 3599000000",
-    // Around 18:00 of 2026-05-01 in three zones.
+    // Moments around 18:00 on 2026-05-01, in three zones.
     "1777658399; --log; served; 2026-05-01T17:59 $ 200 1533",
     "1777658400; --log; not bookable; 2026-05-01T18:00 $ 409 1533",
     "1777658399; --zone UTC0; served; unlogged",
@@ -93,7 +93,7 @@ static SERVED: [&str; 18] = [
     "1777651200; --zone CET-1CEST,M3.5.0,M10.5.0/3 --log; not bookable; \
         2026-05-01T18:00 $ 409 1533",
     "1777672799; --zone EST5EDT,M3.2.0,M11.1.0 --log; served; 2026-05-01T17:59 $ 200 1533",
-    // Outside the years 2000 to 2099, and without a clock.
+    // Moments outside the years 2000 to 2099, and no clock.
     "946684799; --log; out of range; - - - - 1533",
     "4102444800; --zone UTC0; out of range; unlogged",
     "4102441200; --log --zone CET-1CEST,M3.5.0,M10.5.0/3; out of range; - - - - 1533",
@@ -114,7 +114,7 @@ const BEGINNING: &str = "PUT /slots/court-1/2026-05-01/18/bookings/7 HTTP/1.1\r\
 /// The patience in seconds, and the microseconds that pass before the server waits.
 static A_SECOND_LEFT: [(u32, u64); 3] = [(1, 0), (2, 1_000_000), (3_600, 3_599_000_000)];
 
-// After its patience, the server serves the next client.
+// When the patience for a client ends, the server serves the next client.
 fn waits(rt: &HostRuntime, patience: u32, later: u64) -> Result<(), Fail> {
     let words = format!(in rt.alloc();
         "serve --port 0 --count 2 --at 2026-04-20T12:00 --patience {patience}"
