@@ -1,4 +1,4 @@
-//! Tasks over two files. One file fails at each call in turn, and the club must stay whole.
+//! Tasks over two files. One file fails at each call in turn, and the club must stay undamaged.
 
 use crate::desk::{Event, FIXTURE};
 use crate::disk::{Bytes, NEVER, Part, Stop, Stops};
@@ -16,15 +16,16 @@ pub(crate) enum Beginning {
     Nothing,
     /// A desk makes the fixture's club and plays these events.
     Made(&'static [Event]),
-    /// Statements make the same club in tables of version 1.
+    /// SQL statements make the same club in tables of version 1.
     First(&'static [Event]),
-    /// Statements make the same club in version 2 without the bookings' index.
+    /// SQL statements make the same club in tables of version 2 without the bookings' index.
     Unindexed(&'static [Event]),
 }
 
-/// The files, the task's events, later events, and the calls of the log and of the database.
-/// Without events, the task is the opening. A commit has 42 and 60 calls, and 2 and 1 for each
-/// page.
+/// The files, the task's events, later events, and the numbers of calls to the log and to the
+/// database. Without events, the task is the opening. A task of one event with a commit makes 42
+/// calls to the log and 60 to the database. Each page of the commit adds 2 calls to the log and 1
+/// to the database.
 pub(crate) struct Trial(
     pub Beginning,
     pub &'static [Event],
@@ -86,8 +87,8 @@ fn alike(replies: &[String], wanted: &[String]) -> usize {
 }
 
 impl Trial {
-    /// The lines are the rows, the replies to the repeated task and to later events, and the new
-    /// rows.
+    /// Returns the expected lines: the rows, the replies to the repeated task and to later events,
+    /// and the rows after these events.
     fn lines(&self, rt: &impl Host, club: &Club, version: Version) -> Vec<String> {
         let Trial(_, task, then, _) = self;
         let mut lines = lines_of(rt, club, version);
@@ -98,7 +99,7 @@ impl Trial {
         lines
     }
 
-    /// The club before the task comes first, then the club after each event.
+    /// Returns the lines of the club before the task, then of the club after each event.
     fn clubs(&self, rt: &impl Host) -> Vec<Vec<String>> {
         let Trial(beginning, task, _, _) = self;
         let mut club = beginning.club(rt);
@@ -114,7 +115,7 @@ impl Trial {
         clubs
     }
 
-    /// Returns the numbers of the first and the last club that the files may hold.
+    /// Returns the numbers of the first and the last club that the files may contain.
     fn may_be_found(&self, done: Option<usize>) -> (usize, usize) {
         let task = self.1;
         match done {
@@ -148,7 +149,8 @@ impl Trial {
     }
 }
 
-/// `tried` has a digest of each tried content of the files with the number of done events.
+/// `tried` has a digest of each case that was tried: the contents of the files and the number of
+/// done events.
 #[derive(Drop)]
 struct Crashes<'a> {
     trial: &'a Trial,
@@ -198,7 +200,7 @@ impl Crashes<'_> {
         true
     }
 
-    /// The same files aren't tried again at another stop.
+    /// Files that were tried at an earlier stop aren't tried again.
     fn expect_each_left(
         &mut self,
         rt: &impl Host,
@@ -217,7 +219,7 @@ impl Crashes<'_> {
         }
     }
 
-    /// Returns whether the file had calls left, which means that it didn't fail.
+    /// Returns true if the file didn't fail, because the task made fewer calls than `stop` allows.
     fn survives(&mut self, rt: &impl Host, stop: Stop) -> bool {
         let work = do_over(rt, &self.bytes, stop, Work::Serves(self.trial.1, &[]));
         let done = self.done_by(rt, &work.lines);
@@ -228,7 +230,7 @@ impl Crashes<'_> {
         work.has_calls_left
     }
 
-    /// The file fails at each of its calls in turn.
+    /// Lets the file fail at each of its calls in turn. Returns the number of these calls.
     fn calls_of(&mut self, rt: &impl Host, part: Part) -> u64 {
         self.tried.clear();
         for calls in 0..1_000u64 {

@@ -13,7 +13,7 @@ pub(crate) enum Part {
     Database,
 }
 
-/// `part` fails after this number of calls.
+/// `part` fails after `calls` calls.
 #[derive(Clone, Copy)]
 pub(crate) struct Stop {
     pub part: Part,

@@ -41,7 +41,7 @@ impl Read for Giver<'_> {
     }
 }
 
-/// At its limit, a write fails or, if it stalls, takes no byte.
+/// At the writer's limit, a write takes no byte if `stalls` is true, and fails otherwise.
 #[derive(Drop)]
 pub(crate) struct Taker {
     bytes: [u8; MAX_REPLY_LEN],

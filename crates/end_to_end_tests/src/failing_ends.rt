@@ -1,4 +1,4 @@
-//! Cut requests and failing writers.
+//! Requests that end too early, and failing writers.
 
 use crate::ends::{Giver, Taker, WHOLE};
 use crate::expect::{Host, expect_case, expect_eq};
@@ -13,12 +13,13 @@ const REPLY_LEN: usize = 133;
 
 const _: () = prove!(BOOKED_7.len() == REPLY_LEN);
 
-/// The bytes after the booking, of each read and of each write. Then unread bytes, reads and
-/// writes.
+/// The numbers of bytes after the booking, per read and per write. Then the numbers of unread
+/// bytes, of reads and of writes.
 #[derive(Clone, Copy)]
 struct Whole(usize, usize, usize, usize, u64, u64);
 
-/// The request has 203 bytes. Bytes after a request are read up to the buffer's end.
+/// The request has 203 bytes. The exchange reads bytes after a request only until the buffer is
+/// full.
 static WHOLE_ONES: [Whole; 7] = [
     Whole(0, 1, MAX_REPLY_LEN, 0, 203, 1),
     Whole(0, 2, MAX_REPLY_LEN, 0, 102, 1),
@@ -49,7 +50,8 @@ fn whole_exchanges(rt: HostRuntime) {
     }
 }
 
-/// An input that ends early gets a bad request, and a failed read gets no byte.
+/// If the input ends too early, the exchange replies with a bad request. If a read fails, the
+/// exchange writes nothing.
 struct CutInput;
 
 impl Fixture for CutInput {

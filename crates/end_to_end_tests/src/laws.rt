@@ -1,4 +1,4 @@
-//! The laws of crashes, called at stores over two real files and at one in memory.
+//! Calls the laws of crashes for stores over two real files and for a store in memory.
 
 use club_store::Store;
 use club_store::laws::{files_hold_one_of, memory_disk_is_clean, one_club_recovered};

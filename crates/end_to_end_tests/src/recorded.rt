@@ -1,5 +1,5 @@
 //! A file in memory that keeps each change since its last sync, for tests that lose or tear
-//! changes. A torn write leaves each byte old or new.
+//! changes. After a torn write, each byte is old or new.
 
 ghost use Rattle.std.specs.Prelude.{◌≡◌, ◌∷◌, length, true, false, refl, reverse, map, is_ok, OnOk};
 ghost use Rattle.std.specs.Prelude.{OnErr};

@@ -1,5 +1,6 @@
 //! Exchanges in which an allocation is refused. `tests/desk/refused_memory_tests.py` refuses each
-//! allocation in turn. A test ends with out of memory if the exchange doesn't make the allocation.
+//! allocation in turn. If the refused allocation isn't in a tested exchange, the test ends with out
+//! of memory.
 
 use crate::expect::{Host, expect_case};
 use crate::fixture::{Fixture, KEPT, NOT_YET, Served, Step, play, with_pass};
@@ -7,7 +8,8 @@ use club_core::ClubStore;
 use test_kit::exchanges::{ACCOUNT, BOOK_7, BOOKED_7, UNAVAILABLE};
 use test_kit::passes::{AMY_JSON, AMY_V1, AMY_V2};
 
-/// After a reply, the booking is kept. After unavailable, the desk serves a second try.
+/// Tests the first exchange. If its reply is `Unavailable`, nothing is booked, and a second try
+/// succeeds. Otherwise, the booking is kept.
 #[derive(Clone, Copy)]
 struct Exchange(&'static str);
 
@@ -23,7 +25,7 @@ impl Fixture for Exchange {
         for Step(asked, want) in &KEPT {
             let request = with_pass(rt, asked, self.0);
             let taker = front.written_to(rt, request.as_bytes());
-            // The refused allocation was in this exchange.
+            // The refused allocation is in this later exchange, which isn't tested.
             if taker.written_bytes() == UNAVAILABLE.as_bytes() {
                 panic!(rt; "Memory");
             }
@@ -47,7 +49,7 @@ const THIRD_PARTY_CAVEAT: &str =
     "HTTP/1.1 400 Bad Request\r\nContent-Type: application/json\r\nContent-Length: 39\r\n\
     Connection: close\r\n\r\n{\"fault\":7,\"text\":\"third-party caveat\"}";
 
-/// Each text gets its fault whichever allocation is refused, because none is JSON.
+/// Each text gets its fault whichever allocation is refused, because none of the texts is JSON.
 static FAULTS: [(&str, &str); 4] = [
     (
         "MDAxN2xvY2F0aW9uIGNsdWItZGVzawowMDE5aWRlbnRpZmllciBrZXk6YW15LTEKMDAyZnNpZ25hdHVyZSAOxT68x\

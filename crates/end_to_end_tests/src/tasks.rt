@@ -1,4 +1,4 @@
-//! The tasks during which a file fails. Scenarios have their replies.
+//! The tasks during which a file fails. The scenarios test the replies to these tasks.
 
 use crate::crash::Beginning::{self, First, Made, Nothing, Unindexed};
 use crate::crash::Trial;
@@ -46,7 +46,7 @@ fn cancels_whole_or_not_at_all(rt: HostRuntime) {
     CANCELS.holds(&rt);
 }
 
-/// The second commit writes where the first commit made room, so one sync must do.
+/// The second commit writes into the room that the first commit made, so one sync must be enough.
 static BOOKS_AND_CANCELS: Trial = Trial(FRESH, &[BOOK, CANCEL], &[SHOW], [58, 66]);
 
 #[test]
@@ -87,7 +87,7 @@ fn opens_a_slot_or_not(rt: HostRuntime) {
 
 const DEBIT: Event = Gives(Debit("amy", 9_400));
 
-/// The debit takes all points that the booking leaves, so a second debit is refused.
+/// The debit takes all points that remain after the booking, so a second debit is refused.
 static DEBITS: Trial = Trial(BOOKED, &[DEBIT], &[BOOK], [44, 61]);
 
 #[test]
@@ -107,7 +107,8 @@ fn sets_a_facility_whole_or_not_at_all(rt: HostRuntime) {
 
 const CANCEL_BOOKING: Event = Gives(CancelBooking("amy-1", 7));
 
-/// The member's own cancellation gets the whole charge.
+/// The office refunds the whole charge. The member's later cancellation gets a reply with this
+/// refund.
 static CANCELS_FOR_A_MEMBER: Trial = Trial(
     BOOKED,
     &[CANCEL_BOOKING],
@@ -122,7 +123,7 @@ fn cancels_for_a_member_whole_or_not_at_all(rt: HostRuntime) {
 
 const SET_QUOTA: Event = Gives(SetQuota("amy", 1));
 
-/// Open bookings beyond the new quota stay.
+/// The member keeps open bookings beyond the new quota.
 static SETS_A_QUOTA: Trial = Trial(Made(&[BOOK, BOOK_ROOM]), &[SET_QUOTA], &[BOOK], [44, 61]);
 
 #[test]

@@ -16,11 +16,11 @@ pub(crate) enum Survival {
     Odd,
 }
 
-/// The survivals of earlier changes, of one change, and of later changes.
+/// The survival of the earlier changes, of one change, and of the later changes.
 #[derive(Clone, Copy)]
 pub(crate) struct Survivals(Survival, Survival, Survival);
 
-/// The newest change of a file is tried with all these rows.
+/// The newest change of a file is tried with each of these rows.
 static TRIED: [Survivals; 9] = [
     Survivals(Survival::Kept, Survival::Lost, Survival::Kept),
     Survivals(Survival::Kept, Survival::FirstHalf, Survival::Kept),
@@ -33,10 +33,12 @@ static TRIED: [Survivals; 9] = [
     Survivals(Survival::Odd, Survival::Odd, Survival::Odd),
 ];
 
-/// Each other change is tried with one of this many first rows, by turns.
+/// Each other change is tried with one of the first six rows. The row depends on the number of the
+/// change and on the stop.
 const BY_TURNS: usize = 6;
 
-/// The number of a change, and the survivals around it. The log's changes come first.
+/// The number of a change, and the survivals of the earlier changes, of this change, and of the
+/// later changes. The changes of the log have lower numbers than the changes of the database.
 #[derive(Clone, Copy)]
 pub(crate) struct Case(pub usize, pub Survivals);
 
@@ -63,7 +65,7 @@ impl Survival {
         }
     }
 
-    /// A single byte is kept or lost, not torn.
+    /// A change of a single byte is kept or lost, not torn.
     fn of_len(self, len: usize) -> Survival {
         match len {
             1 if self.keeps(0, 1) => Survival::Kept,
@@ -136,7 +138,7 @@ fn make(rt: &impl Host, file: &mut Vec<u8>, change: &Change, survival: Survival)
     }
 }
 
-/// The file's first change has the number `first`.
+/// Returns the bytes that a crash leaves. The file's first change has the number `first`.
 fn left_of(rt: &impl Host, file: &Recorded, first: usize, case: &Case) -> Vec<u8> {
     let mut bytes = Vec::from_slice(rt.alloc(), &file.synced).expect(rt, "memory");
     for (place, change) in file.changes.iter().enumerate() {
