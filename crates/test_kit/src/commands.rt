@@ -18,7 +18,7 @@ pub enum PlainCommand {
     /// The name of the key, its member and its root.
     AddKey(&'static str, &'static str, &'static [u8]),
     RevokeKey(&'static str),
-    /// Passes under the older root are good until this minute, counted from 1970-01-01T00:00.
+    /// Passes under the older root are valid until this minute, counted from 1970-01-01T00:00.
     RotateKey(&'static str, &'static [u8], u32),
     /// The key and the number of the booking.
     CancelBooking(&'static str, u32),

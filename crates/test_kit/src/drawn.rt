@@ -10,7 +10,8 @@ use crate::slots::{COURT_AT_18, COURT_AT_19, PlainSlot, ROOM_AT_18};
 use club_values::Kind;
 use pass_forms::Form;
 
-// The linear congruential generator of Knuth's MMIX. The events use the upper 31 bits.
+// The linear congruential generator of Knuth's MMIX. The events use the upper 31 bits of each
+// number.
 const FACTOR: u64 = 6_364_136_223_846_793_005;
 
 const SUMMAND: u64 = 1_442_695_040_888_963_407;
@@ -28,7 +29,8 @@ const SPARE: &str = "spare";
 /// All slots are on 2026-05-01.
 pub static SLOTS: [PlainSlot; 3] = [COURT_AT_18, COURT_AT_19, ROOM_AT_18];
 
-/// An audit key shows the account of its member. No random event uses it.
+/// Tests use an audit key to read the account of the key's member. No random event uses an audit
+/// key.
 pub const AUDIT_AMY: &str = "audit-amy";
 
 const AUDIT_BOB: &str = "audit-bob";
@@ -70,7 +72,7 @@ static CAVEATS: [&[&str]; 12] = [
     &["days = 2026-05-01..2026-05-02", "shoe = red"],
 ];
 
-/// All keys have the first root at the start.
+/// At the start, all keys have the first root.
 static ROOTS: [&[u8]; 2] = [ROOT, SECOND_ROOT];
 
 static FORMS: [Form; 3] = [Form::V1, Form::V2, Form::Json];
@@ -125,7 +127,7 @@ impl Numbers {
         SLOTS[self.below(3) as usize]
     }
 
-    // The slot depends only on the number of the booking in three of four cases.
+    // In three of four cases, the slot depends only on the number of the booking.
     fn slot_of(&mut self, booking: u32) -> PlainSlot {
         if self.below(4) == 0 {
             return self.slot();

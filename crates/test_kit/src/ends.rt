@@ -11,7 +11,7 @@ pub enum End {
     Begins(u8, &'static str),
 }
 
-/// The text is on standard output or on standard error.
+/// The status of a run, and the text on standard output or on standard error.
 #[derive(Debug, Drop)]
 pub struct Output {
     pub status: u8,

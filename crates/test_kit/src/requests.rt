@@ -28,7 +28,7 @@ pub const BOOK_2: PlainRequest = PlainRequest::Book(COURT_AT_18, 2, 0);
 pub const BOOK_8: PlainRequest = PlainRequest::Book(COURT_AT_18, 8, 0);
 
 impl PlainRequest {
-    /// Returns `None` if a part is outside its limits.
+    /// Returns `None` if a value is outside its limits.
     pub fn request(&self) -> Option<Request> {
         Some(match self {
             PlainRequest::View(slot) => Request::View { slot: slot.slot()? },

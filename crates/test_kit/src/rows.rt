@@ -81,7 +81,7 @@ impl PlainFacility {
 }
 
 impl PlainBooking {
-    /// Returns `None` if a part is outside its limits.
+    /// Returns `None` if a value is outside its limits.
     pub fn booking(&self) -> Option<Booking> {
         Some(Booking {
             key: Name::read(self.key.as_bytes())?,
