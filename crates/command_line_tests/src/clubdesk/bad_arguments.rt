@@ -35,7 +35,7 @@ fn expect_refused(rt: &impl Host, line: &str, end: &End) {
 
 const BAD_VALUE: End = Begins(3, "bad value");
 
-// Arguments, then a colon and endings. Each ending has one bad value.
+// Arguments, then a colon and the possible endings of the line. Each ending has one bad value.
 static BAD_VALUES: [&str; 19] = [
     "add-member|F|: Amy|5 |5 amybobcydideeveflogushalfi|5 amy| amy|+5 amy|1000000000 amy|0000000005",
     "credit|F|: amy!|1 amy|1.0",
@@ -141,7 +141,7 @@ fn arguments_that_clap_refuses(rt: HostRuntime) {
     }
 }
 
-// `clap` writes this text in Rust.
+// A Rust program with `clap` prints the same text.
 const NOT_TEXT: End = Prints(
     2,
     "error: invalid UTF-8 was detected in one or more arguments\n\nUsage: clubdesk <COMMAND>\n\nFor more information, try '--help'.\n",

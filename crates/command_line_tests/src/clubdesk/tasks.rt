@@ -1,4 +1,4 @@
-//! What the arguments of `clubdesk` ask for.
+//! The tasks that the arguments of `clubdesk` ask for.
 
 use crate::expect::{Host, expect_case};
 use club_clock::Clock;
@@ -84,7 +84,7 @@ pub(super) fn expect_asked(rt: &impl Host, line: &str, file: &str, want: &str) {
     }
 }
 
-// The file is `F`. Scenarios have commands that are carried out.
+// The file is `F`. The scenarios test how commands are carried out.
 static TASKS: [&str; 22] = [
     "set-facility|F|b|51|10000|9|8 \
     asks for SetFacility { name: \"b\", places: 51, price: 10000, opens: 9, shuts: 8 }",
@@ -131,7 +131,7 @@ fn tasks(rt: HostRuntime) {
     }
 }
 
-// Arguments after `--` are no options.
+// Arguments after `--` aren't options.
 #[test]
 fn sheets(rt: HostRuntime) {
     let output = "sheet 2026-05-02";

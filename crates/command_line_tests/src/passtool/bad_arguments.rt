@@ -46,7 +46,7 @@ fn refuses_other_forms(rt: HostRuntime) {
     }
 }
 
-// Bars separate the arguments, and the first line has no argument.
+// Spaces separate the lines, and bars separate a line's arguments. The first line has no arguments.
 const BAD_ARGUMENTS: &str = " frob help|frob mint mint|--root|zz mint|--id|k mint|--root|zz|--id \
     mint|--root|00|--id|a|--id|b mint|--root|00|--id|k|-x show|more show|--form|v1 narrow \
     narrow|--any narrow|--any|--any|x narrow|-x convert convert|--form convert|v1 verify \
@@ -92,7 +92,7 @@ fn help_of_narrow_shows_the_caveats(rt: HostRuntime) {
     for caveat in CAVEATS.split('|') {
         expect_help(&rt, "narrow|-h", caveat);
     }
-    // Each caveat is understood, so the pass is refused.
+    // `narrow` understands each of these caveats, so the fault is in the pass.
     let caveats = CAVEATS;
     let line = format!(in rt.alloc(); "narrow|{caveats}").expect(&rt, "memory");
     expect(&rt, line.as_str(), b"!", &MALFORMED);

@@ -1,4 +1,4 @@
-//! A slow pipe: one byte a call, signals, and failures.
+//! A slow pipe, with one byte per call, signals and failures.
 
 use std::alloc::Global;
 use std::io::{self, ErrorKind, Read, Write};
@@ -12,7 +12,7 @@ pub(crate) struct Slow<'a> {
     pub(crate) taken: Vec<u8>,
     pub(crate) room: usize,
     pub(crate) flushes: bool,
-    /// The signals before each call, and the signals since the last call.
+    /// The number of signals before each call, and the number of signals since the last call.
     pub(crate) signals: u8,
     came: u8,
 }

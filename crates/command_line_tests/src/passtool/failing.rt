@@ -1,4 +1,4 @@
-//! Failing or interrupted readers and writers, and readers that give pieces.
+//! Failing or interrupted readers and writers, and readers that return their bytes in pieces.
 
 use super::doubles::Slow;
 use super::runs::*;
@@ -38,7 +38,7 @@ fn fails_with_its_reader(rt: HostRuntime) {
 // A line, its input, and its output without the line feed.
 type Run = (&'static str, &'static str, &'static str);
 
-// The writer has room for `front` alone.
+// The writer has room only for `front`.
 fn expect_taken(rt: &impl Host, (line, input, _): &Run, front: &[u8], flushes: bool, end: &End) {
     let mut writer = Slow::new(rt.alloc(), b"");
     writer.room = front.len();
@@ -49,7 +49,7 @@ fn expect_taken(rt: &impl Host, (line, input, _): &Run, front: &[u8], flushes: b
     expect_eq(rt, &writer.taken.as_slice(), &front);
 }
 
-// A writer with enough room fails only if it can't flush.
+// A writer with enough room fails only if its flush fails.
 fn fails_with_writer(rt: &impl Host, run: &Run) {
     let text = run.2;
     let line = format!(in rt.alloc(); "{text}\n").expect(rt, "memory");

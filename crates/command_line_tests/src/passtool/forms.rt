@@ -1,4 +1,4 @@
-//! Passes made, narrowed, shown and written in each form.
+//! Passes that are made, narrowed, shown and written in each form.
 
 use super::runs::*;
 use crate::expect::Host;
@@ -8,7 +8,8 @@ fn expect_text(rt: &impl Host, line: &str, input: &str, text: &'static str) {
     expect(rt, line, input.as_bytes(), &Writes(text));
 }
 
-// The first text has an empty location, and the others have none. The last text is base64.
+// The first text has an empty location, and the other texts have no location. The last text is
+// base64.
 static OF_KEYID: [&str; 5] = [
     "AgEAAgVrZXlpZAAABiB83ueSURxbxvUoSFgF3-myTnheKOKpkwH51xHGCeOO9w",
     "AgIFa2V5aWQAAAYgfN7nklEcW8b1KEhYBd_psk54XijiqZMB-dcRxgnjjvc",

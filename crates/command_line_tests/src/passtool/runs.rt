@@ -1,5 +1,5 @@
-//! Runs of the program over memory. The pass and its root come from libmacaroons' documentation. A
-//! program in another language computed the other values.
+//! Runs of the program with input and output in memory. The pass and its root come from
+//! libmacaroons' documentation. A program in another language computed the other values.
 
 use super::doubles::Slow;
 use crate::expect::{Host, expect_end, expect_eq};
@@ -12,7 +12,8 @@ use test_kit::Output;
 const ROOT: &str =
     "74686973206973206f757220737570657220736563726574206b65793b206f6e6c792077652073686f756c64206b6e6f77206974";
 
-// The caveat `test = caveat` of the identifier `we used our secret key`, at http://mybank/.
+// The pass with the identifier `we used our secret key`, the location http://mybank/ and the caveat
+// `test = caveat`.
 pub(crate) const TEXT: &str =
     "MDAxY2xvY2F0aW9uIGh0dHA6Ly9teWJhbmsvCjAwMjZpZGVudGlmaWVyIHdlIHVzZWQgb3VyIHNlY3JldCBrZXkKMDAxNmNpZCB0ZXN0ID0gY2F2ZWF0CjAwMmZzaWduYXR1cmUgGXusegRK8zMyhluSZuJtSTvdZopmDkTYjOGpmMI9vWcK";
 
@@ -47,7 +48,7 @@ pub(crate) const TO_V2: &str = "convert|--form|v2";
 
 pub(crate) const TO_JSON: &str = "convert|--form|json";
 
-// Makes `TEXT` of `BARE_TEXT`.
+// Makes `TEXT` from `BARE_TEXT`.
 pub(crate) const NARROW: &str = "narrow|--any|test = caveat";
 
 // Makes `V2_TEXT`.

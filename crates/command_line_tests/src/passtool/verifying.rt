@@ -1,4 +1,4 @@
-//! Verifying, and texts that are no pass.
+//! The verification of passes, and texts that aren't passes.
 
 use super::runs::*;
 use test_kit::End::{self, Prints, Writes};
@@ -59,7 +59,7 @@ fn refuses_third_party_caveats_in_each_form(rt: HostRuntime) {
     }
 }
 
-// `OTHER_V2` in the standard alphabet.
+// `OTHER_V2` in the standard alphabet of base64.
 const STANDARD: &str =
     "AgETaHR0cDovL2V4YW1wbGUub3JnLwIFa2V5aWQAAAYgfN7nklEcW8b1KEhYBd/psk54XijiqZMB+dcRxgnjjvc";
 
