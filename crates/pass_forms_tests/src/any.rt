@@ -14,7 +14,7 @@ fn converts_passes_of_short_and_long_names(rt: HostRuntime) {
     convert(&rt, &OF_24_LETTERS);
 }
 
-// V1 has a packet for an empty location, and V2 and JSON leave out the location.
+// For an empty location, V1 has a packet, but V2 and JSON have nothing.
 #[test]
 fn leaves_an_empty_location_out(rt: HostRuntime) {
     convert(&rt, &UNLOCATED);
@@ -22,7 +22,7 @@ fn leaves_an_empty_location_out(rt: HostRuntime) {
     is_written(&rt, &read_in(&rt, Form::V2, written), &UNLOCATED);
 }
 
-// JSON without optional members, plainly and in base64.
+// JSON without optional members, as plain text and in base64.
 static SHORT: [&str; 3] = [
     "{\"i\":\"keyid\",\"s64\":\"fN7nklEcW8b1KEhYBd_psk54XijiqZMB-dcRxgnjjvc\"}",
     "eyJpIjoia2V5aWQiLCJzNjQiOiJmTjdua2xFY1c4YjFLRWhZQmRfcHNrNTRYaWppcVpNQi1kY1J4Z25qanZjIn0",

@@ -1,4 +1,5 @@
-//! The tested calls without contracts. A test over them is proved in a fraction of the time.
+//! The tested functions without contracts. A test that calls these functions is proved in a
+//! fraction of the time.
 
 use pass_forms::{Form, FormFault, MAX_BYTES, Pass, Unwrapped, V1Fields, V2Fields};
 use std::alloc::Global;

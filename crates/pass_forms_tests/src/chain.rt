@@ -7,7 +7,8 @@ use pass_mac::{Chain, derive, same};
 
 type Mac = (&'static [u8], &'static [u8], &'static [u8; 32]);
 
-// RFC 4231, section 4. Then an independent program's values for keys around a block's length.
+// RFC 4231, section 4. Then values from an independent program for keys of 64 bytes, which is the
+// block's length, and of 65 bytes.
 static CASES: [Mac; 8] = [
     (
         &[0x0b; 20],
@@ -78,7 +79,7 @@ fn expect_same(rt: &impl Host, a: &[u8; 32], b: &[u8; 32], alike: bool) {
     expect_eq(rt, &same(a, b), &alike, &(a, b));
 }
 
-// Under the root itself, without derivation, the signature differs.
+// If the chain's key is the root itself instead of the derived key, the signature differs.
 #[test]
 fn chain_resumes_from_a_signature_or_a_key(rt: HostRuntime) {
     let (bare, known) = (&BARE_FIELDS, &KNOWN_FIELDS);

@@ -50,11 +50,11 @@ fn outcome(text: &[u8]) -> Result<(Form, usize), FormFault> {
 }
 
 static OTHER_TEXTS: [&[u8]; 8] = [
-    // Both alphabets, too much padding, and a last bit set.
+    // Characters of both alphabets, too much padding, and an unused last bit that is set.
     b"AgETaHR0cDovL2V4YW1wbGUub3JnLwIFa2V5aWQAAAYgfN7nklEcW8b1KEhYBd_psk54XijiqZMB+dcRxgnjjvc",
     b"AgETaHR0cDovL2V4YW1wbGUub3JnLwIFa2V5aWQAAAYgfN7nklEcW8b1KEhYBd_psk54XijiqZMB-dcRxgnjjvc==",
     b"AgETaHR0cDovL2V4YW1wbGUub3JnLwIFa2V5aWQAAAYgfN7nklEcW8b1KEhYBd_psk54XijiqZMB-dcRxgnjjvd",
-    // Too little padding, padding alone, no text, white space, and bytes that are no UTF-8.
+    // Too little padding, padding alone, no text, white space, and bytes that aren't UTF-8.
     b"Zg=",
     b"=",
     b"",
@@ -73,7 +73,8 @@ fn refuses_other_texts(rt: HostRuntime) {
     expect_outcomes(&rt, &OTHER_TEXTS, Err(FormFault::Malformed));
 }
 
-// Base64 of the bytes `0`, `9`, `a` and `f`, then of the bytes next to hexadecimal digits.
+// Base64 of the bytes `0`, `9`, `a` and `f`. `OTHER_BYTES` has the base64 of bytes with which no
+// form begins.
 static V1_BYTES: [&[u8]; 4] = [b"MA", b"OQ", b"YQ", b"Zg=="];
 
 static OTHER_BYTES: [&[u8]; 8] = [b"AQ", b"Aw", b"Lw", b"Og", b"QQ", b"YA", b"Zw", b"fA"];
@@ -100,7 +101,7 @@ fn reads_up_to_8192_bytes(rt: HostRuntime) {
     }
 }
 
-// RFC 4648's vectors in each alphabet and padding, then texts that are no base64.
+// RFC 4648's vectors in each alphabet and padding, then texts that aren't base64.
 static DECODED: [(&[u8], Option<&[u8]>); 13] = [
     (b"", Some(b"")),
     (b"Zg", Some(b"f")),

@@ -63,7 +63,7 @@ const CAVEAT: &[u8] = b",{\"i\":\"guests <= 1\"}";
 
 const THIRD_PARTY: Piece = (1, b",{\"i\":\"x\",\"v64\":\"\"}]");
 
-// `serde_json` reads at most 127 arrays and objects in one another.
+// `serde_json` reads at most 127 levels of nested arrays and objects.
 static AT_THE_LIMITS: [Row; 3] = [
     (&[SHORT, (8127, b" ")], KEYID_FIELDS),
     (&[NAME, (126, b"["), (126, b"]"), REST], KEYID_FIELDS),
@@ -76,7 +76,7 @@ static AT_THE_LIMITS: [Row; 3] = [
     ),
 ];
 
-// Other faults come before too many caveats.
+// If a pass has too many caveats and another fault, the other fault is reported.
 static BEYOND_THE_LIMITS: [Refused; 5] = [
     (&[SHORT, (8128, b" ")], TooLong),
     (&[NAME, (127, b"["), (127, b"]"), REST], Malformed),
@@ -145,7 +145,8 @@ fn refuses_other_members(rt: HostRuntime) {
     are_refused_between(&rt, Form::Json, around, &THIRD_PARTIES, ThirdParty);
 }
 
-// Base64, the last of equal names, escapes, and UTF-8.
+// Members, and the identifiers that they encode. The members have base64, the same name twice,
+// escapes, or UTF-8.
 static IDENTIFIERS: [(&[u8], &[u8]); 6] = [
     (b"\"i64\":\"_w\"", b"\xff"),
     (b"\"i\":\"a\",\"i\":\"b\"", b"b"),

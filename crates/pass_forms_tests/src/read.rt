@@ -1,4 +1,4 @@
-//! Passes that are read, all at once and field by field, and what is refused.
+//! Passes that are read, all at once and field by field, and bytes that are refused.
 
 use crate::calls::{open_v1, open_v2, read};
 use crate::rows::{Fields, Host, Piece, expect_eq, expect_pass, join};
@@ -35,7 +35,7 @@ fn expect_fields_twice<'a, S: FieldSource<'a> + Drop>(
     expect_fields(rt, &mut others, want);
 }
 
-// JSON can't be read without memory.
+// Reads the fields of V1 and V2 without memory. JSON can't be read without memory.
 fn walks<'a>(rt: &impl Host, form: Form, bytes: &'a [u8], want: &Fields<'a>) {
     match form {
         Form::V1 => expect_fields_twice(rt, &mut open_v1(bytes).expect(rt, "fields"), want),

@@ -1,4 +1,4 @@
-//! `tests/desk/refused_memory_tests.py` refuses each allocation in turn, so a second call succeeds.
+//! `tests/desk/refused_memory_tests.py` refuses one allocation per run, so a second call succeeds.
 
 use crate::calls::{read_any, write_any};
 use crate::rows::{Host, expect_eq};

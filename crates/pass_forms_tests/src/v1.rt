@@ -41,7 +41,7 @@ const X: &[u8] = b"x";
 
 static READ: [Row; 4] = [
     (&[BEFORE, CAVEAT, AFTER], KNOWN_FIELDS),
-    // A packet's length decides, so its data may look like a packet.
+    // The length of a packet states where the packet ends, so its data may look like a packet.
     (
         &[BEFORE, (1, b"0014cid x\n000acid y\n"), AFTER],
         Fields {

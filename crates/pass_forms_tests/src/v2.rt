@@ -92,7 +92,7 @@ const THIRD_PARTY: &[u8] = b"\x02\x01x\x04\x01y\x00";
 
 static REFUSED: [Refused; 8] = [
     (&[HEADER, AFTER, (1, b"\x00")], Malformed),
-    // A longer spelling of a length, a length without an end, and a wrong length.
+    // A length with more bytes than necessary, a length without an end, and a wrong length.
     (&[(1, b"\x02\x02\x85\x00keyid\x00"), AFTER], Malformed),
     (&[(1, b"\x02\x02"), (10, b"\xff"), AFTER], Malformed),
     (&[(1, b"\x02\x02\x06keyid"), AFTER], Malformed),

@@ -69,7 +69,7 @@ fn writes_one_text(rt: HostRuntime) {
     }
 }
 
-// RFC 8259 has short escapes. Other control bytes get `\u`.
+// RFC 8259 has short escapes. Other control bytes are written with `\u`.
 #[test]
 fn writes_escapes(rt: HostRuntime) {
     let identifier: &[Piece] = &[(
@@ -86,8 +86,8 @@ type Lens = (usize, usize, usize);
 
 type Row = (Form, usize, usize, Result<Lens, FormFault>);
 
-// Without its identifier, a pass has 77 bytes in V1, 40 in V2 and 73 in JSON. Base64 makes 8,192
-// characters of 6,144 bytes.
+// Without its identifier, a pass has 77 bytes in V1, 40 in V2 and 73 in JSON. In base64, 6,144
+// bytes become 8,192 characters.
 static LENS: [Row; 13] = [
     (Form::V1, 6067, 0, Ok((8192, 6067, 0))),
     (Form::V1, 6068, 0, Err(FormFault::TooLong)),
