@@ -37,7 +37,7 @@ fn recorded(rt: &impl Host) -> View {
     }
 }
 
-/// The member's name is in the key's row.
+/// A view with only the key's row. The key's row has the name of the member.
 fn bare(rt: &impl Host) -> View {
     View {
         member: amy(0, 0).expect(rt, "a member"),

@@ -5,7 +5,7 @@ pub(crate) trait Host: Abort + AllocGlobal {}
 
 impl<R: Abort + AllocGlobal> Host for R {}
 
-/// The proof of a test that calls this function takes a third of the time of an assertion.
+/// A test that calls this function is proved in a third of the time of a test that asserts.
 pub(crate) fn expect_eq<T: PartialEq + Debug>(
     rt: &impl Abort,
     returned: &T,

@@ -23,7 +23,8 @@ fn words(rt: &impl Host, key: &str, asked: &PlainRequest) -> Words {
     }
 }
 
-/// With `others`, the club is a member's part, and `others` is the use of slots by other members.
+/// With `others`, the club is one member's part, and `others` is the use of the slot by other
+/// members.
 fn plays(rt: &impl Host, club: &mut Club, others: Option<SlotUse>, steps: &[Step]) {
     for (row, (key, asked, want)) in steps.iter().enumerate() {
         let (words, at) = (words(rt, key, asked), moment(rt, NOON));

@@ -1,4 +1,4 @@
-//! Spend limits above what requests can spend, and the faults of caveats.
+//! Very high spend limits, and the faults of caveats.
 
 use super::calls::{answer, fault_at};
 use crate::expect::{Host, expect_eq};
@@ -37,7 +37,7 @@ fn limits_of_points(rt: HostRuntime) {
     }
 }
 
-// The fault of each caveat as the second caveat of a pass.
+// A caveat, and its fault if it is the second caveat of a pass.
 static SECOND: [(&str, Option<CaveatFault>); 2] = [
     ("shoe = red", Some(CaveatFault::NotUnderstood(2))),
     ("weekday = fri", None),

@@ -1,4 +1,4 @@
-//! The tested functions without contracts, because the tests' proofs are faster without contracts.
+//! The tested functions without contracts. A test that calls these functions is proved faster.
 
 use club_values::{Action, Day, Hour, Kind, Moment, Name};
 use pass_caveats::{Ask, CaveatFault};
