@@ -61,7 +61,7 @@ impl<'a> Values<'a> {
         })
     }
 
-    /// Fails if a word is left.
+    /// Fails if the line has more words.
     pub(crate) fn end(&self) -> Result<(), Fault> {
         if self.left.is_empty() {
             Ok(())
@@ -70,7 +70,7 @@ impl<'a> Values<'a> {
         }
     }
 
-    /// Reads the name of a form. If no word is left, returns V2.
+    /// Reads `--form` and the name of a form. If the line has no more words, returns V2.
     fn form(&mut self) -> Result<Form, Fault> {
         match self.word() {
             "" => Ok(Form::V2),
@@ -199,7 +199,7 @@ fn facility_of(text: &str) -> Result<Command, Fault> {
     })
 }
 
-/// Returns the member's name in the name of a key, which is the part before the last `-`.
+/// Returns the part of a key's name before the last `-`. This part is the name of the key's member.
 fn member_in(key: &str) -> &str {
     match key.rsplit_once('-') {
         Some((member, _)) => member,

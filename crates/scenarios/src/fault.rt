@@ -1,10 +1,10 @@
-//! The faults that stop playing a file.
+//! The faults at which the player stops playing a file.
 
 use pass_forms::FormFault;
 use std::alloc::{AllocError, AllocFailed};
 use std::fmt;
 
-/// The reason why playing a file stops at a line.
+/// The reason why the player stops at a line of a file.
 #[derive(Debug, Drop)]
 pub(crate) enum Fault {
     /// The line breaks this rule of the scenario language.
@@ -48,7 +48,7 @@ impl From<FormFault> for Fault {
     }
 }
 
-/// Returns the value. If there is no value, fails because the line breaks this rule.
+/// Returns the value. If there is no value, fails with the rule that the line breaks.
 pub(crate) fn needed<T: Drop>(value: Option<T>, rule: &'static str) -> Result<T, Fault> {
     match value {
         Some(value) => Ok(value),

@@ -4,8 +4,8 @@ use crate::fault::{Fault, needed};
 use club_http::{Moment, Name, Root};
 use std::alloc::Global;
 
-/// The name and the bytes of the default root. A key gets this root unless its line names another
-/// root.
+/// The name of the default root. `FIRST_ROOT` has the bytes of this root. A key gets this root
+/// unless its line names another root.
 const FIRST: &[u8] = b"first";
 
 const FIRST_ROOT: &[u8] = b"\x00\x11\x22\x33\x44\x55\x66\x77\x88\x99\xaa\xbb\xcc\xdd\xee\xff";
@@ -30,10 +30,10 @@ pub(crate) struct Known {
     roots: Vec<Named>,
     keys: Vec<Named>,
     texts: Vec<NamedText>,
-    /// The text of the last line that made a club.
+    /// The text of the latest `club` line that isn't `club again`.
     pub(crate) club: String,
     pub(crate) moment: Option<Moment>,
-    /// True if a crash stops the next line, so that the line is played again.
+    /// True if a crash stops the next line. The player then plays the line again.
     pub(crate) crashes: bool,
 }
 
@@ -113,7 +113,7 @@ impl Known {
         Ok(())
     }
 
-    /// Removes all keys, because a line makes a new club.
+    /// Removes all keys. Callers use this when a line makes a new club.
     pub(crate) fn forget_keys(&mut self) {
         self.keys.clear();
     }

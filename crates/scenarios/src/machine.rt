@@ -16,8 +16,8 @@ use pass_json::read_any;
 use std::alloc::{AllocError, Global};
 use std::cmp::Ordering;
 
-/// A name that no member has. The player uses the name to count all bookings of a slot as other
-/// members' bookings.
+/// A name that no member has. With this name, all bookings of a slot count as other members'
+/// bookings.
 const NOBODY: &[u8] = b"nobody";
 
 /// Makes players that use the reference machine.
@@ -70,7 +70,7 @@ fn pass_fault(fault: FormFault) -> Option<PassFault> {
     }
 }
 
-/// Returns the key's name in the identifier of a pass.
+/// Returns the name of the key from the identifier of a pass.
 fn key_in(identifier: &[u8]) -> Option<Name> {
     Name::read(identifier.strip_prefix(b"key:")?)
 }

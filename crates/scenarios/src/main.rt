@@ -6,7 +6,7 @@
 //! - The desk with exchanges from bytes to bytes. The player plays the file three times, once for
 //!   each form of pass.
 //!
-//! For each file, the program prints the number of lines, or the first line with another answer.
+//! For each file, the program prints the numbers of clubs and lines, or the first fault.
 #![tactic(auto)]
 
 mod command;
@@ -36,7 +36,7 @@ const ENDING: &str = ".txt";
 
 static FORMS: [Form; 3] = [Form::V1, Form::V2, Form::Json];
 
-/// A fault of a line, and the name of the player that found the fault.
+/// A fault at a line, and the name of the player that found the fault.
 #[derive(Drop)]
 struct Found {
     player: &'static str,
@@ -56,7 +56,8 @@ fn names(rt: &HostRuntime) -> Result<Vec<String>> {
     Ok(names)
 }
 
-/// Plays lines with each player. `keeps` is true if a line takes effect before a crash.
+/// Plays lines with each player. `keeps` is true if a line that a crash stops takes effect before
+/// the crash.
 fn play_each(alloc: Global, lines: &[&str], keeps: bool) -> Result<Count, Found> {
     let form = Form::V2;
     let way = Way { form, keeps };
@@ -78,8 +79,8 @@ fn lines_of<'a>(alloc: Global, text: &'a str) -> Result<Vec<&'a str>, AllocError
     text.lines().collect(alloc)
 }
 
-/// Plays a text. If the text has a crash, plays the text once more with `keeps`, so that lines take
-/// effect before a crash.
+/// Plays a text. If the text has a crash, plays the text once more. This time, each line that a
+/// crash stops takes effect before the crash.
 fn play_text(alloc: Global, lines: &[&str]) -> Result<Count, Found> {
     let count = play_each(alloc, lines, false)?;
     if lines.iter().any(|line| line.starts_with("crash")) {

@@ -1,5 +1,5 @@
-//! Odd texts, which break a rule of the scenario language. The player must refuse each text at the
-//! line that breaks the rule.
+//! Odd texts. Each text breaks a rule of the scenario language. The player must refuse each text at
+//! the line that breaks the rule.
 
 use crate::machine::Machines;
 use crate::play::{Way, play};

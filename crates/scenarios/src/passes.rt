@@ -9,7 +9,7 @@ use pass_forms::{Form, Pass, PassParts, narrow};
 use pass_json::write_any;
 use std::alloc::Global;
 
-/// The part of a pass that marks its key as unknown to the club.
+/// The word in a pass's brackets that marks the pass's key as unknown to the club.
 const UNKNOWN: &str = "unknown";
 
 /// The description of a pass that the player makes.
@@ -33,7 +33,7 @@ pub(crate) fn form_named(text: &str) -> Option<Form> {
     }
 }
 
-/// Replaces a text by the text of a part. Removes the quotes around the part, and decodes its
+/// Replaces a text with the text of a part. Removes the quotes around the part, and decodes its
 /// escapes.
 fn replace(text: &mut Vec<u8>, part: &str) -> Result<(), Fault> {
     text.clear();
@@ -78,7 +78,7 @@ impl Draft {
         Ok(())
     }
 
-    /// Changes the description by one part from the pass's brackets.
+    /// Applies one part from the brackets of a pass to the description.
     fn change(&mut self, alloc: Global, known: &Known, part: &str) -> Result<(), Fault> {
         let (word, rest) = part.split_once(' ').unwrap_or((part, ""));
         if let Some(form) = form_named(part) {
@@ -107,7 +107,7 @@ impl Draft {
     }
 }
 
-/// Splits a holder into the name of a key and the parts in brackets.
+/// Splits a holder, such as `KEY [PART; PART]`, into the key's name and the parts in brackets.
 fn key_and_parts(holder: &str) -> Result<(&str, &str), Fault> {
     match holder.split_once(" [") {
         None => Ok((holder, "")),
@@ -118,8 +118,8 @@ fn key_and_parts(holder: &str) -> Result<(&str, &str), Fault> {
     }
 }
 
-/// Returns the root of a key. A key that the club doesn't have must have the mark `unknown`. The
-/// root of such a key is the default root.
+/// Returns the root of a key. If the club doesn't have the key, the parts must contain `unknown`.
+/// The root of such a key is the default root.
 fn root_of(known: &Known, key: &Name, parts: &str) -> Result<Root, Fault> {
     let is_unknown = parts.split("; ").any(|part| part == UNKNOWN);
     match known.root_of_key(key) {

@@ -25,7 +25,7 @@ const NO_CLUB: &str = "no club before it";
 /// The options for playing a file.
 #[derive(Clone, Copy)]
 pub(crate) struct Way {
-    /// The form of a pass whose line names no form.
+    /// The form of a pass if its line names no form.
     pub(crate) form: Form,
     /// True if a line that a crash stops takes effect before the crash.
     pub(crate) keeps: bool,
@@ -38,7 +38,7 @@ pub(crate) struct Count {
     pub(crate) lines: u32,
 }
 
-/// A fault, and the number of the line that has the fault.
+/// A fault, and the number of the line with the fault.
 #[derive(Drop)]
 pub(crate) struct FaultAt {
     pub(crate) line: usize,
@@ -117,7 +117,7 @@ impl<'a> Line<'a> {
         }
     }
 
-    /// Joins the text of the first column and the texts of the indented lines.
+    /// Joins all columns after the first, and the indented lines.
     fn whole(&self, alloc: Global) -> Result<String, Fault> {
         let mut text = String::new(alloc);
         for part in self.rest(1).iter().chain(self.below.iter()) {
@@ -387,7 +387,7 @@ where
         }
     }
 
-    /// Fails if the line before states a crash. A crash can't stop this line.
+    /// Fails if the previous line states a crash. A crash can't stop this line.
     fn isnt_stopped(&self) -> Result<(), Fault> {
         if self.known.crashes {
             Err(Fault::Rule("a crash is followed by a request or a command"))

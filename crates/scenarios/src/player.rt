@@ -21,8 +21,8 @@ pub(crate) trait Player {
     /// Returns the listing of a slot, or `None` if there is no such facility.
     fn slot(&mut self, slot: &Slot) -> Result<Option<String>, Fault>;
 
-    /// Closes and reopens the player's tables. `as_version_1` first turns the tables into the
-    /// tables of an older program.
+    /// Closes and reopens the player's tables. If `as_version_1` is true, first turns the tables
+    /// into tables of version 1.
     fn reopened(self, as_version_1: bool) -> Result<Self, Fault>;
 }
 

@@ -36,7 +36,8 @@ fn methods<'a>(status: &str, columns: &[&'a str]) -> Result<Option<&'a str>, Fau
     }
 }
 
-/// Returns the header field, with its line end, that only replies with this status have.
+/// Returns the header field that only replies with this status have, with CR LF. Returns an empty
+/// text for other statuses.
 fn own_field(alloc: Global, status: &str, methods: Option<&str>) -> Result<String, AllocError> {
     match methods {
         Some("GET") => String::from_str(alloc, "Allow: GET\r\n"),
@@ -46,8 +47,8 @@ fn own_field(alloc: Global, status: &str, methods: Option<&str>) -> Result<Strin
     }
 }
 
-/// Checks a number of bytes, such as `43 bytes` for the body or `133 in all`. Fails if the number
-/// is wrong.
+/// Checks a stated number of bytes, such as `43 bytes` for the body or `133 in all` for the reply.
+/// Fails if the number is wrong.
 fn expect_count(count: &str, body: usize, all: usize) -> Result<(), Fault> {
     let (digits, what) = halves(count, ' ', "a count has a number")?;
     let found = match what {

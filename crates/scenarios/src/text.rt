@@ -36,7 +36,7 @@ fn simple(letter: u8) -> Result<u8, Fault> {
     }
 }
 
-/// Reads one byte. Returns the new state. Also returns a decoded byte, unless an escape is
+/// Reads one byte, and returns the new state. Also returns the decoded byte, unless an escape is
 /// incomplete.
 fn step(state: Escape, byte: u8) -> Result<(Escape, Option<u8>), Fault> {
     match state {
@@ -52,7 +52,7 @@ fn step(state: Escape, byte: u8) -> Result<(Escape, Option<u8>), Fault> {
     }
 }
 
-/// Adds a text to the bytes, and decodes the text's escapes.
+/// Decodes a text's escapes, and adds the decoded text to the bytes.
 pub(crate) fn push_unescaped(bytes: &mut Vec<u8>, text: &str) -> Result<(), Fault> {
     let mut state = Escape::None;
     for byte in text.as_bytes() {
@@ -88,7 +88,8 @@ pub(crate) fn repeated(text: &str) -> (u32, &str) {
     }
 }
 
-/// Decodes a text's escapes, and adds the text to the bytes as often as its count states.
+/// Decodes a text's escapes, and adds the decoded text to the bytes. A count in the text states how
+/// often.
 pub(crate) fn push_repeated(bytes: &mut Vec<u8>, text: &str) -> Result<(), Fault> {
     let (count, what) = repeated(text);
     for _ in 0..count {
