@@ -37,7 +37,7 @@ fn recorded(rt: &impl Host) -> View {
     }
 }
 
-/// A view with only the key's row. The key's row has the name of the member.
+/// A view with only the key's row. The member's name is in the key's row, so the view has it, too.
 fn bare(rt: &impl Host) -> View {
     View {
         member: amy(0, 0).expect(rt, "a member"),

@@ -5,7 +5,7 @@ pub(crate) trait Host: Abort + AllocGlobal {}
 
 impl<R: Abort + AllocGlobal> Host for R {}
 
-/// A test that calls this function is proved in a third of the time of a test that asserts.
+/// A test that calls this function is proved in a third of the time of a test with `assert_eq!`.
 pub(crate) fn expect_eq<T: PartialEq + Debug>(
     rt: &impl Abort,
     returned: &T,

@@ -1,4 +1,5 @@
-//! The tested functions without contracts. A test that calls these functions is proved faster.
+//! Wrappers of the tested functions. A wrapper has no contract, so a test that calls it is proved
+//! faster.
 
 use club_values::{Action, Day, Hour, Kind, Moment, Name};
 use pass_caveats::{Ask, CaveatFault};
