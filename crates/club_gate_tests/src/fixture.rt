@@ -12,7 +12,7 @@ pub(crate) trait Fixture {
 }
 
 /// Returns the fault if the tables can't be created. Only this function names the tables' type,
-/// because each proof with that type takes ten seconds.
+/// because each proof with that type takes about ten seconds.
 pub(crate) fn try_to_play(rt: &impl Host, scene: &impl Fixture) -> Result<(), StoreFault> {
     let store = Store::open_in_memory(rt.alloc())?;
     scene.play(rt, Desk::new(rt.alloc(), store));

@@ -5,8 +5,8 @@ use crate::passes::PresentedPass;
 use crate::prelude::*;
 use pass_forms::Form;
 
-/// Amy's pass in JSON with 64 caveats `guests <= 49`, as plain texts and in base64. A program in
-/// another language made the two texts.
+/// Amy's pass in JSON with 64 caveats `guests <= 49`. The second text has the caveats, the
+/// identifier and the location in base64. A program in another language made both texts.
 static TEXTS: [[Piece; 4]; 2] = [
     [
         (1, "{\"c\":[{\"i\":\"guests <= 49\"}"),
