@@ -21,7 +21,8 @@ static WHOLE: [(&str, bool); 11] = [
     ("PUT / HTTP/1.1\r\nContent-Length: 257\r\n\r\n", true),
 ];
 
-/// Long texts, and whether each begins with a complete request. A head has at most 16,384 bytes.
+/// Long texts, and whether each begins with a complete request. A head has at most 16,384 bytes. If
+/// no head ends within these bytes, the text counts as a complete request.
 static LONG: [(&[Piece], bool); 3] = [
     (&[(16_383, "a")], false),
     (&[(16_384, "a")], true),

@@ -75,7 +75,7 @@ fn is_read_by_steps(rt: &impl Runtime, text: &str, steps: Range<usize>, want: &E
     }
 }
 
-/// With header fields of 0, 5, 6 and 7 bytes, the head's length has each remainder modulo 4.
+/// Header fields of 0, 5, 6 and 7 bytes. Modulo 4, the lengths of the four heads differ.
 static FIELDS: [&str; 4] = ["", "A: \r\n", "A: b\r\n", "A: bc\r\n"];
 
 fn with_field(rt: &impl Runtime, field: &str) -> String {

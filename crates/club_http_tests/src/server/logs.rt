@@ -110,7 +110,7 @@ fn a_log_that_fails(rt: HostRuntime) {
 }
 
 /// The first bytes of a request, and the method and the path in the log. The log keeps the first 96
-/// bytes of a request, which is enough for the request line of each valid request.
+/// bytes of a request. The longest request line that the desk serves has 80 bytes.
 static REQUEST_LINES: [(&str, Option<&str>, Option<&str>); 10] = [
     ("GET /account HTTP/1.1\r\n", Some("GET"), Some("/account")),
     ("OPTIONS * HTTP/1.1", Some("OPTIONS"), None),
