@@ -215,7 +215,7 @@ impl<'a> Plan<'a> {
         Ok(())
     }
 
-    // A command that follows a request in the list arrives between the two halves of this request.
+    // A command directly after a request in the list arrives between the two halves of the request.
     fn add_each(&mut self, events: &[Event]) -> Result<(), Fail> {
         let mut waiting = None;
         for event in events {
