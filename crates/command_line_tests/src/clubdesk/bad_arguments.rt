@@ -141,7 +141,7 @@ fn arguments_that_clap_refuses(rt: HostRuntime) {
     }
 }
 
-// A Rust program with `clap` prints the same text.
+// In Rust, `clap` itself prints this text for such arguments. `text_fault` makes the same text.
 const NOT_TEXT: End = Prints(
     2,
     "error: invalid UTF-8 was detected in one or more arguments\n\nUsage: clubdesk <COMMAND>\n\nFor more information, try '--help'.\n",

@@ -9,7 +9,7 @@ fn expect_text(rt: &impl Host, line: &str, input: &str, text: &'static str) {
 }
 
 // The first text has an empty location, and the other texts have no location. The last text is
-// base64.
+// JSON in base64.
 static OF_KEYID: [&str; 5] = [
     "AgEAAgVrZXlpZAAABiB83ueSURxbxvUoSFgF3-myTnheKOKpkwH51xHGCeOO9w",
     "AgIFa2V5aWQAAAYgfN7nklEcW8b1KEhYBd_psk54XijiqZMB-dcRxgnjjvc",
