@@ -1,7 +1,7 @@
 use Rattle.std.proofs.Common.{ℕ, List, rules}
 use Rattle.sqlite_disk.specs.Disk.{Torn, Mixed, Cut}
 
--- A crash may leave a file as it was before a change of the length to `n`.
+-- A crash may lose a change of a file's length or a write. The file then stays as it was.
 pub cut_nothing : (n : ℕ) (file : List ℕ) → Cut n file file
 cut_nothing n file = search rules
 

@@ -219,7 +219,7 @@ impl Crashes<'_> {
         }
     }
 
-    /// Returns true if the file didn't fail, because the task made fewer calls than `stop` allows.
+    /// Returns true if the task made fewer calls than `stop` allows. In this case, no call failed.
     fn survives(&mut self, rt: &impl Host, stop: Stop) -> bool {
         let work = do_over(rt, &self.bytes, stop, Work::Serves(self.trial.1, &[]));
         let done = self.done_by(rt, &work.lines);

@@ -50,7 +50,7 @@ fn whole_exchanges(rt: HostRuntime) {
     }
 }
 
-/// If the input ends too early, the exchange replies with a bad request. If a read fails, the
+/// If the input ends too early, the exchange replies that the request is bad. If a read fails, the
 /// exchange writes nothing.
 struct CutInput;
 

@@ -1,6 +1,6 @@
 //! Exchanges in which an allocation is refused. `tests/desk/refused_memory_tests.py` refuses each
-//! allocation in turn. If the refused allocation isn't in a tested exchange, the test ends with out
-//! of memory.
+//! allocation in turn. If no tested exchange makes the refused allocation, the test ends, because
+//! it is out of memory.
 
 use crate::expect::{Host, expect_case};
 use crate::fixture::{Fixture, KEPT, NOT_YET, Served, Step, play, with_pass};

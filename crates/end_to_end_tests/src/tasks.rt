@@ -46,7 +46,8 @@ fn cancels_whole_or_not_at_all(rt: HostRuntime) {
     CANCELS.holds(&rt);
 }
 
-/// The second commit writes into the room that the first commit made, so one sync must be enough.
+/// The first commit syncs the log twice, and writes zeros after its pages. The second commit writes
+/// over these zeros, so one sync must be enough for the second commit.
 static BOOKS_AND_CANCELS: Trial = Trial(FRESH, &[BOOK, CANCEL], &[SHOW], [58, 66]);
 
 #[test]

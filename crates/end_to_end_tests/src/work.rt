@@ -80,7 +80,7 @@ fn over_files(
 pub(crate) struct Done {
     /// `None` if no store opened the database.
     pub lines: Option<Vec<String>>,
-    /// True if the file that may fail didn't fail, because it had calls left.
+    /// True if the file that may fail had calls left at the end. In this case, no call failed.
     pub has_calls_left: bool,
     pub files: Files<Stops>,
 }
