@@ -145,8 +145,8 @@ fn refuses_other_members(rt: HostRuntime) {
     are_refused_between(&rt, Form::Json, around, &THIRD_PARTIES, ThirdParty);
 }
 
-// Members, and the identifiers that they encode. The members have base64, the same name twice,
-// escapes, or UTF-8.
+// Members, and the identifiers that they encode. The members have base64, escapes, UTF-8, or the
+// same name twice. If a name occurs twice, the last member counts.
 static IDENTIFIERS: [(&[u8], &[u8]); 6] = [
     (b"\"i64\":\"_w\"", b"\xff"),
     (b"\"i\":\"a\",\"i\":\"b\"", b"b"),

@@ -69,7 +69,7 @@ fn writes_one_text(rt: HostRuntime) {
     }
 }
 
-// RFC 8259 has short escapes. Other control bytes are written with `\u`.
+// RFC 8259 has short escapes. Other bytes below 0x20 are written with `\u`.
 #[test]
 fn writes_escapes(rt: HostRuntime) {
     let identifier: &[Piece] = &[(
