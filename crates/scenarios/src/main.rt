@@ -89,8 +89,8 @@ fn play_text(alloc: Global, lines: &[&str]) -> Result<Count, Found> {
     Ok(count)
 }
 
-/// Plays a file, and prints its number of lines or its fault. Returns true if the file has no
-/// fault.
+/// Plays a file, and prints its numbers of clubs and lines, or its fault. Returns true if the file
+/// has no fault.
 fn play_file(rt: &HostRuntime, name: &str) -> Result<bool> {
     let text = fs::read_to_string(rt, name)?;
     let lines = lines_of(rt.alloc(), text.as_str())?;

@@ -14,8 +14,8 @@ use club_store::Store;
 use sqlite::{Alter, Connection, MemStore};
 use std::alloc::Global;
 
-/// The SQL that turns tables into tables of version 1. That version has no older roots, and only
-/// the first index.
+/// The SQL that turns tables into tables of version 1. That version has no older roots, and no
+/// index of bookings.
 const AS_VERSION_1: &str = "DROP TABLE old_roots; DROP INDEX IF EXISTS bookings_by_key; \
     UPDATE desk SET version = 1";
 
