@@ -295,7 +295,7 @@ def leaves_out_what_the_pass_denies(page, passes):
     words = page.run("return [...byName('to-come').querySelectorAll('.booked button')].map((each) => each.textContent)")
     check(words and not {"Cancel", "Change"} & set(words), "a pass without cancel shows no button to cancel", words)
     limits = page.run("byName('to-account').click(); return [...document.querySelectorAll('#pass-limits li span')].map((each) => each.textContent)")
-    check(limits == ["The holder may only look at slots or book.", "Only slots that begin at 10:00 or later and before 12:00.", "Only bookings with at most 1 guest."],
+    check(limits == ["The holder may only look at slots or book.", "Only slots that begin at 10:00 or later, but before 12:00.", "Only bookings with at most 1 guest."],
           "what a pass allows", limits)
     page.enter(narrowed(whole, "actions = view"))
     check(page.run("return [...cells.values()].every((cell) => cell.button.disabled)"), "a pass that looks books nothing")

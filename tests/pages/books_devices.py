@@ -92,7 +92,7 @@ def devices(passes, front, server):
             page.when(f"shownText('lost-news').includes('{words}')", "a booking by its number")
         check(amounts("amy-phone") == before, "the question changes nothing")
         page.view("bookings")
-        page.when("byName('to-come').innerText.includes('Noted by its number')", "in the list")
+        page.when("byName('to-come').innerText.includes('You noted this booking by its number')", "in the list")
         page.cancelled_in_the_list("a cancellation by number and slot")
         check(amounts("amy-phone")[number][-2] == 1, "it is cancelled")
     print("the record goes to other browsers by text, by QR code and from the office; number and slot suffice to cancel")

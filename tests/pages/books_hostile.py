@@ -37,7 +37,7 @@ def lists_send_nothing(page, passes, server):
         check(not unasked(server, before), "what a list sent by itself", unasked(server, before))
     page.when("byName('to-come').innerText.includes('fewer persons than the list shows')", "what the list names is looked up")
     text = page.run("return byName('to-come').innerText")
-    has(text, "what a list says", "According to an imported list: booking requested, but not answered yet", "According to an imported list: cancellation requested", "According to an imported list: cancelled, 601 points came back",
+    has(text, "what a list says", "According to an imported list: booking requested, but no answer yet", "According to an imported list: cancellation requested", "According to an imported list: cancelled, 601 points came back",
         "An imported list shows this booking as cancelled.")
     own_card = page.run("return [...byName('to-come').children].find((each) => each.innerText.includes(arguments[0])).innerText", f"Number {own['number']}")
     check("Booked" in own_card and "According to an imported list" not in own_card and "may have" not in own_card, "a list can't show a standing booking as cancelled", own_card)

@@ -52,7 +52,7 @@ SENTENCES = {
     "facility = court-1": "Only court-1.",
     "facility = court-1,court-1": "Only court-1.",
     "facility = court-1,court-2,room-1": "Only court-1, court-2 or room-1.",
-    "hours = 18-20": "Only slots that begin at 18:00 or later and before 20:00.",
+    "hours = 18-20": "Only slots that begin at 18:00 or later, but before 20:00.",
     "days = 2026-05-01..2026-05-31": "Only from Friday 1 May 2026 to Sunday 31 May 2026, including both days.",
     "days = 2024-02-29..2024-02-29": "Only on Thursday 29 February 2024.",
     "until < 2026-05-01T18:00": "Until Friday 1 May 2026, 18:00.",
@@ -142,7 +142,7 @@ def notes_say_what_matters(page):
     check("name that the desk can look up" in stranger["shown"], "a stranger's pass", stranger)
     check(stranger["facts"]["Identifier"] == "we used our secret key", "whose a stranger's pass is", stranger)
     text = page.run("return document.body.innerText")
-    for words in ["Every booking ever made with your pass, or with a pass narrowed from it", "narrow a spare pass or a separate pass",
+    for words in ["Every booking ever made with your pass, or with a pass narrowed from it", "narrow a spare pass or another pass from the office",
                   "can also cancel bookings made with your pass", "Days and times are in the club's time zone"]:
         check(words in re.sub(r"\s+", " ", text), "the page doesn't say", words)
     print(f"{len(NOTES)} passes come with what matters of them")
