@@ -183,7 +183,7 @@ TEXTS = {
         "nimmt Pässe von {key} aus der Zeit vor dem Wechsel wieder an, spätere nicht mehr",
     ),
     "revoked again": ("refuses the passes of {key}: the key is revoked again", "lehnt die Pässe von {key} ab: er ist wieder widerrufen"),
-    "revoked now": ("accepts the passes of the key {key} again: at present the key is revoked", "nimmt die Pässe von {key} wieder an, der jetzt widerrufen ist"),
+    "revoked now": ("accepts the passes of {key} again: the key is no longer revoked", "nimmt die Pässe von {key} wieder an, der jetzt widerrufen ist"),
     "loses": (
         "loses the booking {slot}, {persons}, {points} points: {key} {number}, {member}",
         "verliert {slot}, {persons}, {points} Punkte: {key} {number}, {member}",
@@ -241,7 +241,7 @@ TEXTS = {
         "credits {members} members with {points} points each, {total} in all, as {label}; members with quota 0 get no points",
         "schreibt {members} Mitgliedern je {points} Punkte gut, zusammen {total}, als {label}; wer nichts buchen darf, bekommt nichts",
     ),
-    "points lost": ("the points of {label} are no longer credited: credit-all credits these points again", "{label} ist nicht mehr gutgeschrieben: credit-all schreibt es wieder gut"),
+    "points lost": ("the restore removed the credit {label}: to give it again, use credit-all", "{label} ist nicht mehr gutgeschrieben: credit-all schreibt es wieder gut"),
     "credited before": ("{count} members already have these points", "{count} haben sie schon"),
     "credited": ("{count} members credited with {points} points, as {label}", "{count} Mitgliedern {points} Punkte gutgeschrieben, als {label}"),
     # Undo.
@@ -265,7 +265,7 @@ TEXTS = {
         "Öffne die Kamera deines Handys und halte sie auf den QR-Code, oder öffne den Link darunter.",
     ),
     "letter step 2": (
-        "The page asks whether this browser should keep the pass. On your own device, press “Keep it”.",
+        "The page asks whether your browser should keep the pass. On your own device, press “Keep it”.",
         "Die Seite fragt, ob dieser Browser den Pass speichern soll. Auf deinem eigenen Gerät: Drück auf „Speichern“.",
     ),
     "letter step 3": ("Choose the day, press a free slot, and book.", "Wähle den Tag, tippe auf eine freie Zeit und buche."),

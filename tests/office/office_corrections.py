@@ -188,7 +188,7 @@ def restores(server):
     same("the copies", {",".join(line.split(",")[:2]) for line in lines("copies", "--csv")} >= {"copy,is", f"{night},back-up"}, True)
     shown = [
         "removes the member dora", f"balance of amy changes from {balance + 250} to {balance}", "removes the key dora-1: its passes are refused",
-        "accepts the passes that amy-3 had before its rotation, and refuses the later passes of amy-3", "accepts the passes of the key amy-5 again: at present the key is revoked",
+        "accepts the passes that amy-3 had before its rotation, and refuses the later passes of amy-3", "accepts the passes of amy-5 again: the key is no longer revoked",
         "changes the facility boat-1 back to its earlier state", f"opens court-2 {DAY} 11:00 again", f"loses the booking court-2 {DAY} 09:00, 1 person, 200 points: amy-6 63, amy",
         f"books court-2 {DAY} 19:00 again, 2 persons, 400 points: amy-6 61, amy", "in all: 9 changes",
     ]

@@ -192,7 +192,7 @@ def season(pages, day):
     refused(["credit-all", "500", "--as", "season-2027", "--yes"], 1, f"refused: season-2027 was given already: 500 points to each of {count} members")
     refused(["credit-all", "7", "--as", "season-2027", "--yes"], 1, "refused: season-2027 was given already")
     shown = done("restore", copy, "--yes").splitlines()
-    same("a restore of before them", shown[-1], "the points of season-2027 are no longer credited: credit-all credits these points again")
+    same("a restore of before them", shown[-1], "the restore removed the credit season-2027: to give it again, use credit-all")
     same("also of a quota", [it for it in shown if it.startswith("quota")], ["quota of oez-ali changes from 9 to 5"])
     same("nobody has them", dict(rows("SELECT name, credited FROM members")), before)
     same("points for all, again", done("credit-all", "500", "--as", "season-2027", "--yes"), out)
