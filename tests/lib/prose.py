@@ -160,7 +160,7 @@ def paragraphs(path, text):
         return [[(number, it)] for number, line in lines for it in re.findall(r'(?:: |\[|, )"((?:[^"\\]|\\.)*)"', line)]
     if re.fullmatch(r"man/.*\.[1-8]", name):
         return [it for run in runs(lines, r"([^.'].*)") for it in of_markdown(run)]
-    comments = [(number, line) for number, line in lines if not re.match(r"#!|# (shellcheck|groups:|wants:|minutes:)", line.strip())]
+    comments = [(number, line) for number, line in lines if not re.match(r"#!|# (shellcheck|pytestmark)", line.strip())]
     if "python" in first or name.endswith(".py"):
         return of_python(text, lines) + of_comments(comments, r"\s*#+ ?(.*)")
     if first.startswith("#!") or name.startswith("deploy/") or name.endswith((".sh", ".bats", ".conf")):
