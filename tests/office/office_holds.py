@@ -7,7 +7,7 @@ commands. The test needs root, because it covers the machine's folders with temp
 
 The test runs deploy/office as a clerk without root, under the rules of deploy/office.sudoers. The test's own
 small service manager runs the server. The test has these parts:
-- office_orders.py: commands and lists, compared with the desk's replies; passes in files; the book in a file and in the journal
+- office_orders.py: commands and lists, compared with the desk's replies; passes in files; the log of commands (the book), in a file and in the journal
 - office_corrections.py: corrections, compared with show-account, the day sheet and the totals; restores, even over a damaged file
 - office_season.py: a season's points, closures and letters, members' full names, undo, and the files of old years
 - office_findings.py: forged lines, a clerk's own programs, a stopped terminal, a journal that reads nothing, full memory, and a full disk

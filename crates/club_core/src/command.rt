@@ -65,8 +65,8 @@ pub enum Command {
         root: Root,
         until: Moment,
     },
-    /// Cancels a key's booking, even after its slot has begun, and refunds the whole charge. A
-    /// booking that is already cancelled doesn't change. The key may be revoked.
+    /// Cancels a key's booking, even after its slot has begun or if the key is revoked, and refunds
+    /// the whole charge. A booking that is already cancelled doesn't change.
     CancelBooking {
         key: Name,
         number: BookingNumber,
