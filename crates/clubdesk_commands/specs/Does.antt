@@ -45,8 +45,8 @@ answer_of_desk (Ok text) = Ok (string_bytes text)
 answer_of_desk (Err fault) = Err (fault_of_desk fault)
 
 module _ {S : Type 0} (Clean : S → Type 0) (Represents : S → Club → List Club → Type 0) where
-  -- The desk received a command and replied. The answer is this text, or a fault if the desk
-  -- replied with a fault.
+  -- The desk received a command and sent a reply. The answer is `text`, or a fault if the reply is
+  -- a fault.
   pub record IsGiven (command : Command) (text : List ℕ) (answer : Result (List ℕ) Fault) (old new : S) : Type 0 where
     pub reply : OfficeReply
     pub was_clean : Clean new → Clean old
