@@ -13,7 +13,7 @@ BOOKABLE_DAYS = 60
 
 
 class Back(Exception):
-    """The clerk left a question."""
+    """The clerk cancelled a question."""
 
 
 def is_terminal():

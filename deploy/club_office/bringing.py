@@ -54,7 +54,8 @@ class Bringing:
         beside = sorted(it.name for it in self.there if BESIDE.fullmatch(it.name))
         if not beside:
             raise refusal("place without conf", place=text)
-        # An older copy usually has no archive of its own, because the place keeps only the newest archive. Then the restore uses that archive.
+        # An older copy usually has no archive of its own, because the place keeps only the newest archive. For such a copy, the restore uses the
+        # newest archive.
         self.files = read_beside(given_by(self.place, f"{self.copy}.tar" if f"{self.copy}.tar" in beside else beside[0], True))
         names = sorted(name.removeprefix("conf/").removesuffix(".conf") for name in self.files if re.fullmatch(r"conf/[a-z0-9][a-z0-9-]{0,23}\.conf", name))
         if len(names) != 1:

@@ -48,7 +48,7 @@ def correct(club, words, planned, then):
         raise
     print(say("done"), flush=True)
     it.tell_concerned()
-    # The record ends last. If the command is killed earlier, the clerk sees no result and gives the command again.
+    # Marks the record as complete, as the last step. If the command is killed earlier, the clerk sees no result and gives the command again.
     it.record.finish()
     return 0
 

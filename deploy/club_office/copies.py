@@ -38,7 +38,7 @@ def begun_at(process):
 
 
 def clear_killed(home):
-    """Removes the folders that ended processes of this user left behind. The name of each folder contains the number and the start time of its
+    """Removes this user's temporary folders whose processes have ended. The name of each folder contains the number and the start time of its
     process."""
     for stale in glob.glob(os.path.join(glob.escape(home), ".office-*")):
         owner = re.match(r"\.office-([0-9]+)-([0-9]+)-", os.path.basename(stale))

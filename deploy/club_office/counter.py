@@ -78,8 +78,8 @@ def make_pass(club, words):
 
 
 def lost_files(words):
-    """For lost-pass, returns the files that contain the lost pass. Checks the file of --to, and the file where letters look for the pass. For other
-    commands, returns no files."""
+    """For lost-pass, returns the files that contain the lost pass. Checks the file of --to, and the file where the command `letters` looks for the
+    pass. For other commands, returns no files."""
     found = []
     for path in (words.to, os.path.join(PASSES, words.key)) if words.command == "lost-pass" else ():
         with contextlib.suppress(OSError, ValueError, TypeError), open(path, encoding="ascii") as file:

@@ -26,7 +26,7 @@ ROOT = re.compile("[0-9a-f]{64}")
 
 
 def read_given():
-    """Reads roots and a person from standard input."""
+    """Reads roots and a person's data from standard input."""
     try:
         given = json.loads(sys.stdin.buffer.read(100_000))
         roots, person = given["roots"], given["person"]
@@ -38,10 +38,11 @@ def read_given():
 
 
 def import_row(club, words):
-    """Imports a row: member, credit, key and person. Adds only those of the four that are missing. Prints the pass of a new key.
+    """Imports a row, which has a member, a credit, a key and the member's personal data. Adds only those of the four that are missing. Prints the
+    pass of a new key.
 
-    Standard input has the person, and the roots that this import generated for the key. The newest root comes last. If the key already has one of
-    these roots, this import made the key, and nobody has a pass of the key yet. Then the key gets the newest root.
+    Standard input has the personal data, and the roots that this import generated for the key. The newest root comes last. If the key already has one
+    of these roots, this import made the key, and nobody has a pass of the key yet. In this case, the key gets the newest root.
     """
     roots, person = read_given()
     passes = []

@@ -37,8 +37,8 @@ def code_of(link):
 
 
 def half(club, spares):
-    """Returns the half of a sheet that a member cuts off. Its link brings the spare passes for lending into the member's browser. The member opens
-    the link once."""
+    """Returns the half of a sheet that a member cuts off. The link on this half brings the spare passes for lending into the member's browser. The
+    member opens the link once."""
     link = f"{club.site}/book.html#spare={';'.join(spares)}"
     return f"""<div class="half"><h2>{html.escape(say("letter lend title"))}</h2><p>{html.escape(say("letter lend"))}</p>
 {code_of(link)}
@@ -93,7 +93,8 @@ def refuse_old(club, folder, texts):
 
 
 def spares_of(club, names, texts):
-    """Removes the spare passes from `texts`, and returns each member's spare passes. They go on the second half of the member's first sheet."""
+    """Removes the spare passes from `texts`, and returns each member's spare passes. These spare passes go on the second half of the member's first
+    sheet."""
     found = {}
     for key in list(texts):
         member = names.keys[key].member

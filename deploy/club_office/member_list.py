@@ -79,7 +79,7 @@ def cells_of(text):
 
 
 def lacking(path):
-    """Returns which of the columns quota and points are missing. Returns an empty list if the list has another fault."""
+    """Returns which of the columns quota and points are missing. Returns neither column if the member list has another fault."""
     with contextlib.suppress(Fault, csv.Error):
         columns = columns_of(path, next(cells_of(text_of(path)[0])[1], []), None)
         return [it for it in ("quota", "points") if it not in columns]

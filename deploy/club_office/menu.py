@@ -112,8 +112,8 @@ def new_member_words(office):
 
 
 def key_words(office, member, spares=()):
-    """Returns the commands for a member's new key. The first command writes the key's pass to the file where letters look for it. If letters are
-    possible, a second command writes a letter that also has the spare passes."""
+    """Returns the commands for a member's new key. The first command writes the key's pass to the file where the command `letters` looks for it. If
+    letters are possible, a second command writes a letter that also has the spare passes."""
     key = free_key(office, member)
     return [["add-key", key, member, "--to", f"{PASSES}/{key}"], *letter_words(office, [key, *spares], f"letter-{key}")]
 
@@ -131,7 +131,7 @@ def new_key_words(office):
 
 
 def lost_words(office):
-    """Returns the commands for a new pass in the file where letters look for it, and for a letter with this pass."""
+    """Returns the commands for a new pass in the file where the command `letters` looks for it, and for a letter with this pass."""
     key = key_of(office)
     return [["lost-pass", key, "--to", f"{PASSES}/{key}"], *letter_words(office, [key], f"letter-{key}-{office.today}")]
 

@@ -1,5 +1,5 @@
-"""Makes a key's bookings in the form that the page reads, the page's list of the club, and the board's page. The desk's side makes all three from a
-copy of the club."""
+"""Makes a list of a key's bookings in the form that the page reads, the page's list of the club, and the board's page. The desk's side makes all
+three from a copy of the club."""
 
 import datetime
 import os

@@ -92,7 +92,7 @@ def is_signed(text, root):
 
 
 def list_old_passes(club, _words):
-    """Reads passes from standard input. Prints the keys that have newer passes."""
+    """Reads a pass for each key from standard input. Prints the keys whose current root didn't sign the given pass."""
     try:
         texts = json.loads(sys.stdin.buffer.read(MOST_BYTES))
     except ValueError:

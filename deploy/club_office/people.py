@@ -60,7 +60,7 @@ def person_of(values):
 
 
 def set_person(club, words):
-    """Reads a member's person from standard input, as JSON, and stores it. The book has only the member's name."""
+    """Reads a member's personal data from standard input, as JSON, and stores the data. The book has only the member's name."""
     wants_file(club)
     try:
         values = json.loads(sys.stdin.buffer.read(10_000))
@@ -88,7 +88,7 @@ def keep_person(club, member, person):
 
 
 def forget_person(club, member):
-    """Removes the person of a leaving member. The caller must have the turn."""
+    """Removes the personal data of a leaving member. The caller must have the turn."""
     people = read_people(club)
     if people.pop(member, None):
         write_people(club, people)

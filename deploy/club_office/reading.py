@@ -88,7 +88,7 @@ def read_day(text, today):
 
 
 def dated(text, today):
-    """As 2026-12-05, 5.12., 5.12.2026, 5 December, or 5. Dezember 2026."""
+    """Parses a date such as 2026-12-05, 5.12., 5.12.2026, 5 December, or 5. Dezember 2026."""
     if re.fullmatch(r"[0-9]{4}-[0-9]{2}-[0-9]{2}", text):
         return datetime.date.fromisoformat(text)
     parts = re.fullmatch(r"([0-9]{1,2})\. ?([0-9]{1,2})\.? ?([0-9]{4}|[0-9]{2})?", text)

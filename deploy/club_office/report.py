@@ -30,7 +30,7 @@ class Use:
     def add(self, db, since, until):
         """Adds the bookings and offered slots of a file, for the days after `since` and up to `until`. Skips days outside the span of this object."""
         least, most = (number_of(max(self.first, since + datetime.timedelta(1))), number_of(min(self.last, until)))
-        # The club's current file is added first, so its facts about a facility stay.
+        # The club's current file is added first, so its facts about a facility take precedence.
         for name, *about in db.execute("SELECT name, kind, opens, shuts FROM facilities ORDER BY rowid"):
             self.facilities.setdefault(name, Facility(*about))
         for facility, day, *rest in db.execute(

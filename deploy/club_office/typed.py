@@ -30,7 +30,7 @@ def names_of(club):
 
 
 def print_names(db, words, _now):
-    """What names_of reads."""
+    """Prints the names that names_of reads."""
     members = db.execute("SELECT name, credited, max(credited - used, 0), quota FROM members ORDER BY name")
     keys = db.execute("SELECT name, member, revoked FROM keys ORDER BY name")
     facilities = db.execute("SELECT name, kind, opens, shuts, places, price FROM facilities ORDER BY rowid")
@@ -94,7 +94,7 @@ class Reader:
         return self.echoed(word, ",".join(dict.fromkeys(named)))
 
     def what(self, word):
-        """A day, a member or a facility."""
+        """Converts a day, a member or a facility."""
         if read_day(word, self.today) and not (word.isalpha() and word in {*self.names.members, *self.names.facilities}):
             return self.day(word)
         return self.one_of(word, lambda: list(dict.fromkeys([*found_members(word, self.names), *found(word, self.names.facilities)])))
