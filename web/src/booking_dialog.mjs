@@ -32,7 +32,8 @@ function closedText(slot) {
   return why === "" ? say("closed") : say("closed-why", { why });
 }
 
-// Makes a note for a booking whose slot is closed. The desk refuses to close a booked slot, so the office must have cancelled the booking before.
+// Makes a note for a booking whose slot is closed. The desk refuses to close a booked slot, so the office must have cancelled the booking before it
+// closed the slot.
 export function closedOwn(slot) {
   return element("p", "note", element("strong", "", closedText(slot)), " ", say("closed-own"));
 }

@@ -34,7 +34,7 @@ export function showBookings(whenDone) {
 
 // The page compares the points of the listed bookings with the spent points that the desk reports. A difference shows that the
 // list is incomplete or outdated.
-// The numbers of bookings that may have been cancelled elsewhere.
+// The booking numbers of the bookings that may have been cancelled elsewhere.
 let doubtful = new Set();
 
 function showComparison(own, moment) {
@@ -81,7 +81,7 @@ function stateText(entry) {
   return now === "listed" ? listedText(entry) : say("state-booked");
 }
 
-// Returns the text about a booking whose state is only a list's claim.
+// Returns the text about a booking whose state the page knows only from a list.
 function listedText({ guests, listed }) {
   if (listed.refund !== undefined) return say("listed-cancelled", { count: listed.refund });
   if (listed.cancel) return say("listed-cancelling");
@@ -159,8 +159,8 @@ function noteSlot(name, { taken, closed }) {
 // The number of the latest check of the slots. The page drops the results of older checks.
 let lookRound = 0;
 
-// Requests the slots of the future bookings, as far as the pass allows viewing them. The number of taken places shows whether a slot still includes
-// the persons of its booking.
+// Requests the slots of the future bookings, as far as the pass allows viewing them. The number of taken places shows whether a slot has enough
+// persons for the member's bookings.
 export async function lookAfterBookings(whenDone) {
   const moment = clubMoment();
   if (moment === null || state.pass === null) return;

@@ -11,7 +11,7 @@ export const MOST_PASSES = 20;
 const MOST_LOANS = 50;
 const MOST_NOTED = 2000;
 
-// Loans that the browser couldn't store. The page knows them until the member leaves it.
+// Loans that the browser couldn't store. The page knows these loans until the member leaves the page.
 let loansOfPage = [];
 
 function storageOf(forGood) {
@@ -40,7 +40,7 @@ function drop(forGood, name) {
   try {
     storageOf(forGood).removeItem(placeName(name));
   } catch {
-    // The browser had stored nothing.
+    // If the browser refuses access to its storage, it has stored nothing.
   }
 }
 

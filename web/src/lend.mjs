@@ -1,4 +1,4 @@
-// Loans: the lines that narrow a pass, the end of a pass, and the free spare passes.
+// Functions for loans. They return the lines that narrow a pass, the end of a pass, and the free spare passes.
 import { readCaveat } from "./caveats.mjs";
 import { daysLater } from "./dates.mjs";
 import { keyName, readPass } from "./pass.mjs";

@@ -12,7 +12,7 @@ import { say } from "./words.mjs";
 
 let isAsked = false; // whether the pass came in a link and the member hasn't decided yet whether to keep it
 let isEntering = false; // whether the field for another pass is shown
-// Maps the text of each pass that this page has used to the pass's name.
+// The names of the passes that this page has used, by the text of the pass.
 const used = new Map();
 let keepTrouble = ""; // the key of the text that says why the pass in use couldn't be kept
 let page = {}; // the page's functions begin() and show()

@@ -2,7 +2,7 @@
 //
 // - key, number, facility, day, hour: the identity of the booking at the desk.
 // - guests: the number of guests, or null if the browser knows only the booking's number and slot.
-// - book: the reply to the PUT of the booking, or null before the reply. An entry with `listed` has an empty object.
+// - book: the reply to the PUT of the booking, or null before the reply. In an entry with `listed`, `book` is an empty object.
 // - cancel: the reply to the DELETE of the booking, null before the reply, or undefined without a DELETE.
 // - unsure: whether the desk may have carried out a request of this entry although no reply came.
 // - asked: the time when the entry was made, in milliseconds.
@@ -149,8 +149,8 @@ export function isTooFarAhead(slot, moment) {
   return minutesOf(startOf(slot)) > minutesOf(moment) + DAYS_AHEAD * 1440;
 }
 
-// Returns an object with the charge and the places left of an entry. The object is the desk's reply if it has a charge, otherwise the claims of a
-// list.
+// Returns an object with the charge of an entry, and with the number of places left. The object is the desk's reply if it has a charge, otherwise the
+// claims of a list.
 export function amountsOf(entry) {
   return entry.book?.charge === undefined ? entry.listed ?? {} : entry.book;
 }

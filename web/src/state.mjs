@@ -10,7 +10,7 @@ export const state = {
   // The pass in use. `text` is the text to send, and `key` is the name of the pass's key.
   pass: null,
   text: "",
-  // The text of the pass, with `base`: the points that its key spent before the loan.
+  // `given` is `text` together with `base`. `base` is the number of points that the pass's key had spent before a loan, or 0.
   given: "",
   base: 0,
   key: null,
@@ -52,8 +52,8 @@ export function denial(action, slot, more = {}) {
   return firstDenial(state.pass, { action, moment: clubMoment() ?? "2000-01-01T00:00", slot: place, spent: spentOfKey(), ...more });
 }
 
-// Returns the points that the key has spent, as the desk reported them with the account. Without this report, the function returns the points that
-// came with the pass plus the points of bookings in this browser.
+// Returns the points that the key has spent, as the desk reported them with the account. Without this report, the function returns `state.base` plus
+// the points of the key's bookings in this browser.
 export function spentOfKey() {
   return state.account?.spent ?? ownEntries().reduce((sum, entry) => sum + (isLost(entry) ? 0 : costOf(entry)), state.base);
 }
