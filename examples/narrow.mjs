@@ -26,7 +26,8 @@ async function hmac(key, data) {
   return new Uint8Array(await subtle.sign("HMAC", signer, data));
 }
 
-// Returns the pass with the new caveats. The key that signs a caveat is the signature before that caveat.
+// Returns the pass with the new caveats. The key that signs a caveat is the signature that the pass had before the
+// caveat was added.
 export async function narrow(text, caveats) {
   const raw = unbase64(text);
   if (raw[0] !== 0x02 || String(raw.subarray(-35, -32)) !== String(END)) {

@@ -20,7 +20,8 @@ def varint(number):
 
 
 def narrow(text, caveats):
-    """Returns the pass with the new caveats. The key that signs a caveat is the signature before that caveat."""
+    """Returns the pass with the new caveats. The key that signs a caveat is the signature that the pass had before the
+    caveat was added."""
     raw = urlsafe_b64decode(text + "=" * (-len(text) % 4))
     if raw[:1] != b"\x02" or raw[-35:-32] != END:
         raise ValueError("not a pass in V2")

@@ -201,7 +201,8 @@ def test_file_that_becomes_a_club(clubdesk, tmp_path, before):
 
 @pytest.mark.parametrize("change", ["DROP TABLE old_roots; DROP INDEX bookings_by_key; UPDATE desk SET version = 1", "DROP INDEX bookings_by_key"])
 def test_file_of_before_is_migrated(club, change):
-    """After the migration, the rows and the schema are the same as before, and no key has an older root."""
+    """The test changes the file to an older format. After the migration, the rows and the schema are the same as before this change, and no key has
+    an older root."""
     schema = sql(club, "SELECT type, name, sql FROM sqlite_schema")
     sql(club, change)
     club.play(FIRST)

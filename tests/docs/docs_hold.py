@@ -205,8 +205,9 @@ def test_tour():
 
 
 def test_audit_is_made_of_the_sources():
-    """docs/AUDIT.md is exactly the output of tests/audit.py. If a function carries a promise, none of the function's clauses depends
-    on a definition of specs/computed/. In the second part of docs/TOUR.md, each step of a path cites the next step."""
+    """docs/AUDIT.md is exactly the output of tests/audit.py. The clauses of a function that states a promise depend on a definition of
+    specs/computed/ only if docs/PROMISES.md names it, or if a named definition depends on it. In the second part of docs/TOUR.md, each step of a path
+    cites the next step."""
     subprocess.run(["tests/audit.py", "--strict"], check=True, stdout=subprocess.DEVNULL)
 
 

@@ -1,5 +1,5 @@
 #!/usr/bin/env -S /usr/bin/python3 -B -m pytest -q -p no:cacheprovider
-"""`tests/lint.py` finds foreign English, faulty subjects of commits and misspelt words, and finds nothing in plain text.
+"""`tests/lint.py` finds foreign English, faulty subjects of commits and misspelt words, and finds nothing in plain English.
 
 tests/lint.py checks the English only of added lines, and ignores code. With the same seed, `tests/docs/sentences.py` always draws the same
 sentences.

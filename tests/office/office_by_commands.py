@@ -265,7 +265,7 @@ def rows_of_copy(command, sql):
 
 def outlives_its_order(correction, programs):
     """If the test kills a correction, but not the clubdesk process that the correction started, this process continues. The next correction waits
-    until that process ends."""
+    until the clubdesk process ends."""
     words, wanted = correction.next()
     order = stopped(f"{programs} late", [*words, "--yes"])
     for it in psutil.Process(order.pid).children(recursive=True):

@@ -100,8 +100,8 @@ def member_leaves(server, bob):
 
 
 def breaks_no_total(server):
-    """The test increases a booking's guests in the club's file, so that the booking takes more places than its slot records. The office refuses to
-    cancel the booking."""
+    """The test increases a booking's guests in the club's file, so that the slot's row counts fewer taken places than the booking needs. The office
+    refuses to cancel the booking."""
     text = done("add-key", "amy-4", "amy").strip()
     book(server, text, "court-2", 20, 5, 1)
     by_hand("UPDATE bookings SET guests = 3 WHERE pass_key = 'amy-4'")

@@ -258,8 +258,8 @@ def page_that_came_since():
 
 
 def clubs_beside():
-    """The office keeps files such as other-book next to the file of the club other. If such a name is already the file of a second club, the office
-    refuses commands for other. The second club's file stays unchanged."""
+    """For a club with the name `other`, the office makes files such as other-book next to the club's file. If a second club already has its own file
+    under such a name, the office refuses commands for the club `other`. The second club's file stays unchanged."""
     for ending in ("before", "book", "metrics", "new", "office", "offsite", "orders", "people.csv", "reasons", "seasons", "undo", "until-2026-12-31", "wal"):
         file, configuration = HOME / f"other-{ending}", Path(f"/etc/clubdesk/other-{ending}.conf")
         file.write_bytes(b"another club")

@@ -122,8 +122,8 @@ def for_hours(day):
 
 
 def in_use_of_persons(server, lines_of, day):
-    """Lists contain full names. After a correction, the office prints the full names of the members who must be told. The book, the log and the
-    copies contain no full name."""
+    """Lists contain full names. After a correction, the office prints the full names of the members whom the clerk must tell about it. The book, the
+    log and the copies contain no full name."""
     same("members", lines("members", "--csv")[1:], [
         'moeller-kaethe,800,5,1,2,"Möller, Käthe"', 'oez-ali,1000,5,0,2,"Öz, =Ali"', 'ray-bob,1000,5,0,1,"Ray, Bob"'])
     same("the file", mode(HOME / "club-people.csv"), "clubdesk 100600")

@@ -48,7 +48,7 @@ cp -a first second
 cp -a first elsewhere
 for name in first second elsewhere; do echo "$name" >"$name/etc/hostname"; done
 
-# The machine named elsewhere keeps the copies. It has an ssh server, and a user with a home folder.
+# The machine with the name `elsewhere` stores the copies. It has an ssh server, and a user with a home folder.
 offline elsewhere sh -c 'apt-get install openssh-server sqlite3 && useradd --create-home --shell /bin/sh --password "*" backup-of-clubs' >apt.log 2>&1 </dev/null || fail "apt-get: $(tail apt.log)"
 there=$work/elsewhere/home/backup-of-clubs
 install -d -m 700 -o "$(stat -c %u "$there")" -g "$(stat -c %g "$there")" "$there/.ssh"

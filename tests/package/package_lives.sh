@@ -389,7 +389,7 @@ same 'the clubs' 'clubdesk clubdesk' "$(inside stat -c %U /var/lib/clubdesk/club
 inside sh -c 'cp /var/lib/clubdesk/club /root/purged; cp /var/lib/clubdesk/club-wal /root/purged-wal 2>/dev/null || :'
 same 'bookings after the purge' $((acknowledged + 1)) "$(inside sqlite3 /root/purged 'SELECT count(*) FROM bookings')"
 
-# ---- The archive for systems without dpkg, with the club that the purge left.
+# ---- The archive for systems without dpkg, with the club that remained after the purge.
 holds 'what unpacks it' inside apt-get install xz-utils
 blocks Install | grep -vE '^(bin/package|cd packages|apt install)' | sed 's,packages/,/root/,' | gives 'the archive'
 same 'the programs of the archive' "$(cd unpacked/usr/bin && sha256sum clubdesk passtool)" "$(inside sh -c 'cd /usr/local/bin && sha256sum clubdesk passtool')"

@@ -63,7 +63,7 @@ refused() {
 }
 echo old >local/bin/clubdesk
 chmod 755 "$work" local
-# The user nobody may be unable to read the repository, so the test copies the script bin/install.
+# The user `nobody` perhaps can't read the repository, so the test copies the script bin/install.
 cp "$top/bin/install" installing
 refused 'no leave to write' runuser -u nobody -- sh "$work/installing" "$work/local"
 refused 'no folder to make' runuser -u nobody -- sh "$work/installing" "$work/other"

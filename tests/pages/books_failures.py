@@ -117,7 +117,7 @@ def writes_before_it_sends(passes, front):
 
 
 def lists_what_is_past(passes, front):
-    """The page lists past bookings separately, newest first. The member can only remove past bookings from the list."""
+    """The page lists past bookings separately, newest first. For a past booking, the page offers only to remove the booking from the list."""
     with BookingPage(front) as page:
         page.enter(passes["amy-phone"])
         page.view("account")

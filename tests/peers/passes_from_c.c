@@ -207,7 +207,7 @@ static void narrows(void) {
 
 static void asks(void) {
     clubpass pass = CLUBPASS_INIT, other = CLUBPASS_INIT;
-    /* 2026-05-01 18:00 is minute 29,627,640, and 2026-05-02 day 20,575 */
+    /* 2026-05-01 18:00 is minute 29,627,640, and 2026-05-02 is day 20,575 */
     clubpass_ask ask = {.owed = 200, .action = CLUBPASS_BOOK, .kind = CLUBPASS_COURT, .moment = 29627639, .day = 20575, .hour = 18, .facility_len = 7, .facility = "court-1"};
     size_t number = 9;
     HOLDS(read_text(TEXT, &pass) == CLUBPASS_OK && clubpass_first_fault(&pass, &ask, &number) == CLUBPASS_OK && number == 0);

@@ -294,7 +294,7 @@ class Libmacaroons:
         self.fault = ctypes.c_int()
 
     def call(self, name, *arguments):
-        """Calls a function. Passes a bytes object as an address and a length, and any other value as an address."""
+        """Calls a function of the library. A bytes object becomes two arguments, an address and a length. Any other value becomes an address."""
         passed = []
         for it in arguments:
             passed += [it, ctypes.c_size_t(len(it))] if isinstance(it, bytes) else [ctypes.c_void_p(it)]
