@@ -124,7 +124,7 @@ def lists_what_is_past(passes, front):
         page.when("shownText('account-facts').includes('of 99')", "the account")
         page.view("account")
         has(page.run("return shownText('account')"), "what is said where it bites", "Each person needs a separate pass.", "Each device needs a separate pass.",
-            "as amy-phone, each device keeps", "Lost your phone?", "Forget the pass")
+            "as amy-phone, keeps its own list", "Lost your phone?", "Forget the pass")
         page.run("byName('import-text').value = arguments[0]; byName('import').requestSubmit()", "record of amy-phone\n"
                  f"5 court-1 {day(-3)} 10 guests 1 charge 400 left 2\n6 boat-1 {day(-2)} 09 guests 0 charge 150 left 1 refund 75\n")
         page.when("shownText('import-news').includes('2 bookings')", "a record of past bookings")
