@@ -24,7 +24,7 @@ ROOT = Path(__file__).resolve().parents[2]
 KINDS = {
     "code": re.compile(r"crates/[^/]+/(src|specs|proofs)/.*\.(rt|antt)|(tests|bin|deploy)/.*|web/src/.*\.mjs|examples/.*"),
     "pages": re.compile(r"(README|CONTRIBUTING|CHANGELOG|SECURITY)\.md|docs/.*\.md|crates/[^/]+/README\.md"),
-    "help": re.compile(r"crates/(clubdesk_arguments|passtool_commands)/src/table\.rt|man/.*|deploy/club_office/texts\.py|web/src/words/en\.json"),
+    "help": re.compile(r"crates/(clubdesk_arguments|passtool_commands)/src/table\.rt|man/.*|deploy/club_office/(texts|refusals)\.py|web/src/words/en\.json"),
 }
 LEAST_WORDS = 5  # a shorter one is a name or a label
 MOST_LINES = 6  # of the context, before and after the sentence's first line

@@ -133,7 +133,7 @@ def of_help(lines):
 
 def of_texts(text):
     """Returns the English texts of the office. In the table of texts, the first text of each pair is English."""
-    pairs = [it.value for it in ast.parse(text).body if isinstance(it, ast.Assign) and getattr(it.targets[0], "id", "") == "TEXTS"]
+    pairs = [it.value for it in ast.parse(text).body if isinstance(it, ast.Assign) and getattr(it.targets[0], "id", "") in ("TEXTS", "REFUSALS")]
     return [[(it.elts[0].lineno, it.elts[0].value)] for pair in pairs for it in pair.values if isinstance(it, ast.Tuple) and isinstance(it.elts[0], ast.Constant)]
 
 
@@ -148,7 +148,7 @@ def paragraphs(path, text):
         return of_markdown(lines)
     if name.endswith("/src/table.rt"):
         return of_comments(lines, r"\s*//[/!]? ?(.*)") + of_help(lines)
-    if name.endswith("club_office/texts.py"):
+    if name.endswith(("club_office/texts.py", "club_office/refusals.py")):
         return of_texts(text)
     if name.endswith(".rt"):
         return of_comments(lines, r"\s*//[/!]? ?(.*)")

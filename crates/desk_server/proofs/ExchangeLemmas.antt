@@ -12,8 +12,8 @@ use Rattle.desk_server.specs.declared.timed.Accepted.{Accepted}
 use Rattle.desk_server.specs.Between as between
 use Rattle.desk_server.proofs.MeanwhileLemmas.{reads_kept}
 
--- What an exchange with a given outcome does to the desk and to the writer. The field `written` has
--- the bytes that the server wrote.
+-- The effect that an exchange with a given outcome has on the desk and on the writer. The field
+-- `written` has the bytes that the server wrote.
 pub record Written {Desk : Type 0} (Answers : AnswerRelation Desk) (bytes : List ℕ) (old new : Desk) (before after : Option (List ℕ))
     (outcome : Result Reply AnswerFault) : Type 0 where
   pub written : List ℕ
