@@ -175,7 +175,7 @@ TEXTS = {
     "forgets member": ("removes the member {name}", "entfernt das Mitglied {name}"),
     "has member": ("brings back the member {name}", "stellt das Mitglied {name} wieder her"),
     "facility as was": ("changes the facility {facility} back to its earlier state", "setzt die Anlage {facility} zurück"),
-    "nothing to come": ("the restore changes nothing, except perhaps past slots", "für die Zeit ab jetzt ändert sich nichts"),
+    "nothing to come": ("the restore changes no member, balance, quota, pass, facility or future slot", "für die Zeit ab jetzt ändert sich nichts"),
     "forgets key": ("removes the key {key}: its passes are refused", "entfernt den Schlüssel {key}: seine Pässe gelten nicht mehr"),
     "has key": ("brings back the key {key} and its passes", "stellt den Schlüssel {key} und seine Pässe wieder her"),
     "rotated back": (
