@@ -54,7 +54,7 @@ def clear_left(club):
 
 
 def homes(club, size=None):
-    """Returns the folders in which a temporary copy of the club, or of a file of this size, can be. If the memory has room, the first folder is in
+    """Returns the folders that can hold a temporary copy of the club, or of a file of this size. If the memory has room, the first folder is in
     memory. The last folder is the folder of the club's file."""
     beside = os.path.dirname(club.file)
     if size is None:

@@ -271,7 +271,7 @@ def with_points(command, most):
 
 # The statuses of a command that Ctrl-C interrupted.
 BROKEN_OFF = (130, -signal.SIGINT)
-# The tasks, in the order in which clerks need them. The last part of each entry is True if the menu asks before it runs the command. The menu asks if
+# The tasks, in a clerk's usual order. The last part of each entry is True if the menu asks before it runs the command. The menu asks if
 # the command changes something and doesn't ask by itself.
 TASKS = [
     Task("group today", "task today", lambda office: [["bookings", str(office.today)]], False),

@@ -15,7 +15,7 @@ from club_office.values import MOST_CREDIT
 TABLES = ("members", "facilities", "keys", "slots", "bookings", "old_roots")
 # The number of key columns in each of these tables. In every other table the first column is the key.
 KEYS = {"slots": 3, "bookings": 2}
-# The tables in which a command can undo a correction, each with the table's columns.
+# The columns of the tables that `undo` can correct with clubdesk's commands.
 COLUMNS = {"members": ("name", "credited", "quota", "used"), "facilities": ("name", "kind", "places", "price", "opens", "shuts")}
 # A clerk can't undo a correction that changes more rows than this. Nor can a clerk undo a new year, which copies the club's file, then changes the
 # original in place.

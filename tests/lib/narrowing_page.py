@@ -25,7 +25,7 @@ PASSES, SPOILED, CAVEATS = 1000, 2000, 2000
 FORMS = list(passes.FORMS)
 FAULTS = {"This text is too long for a pass.": 1, "This text isn't a complete pass.": 2, "This pass has a third-party caveat.": 3,
           "This pass has too many limits.": 4}
-# The names of the page's choices, in the order in which the page adds their caveats.
+# The names of the page's choices. The page adds their caveats in this order.
 CHOICES = ["kind", "facility", "actions", "days", "weekday", "hours", "until", "guests", "spend"]
 AMY = "AgEJY2x1Yi1kZXNrAglrZXk6YW15LTEAAAYgDsU-vMVpq3Ex5_BQk6D5VX6TimC0IfCk7Dn6nv7TIJk"
 draw = random.Random(20260501)

@@ -1,4 +1,4 @@
-// The reasons why the desk refuses a text as a pass, in the order in which the desk checks them. A fault has a kind,
+// The reasons why the desk refuses a text as a pass, in the order of the desk's checks. A fault has a kind,
 // the key of a sentence in the table of words, and values for this sentence. A value may itself be such a key with values.
 
 export const LONGEST_TEXT = 8192; // bytes
