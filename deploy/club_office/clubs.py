@@ -133,7 +133,7 @@ def forget_environment():
     for each in set(os.environ) - set(KEPT):
         del os.environ[each]
     os.environ["PATH"] = PATH
-    os.environ["HOME"] = pwd.getpwuid(os.geteuid()).pw_dir  # programs take what they do from files there, as a mailer does
+    os.environ["HOME"] = pwd.getpwuid(os.geteuid()).pw_dir  # programs such as a mailer read their configuration there
 
 
 def program(variable, called):

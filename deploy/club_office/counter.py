@@ -194,7 +194,7 @@ def written(path, text):
 def write_new(path, text):
     """Writes a complete new file."""
     if not is_named(written(path, text), path):
-        raise FileExistsError(f"there is a file {path} by now")
+        raise FileExistsError(f"a file {path} was created in the meantime")
     synced(os.path.dirname(path) or ".")
 
 

@@ -136,18 +136,18 @@ class Text:
 def text_of(club, counts):
     made = Text(club)
     made.add("info", "gauge", "The version of clubdesk.", ("", {"version": version()}, 1))
-    made.add("requests_total", "counter", "Connections, by the status of the reply; - is one without a whole reply.",
+    made.add("requests_total", "counter", "Connections, by the status of the reply; - means no complete reply.",
              *(("", {"status": status}, number) for status, number in sorted(counts["requests"].items())))
     total = sum(counts["requests"].values())
     buckets = [("_bucket", {"le": f"{most:g}"}, number) for most, number in zip(BUCKETS, counts["buckets"])]
-    made.add("request_seconds", "histogram", "From a connection's beginning to its end.", *buckets, ("_bucket", {"le": "+Inf"}, total), ("_sum", {}, float(counts["seconds"])), ("_count", {}, total))
-    made.add("orders_total", "counter", "Commands of the office, by their status; ? is an interrupted one.",
+    made.add("request_seconds", "histogram", "Time from the beginning of a connection to its end.", *buckets, ("_bucket", {"le": "+Inf"}, total), ("_sum", {}, float(counts["seconds"])), ("_count", {}, total))
+    made.add("orders_total", "counter", "Commands of the office, by their status; ? means interrupted.",
              *(("", {"status": status}, number) for status, number in sorted(counts["orders"].items())))
-    made.add("copy_age_seconds", "gauge", "How old the newest copy is.", *(("", {"place": place}, int(age)) for place, age in ages(club).items()))
+    made.add("copy_age_seconds", "gauge", "Age of the newest copy.", *(("", {"place": place}, int(age)) for place, age in ages(club).items()))
     if club.settings.get("offsite"):
-        made.add("offsite_failing_seconds", "gauge", "For how long the place away from the machine has taken no copy; 0 if it does.", ("", {}, int(failing_seconds(club))))
+        made.add("offsite_failing_seconds", "gauge", "Time since copying to the place OFFSITE began to fail; 0 if it works.", ("", {}, int(failing_seconds(club))))
     sizes = [(it, club.file + end) for it, end in (("club", ""), ("log", "-wal"))]
-    made.add("file_bytes", "gauge", "The size of the club's file, and of the log beside it.", *(("", {"file": it}, os.path.getsize(path)) for it, path in sizes if os.path.exists(path)))
+    made.add("file_bytes", "gauge", "Size of the club's file, and of its write-ahead log.", *(("", {"file": it}, os.path.getsize(path)) for it, path in sizes if os.path.exists(path)))
     return made.text()
 
 

@@ -139,11 +139,11 @@ def copy_now(club, place, state):
         return keep_in_order(club, place, None)
     moment = time.strftime("%Y-%m-%dT%H%M%SZ", time.gmtime()) if is_new else state["copied"].split(" ")[1]
     take(place, f"{moment}.tar", beside, beside_digest, "other")
-    said = [f"{moment}: what lies beside the club"]
+    said = [f"{moment}: the files next to the club"]
     if is_new:
         tested = take(place, moment, data, digest, "club")
         state.update(copied=f"{int(time.time())} {moment} {tested}", sum=digest)
-        said = [f"{moment}: {'tested there' if tested == 'whole' else 'there, with the same sum'}"]
+        said = [f"{moment}: {'tested there' if tested == 'whole' else 'compared there'}"]
     state["beside"] = beside_digest
     return said + keep_in_order(club, place, moment)
 
@@ -184,10 +184,10 @@ def look(club, state, is_first):
         since, _, before = state.get("failing", f"{int(time.time())} ").partition(" ")
         state["failing"] = f"{since} {why}"
         if is_first or why != before:
-            print(f"copy_offsite: {why}; it is tried again", file=sys.stderr, flush=True)
+            print(f"copy_offsite: {why}; the service will try again", file=sys.stderr, flush=True)
         return False
     if state.pop("failing", None):
-        print(f"{where} takes copies again", flush=True)
+        print(f"{where} accepts copies again", flush=True)
     state["of"] = seen
     for it in said:
         print(f"{where}: {it}", flush=True)

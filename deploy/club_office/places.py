@@ -36,12 +36,12 @@ new=.new.$2.$$
 trap 'rm -f "$new"' EXIT
 trap 'exit 1' INT TERM HUP
 cat >"$new"
-[ "$(sha256sum <"$new" | cut -c 1-64)" = "$3" ] || { echo 'what came there is not what was sent' >&2; exit 1; }
+[ "$(sha256sum <"$new" | cut -c 1-64)" = "$3" ] || { echo 'the transferred bytes differ from the sent bytes' >&2; exit 1; }
 how=sum
 if [ "$4" = club ] && command -v sqlite3 >/dev/null; then
     found=$(sqlite3 -bail "file:$new?immutable=1" 'PRAGMA integrity_check; PRAGMA foreign_key_check; SELECT count(*) FROM desk' 2>&1) || :
     [ "$found" = 'ok
-1' ] || { echo "the copy there is no whole club: $found" >&2; exit 1; }
+1' ] || { echo "the transferred copy isn't a complete club: $found" >&2; exit 1; }
     how=whole
 fi
 sync "$new" 2>/dev/null || sync

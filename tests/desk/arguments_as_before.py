@@ -152,7 +152,7 @@ def main(before, now):
         if old != new:
             different += 1
             print(f"{words} with {len(given)} bytes: {old} before, {new} now")
-    print(f"{len(lines)} command lines, {different} answered otherwise")
+    print(f"{len(lines)} command lines, {different} answered differently")
     return 1 if different else 0
 
 

@@ -115,7 +115,7 @@ def test_servers_and_clients_that_are_killed(new_club, tmp_path):
         rows = recorded(tmp_path, port)
     club.does("sheet 2026-05-01")
     assert {row[:2]: row[2:] for row in club.sql("SELECT * FROM bookings")} == rows
-    assert len({row[:3] for row in rows.values()}) == len(rows) > KILLS, "a slot is booked twice, or few are"
+    assert len({row[:3] for row in rows.values()}) == len(rows) > KILLS, "a slot is booked twice, or too few slots are booked"
     by_number = {number: row for (_, number), row in rows.items()}
     lines = [line.split() for line in (tmp_path / "acknowledged").read_text().splitlines(keepends=True) if line.endswith("\n")]
     assert ["again"] in lines

@@ -289,15 +289,15 @@ def run(seed, count, desk, plant=None):
 def main():
     parser = argparse.ArgumentParser(description=__doc__.splitlines()[0])
     parser.add_argument("--seed", type=int, default=1)
-    parser.add_argument("--count", type=int, default=250_000, help="how many requests; the default takes some ten minutes")
-    parser.add_argument("--plant", choices=rules.PLANTS, help="a fault of the reference, which has to be found")
+    parser.add_argument("--count", type=int, default=250_000, help="the number of requests; the default takes about ten minutes")
+    parser.add_argument("--plant", choices=rules.PLANTS, help="plants this fault in the reference; the test must find it")
     parser.add_argument("--self-test", action="store_true", help="plants each fault in turn")
     given = parser.parse_args()
     desk = programs.program("clubdesk")
     if given.self_test:
         return 0 if finds_each_plant(lambda plant: run(given.seed, min(given.count, 20_000), desk, plant)) else 1
     run(given.seed, given.count, desk, given.plant)
-    print(f"{given.count} requests, seed {given.seed}: each reply is the reference's")
+    print(f"{given.count} requests, seed {given.seed}: each reply matches the reference")
     return 0
 
 

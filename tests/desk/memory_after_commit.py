@@ -28,4 +28,4 @@ def test_no_allocation_after_a_commit(club, library, tmp_path, form):
             assert sent > 0, "no commit before the reply"
             assert {name for name, _ in lines[:sent]} == {"sync"}
             assert int(lines[sent][1]) - int(lines[sent - 1][1]) == 0, "allocations after the commit"
-            assert int(lines[sent][1]) > 0, "no allocation was seen"
+            assert int(lines[sent][1]) > 0, "no allocation was counted"

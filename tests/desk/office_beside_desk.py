@@ -68,7 +68,7 @@ class Times(list):
         return found
 
     def show(self, what):
-        print(f"{len(self)} {what}: half of them within {statistics.median(self) * 1000:.1f} ms, the longest {max(self) * 1000:.1f} ms", flush=True)
+        print(f"{len(self)} {what}: median {statistics.median(self) * 1000:.1f} ms, longest {max(self) * 1000:.1f} ms", flush=True)
 
 
 def asked_by(place):
@@ -120,8 +120,8 @@ def beside(club, server, count):
             begun.result()
     requests = Times(bookings + others)
     assert (len(requests), len(bookings), len(commands)) == (5000, 360, count)
-    print(f"{club.file.name}, with {count} orders")
-    for what, found in (("orders", commands), ("bookings", bookings), ("requests", requests)):
+    print(f"{club.file.name}, with {count} commands")
+    for what, found in (("commands", commands), ("bookings", bookings), ("requests", requests)):
         if found:
             found.show(what)
 
@@ -248,7 +248,7 @@ def test_commands_beside_four_clients_of_which_two_dawdle(club):
         for it in begun:
             it.result()
     assert max(commands) <= 0.9
-    commands.show("orders beside four clients, of which one is silent and one sends a byte a second")
+    commands.show("commands next to four clients; one client is silent, and one sends a byte a second")
 
 
 @pytest.mark.parametrize("dawdle", [lambda _: None, DRIP], ids=["silent", "a byte a second"])
@@ -267,7 +267,7 @@ def test_client_that_dawdles_keeps_no_command(club, dawdle):
         assert 3.9 < time.monotonic() - begun < 6
         dawdling.join()
     assert max(commands) <= 0.9
-    commands.show("orders beside a slow client")
+    commands.show("commands next to a slow client")
 
 
 @pytest.mark.parametrize("number", range(1, 21))

@@ -39,7 +39,7 @@ CREDIT = ("clubdesk", "credit", "club", "amy", "1")
 WHOLE = command_bytes(*CREDIT)
 DONE, FAILED, NO_ANSWER = (0, "done\n", ""), (5, "", "storage failed\n"), (8, "", "no answer\n")
 NOTHING = (9, "", "nothing was done\n")
-needs_root = pytest.mark.skipif(os.geteuid() != 0, reason="wants root")
+needs_root = pytest.mark.skipif(os.geteuid() != 0, reason="needs root")
 
 
 @pytest.fixture

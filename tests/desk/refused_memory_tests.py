@@ -52,7 +52,7 @@ def built(crate):
         ran = subprocess.run(["rt", "test", "--jobs", "1"], cwd=desk.ROOT / "crates" / crate, stdin=subprocess.DEVNULL, stdout=subprocess.PIPE,
                              stderr=subprocess.STDOUT, text=True, check=False)
         if ran.returncode:
-            sys.exit("\n".join([*ran.stdout.splitlines()[-20:], f"{crate}: its tests could not be proved and built, or failed"]))
+            sys.exit("\n".join([*ran.stdout.splitlines()[-20:], f"{crate}: its tests couldn't be proved and built, or a test failed"]))
         if not program.exists():
             sys.exit(f"{crate} has no tests")
         os.utime(program, (begun, begun))  # so that a source edited during the build is newer than the program
@@ -86,17 +86,17 @@ def refuse(crate, test, program):
     found = desk.refused_in_turn(run, ROOM.name)
     for number, (status, output) in enumerate(found, 1):
         if status and not ends_without_memory(output):
-            sys.exit(f"status {status}\n{output}{crate} {test}: fails otherwise where allocation {number} is refused")
+            sys.exit(f"status {status}\n{output}{crate} {test}: fails for another reason if allocation {number} is refused")
     if not found:
-        sys.exit(f"{crate} {test}: no allocation was seen")
+        sys.exit(f"{crate} {test}: no allocation was counted")
     ended = sum(status != 0 for status, _ in found)
-    print(f"{crate} {test}: of {len(found)} allocations, refused in turn, {ended} ended the run, each with out of memory", flush=True)
+    print(f"{crate} {test}: refused each of {len(found)} allocations in turn; {ended} runs ended with out of memory", flush=True)
     return len(found)
 
 
 def main(crate=None, *tests):
     if crate and not tests and crate not in TESTS:
-        sys.exit(f"the list has no test of {crate}")
+        sys.exit(f"TESTS has no test of {crate}")
     listed = {crate: " ".join(tests) or TESTS[crate]} if crate else TESTS
     counts = []
     for name, words in listed.items():

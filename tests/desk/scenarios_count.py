@@ -40,23 +40,23 @@ READERS = {
 # The reasons why scenarios can't state the rows of a module. A module's reason also holds for the modules below it.
 STAYS = {
     "club_core_tests/caveats/values": "readers of values: names, days, moments, numbers",
-    "club_core_tests/caveats/allowed": "more points than requests can spend, and calls of their own",
+    "club_core_tests/caveats/allowed": "more points than requests can spend, and direct calls",
     "club_core_tests/rows": "readers of a row's columns",
-    "club_core_tests/answers": "calls of their own: the answer of a command that is done, a key's older root, and what values print",
-    "club_core_tests/decisions": "calls of their own: what a request is to caveats, and a slot that no club has",
-    "club_gate_tests/store": "tables and statements, by their own calls; odd and older databases",
+    "club_core_tests/answers": "direct calls: answers to commands, the texts of values, and the time of an older root",
+    "club_core_tests/decisions": "direct calls: the facts that caveats check, and a state that no club reaches",
+    "club_gate_tests/store": "tables and statements, by direct calls; odd and older databases",
     "club_gate_tests/readings": "counted calls of the store",
-    "club_gate_tests/law": "runs from nothing, by the theorem's calls",
+    "club_gate_tests/law": "lists of events that start with an empty database, by the theorem's calls",
     "club_gate_tests/long": "long runs of events and sheets, in loops",
     "club_gate_tests/refusals": "a store that fails", "club_gate_tests/refused_memory": "refused memory",
     "club_gate_tests/passes": "the names of the forms", "club_gate_tests/values": "moments as numbers",
-    "club_http_tests/heads": "whether what has come is whole", "club_http_tests/bodies": "bytes after a request, in loops",
+    "club_http_tests/heads": "whether the received bytes are complete", "club_http_tests/bodies": "bytes after a request, in loops",
     "club_http_tests/counted": "counted calls of readers and writers", "club_http_tests/server": "sockets, clocks, logs and the door",
-    "club_http_tests/replies": "room after a reply",
-    "end_to_end_tests/failing_ends": "readers and writers that fail, and cut input", "end_to_end_tests/refused_memory": "refused memory",
+    "club_http_tests/replies": "the rest of the buffer after a reply",
+    "end_to_end_tests/failing_ends": "readers and writers that fail, and truncated input", "end_to_end_tests/refused_memory": "refused memory",
     "end_to_end_tests/fixture": "requests after a failure",
     "end_to_end_tests/desk": "the club that the crashes begin with", "end_to_end_tests/tables": "the statements that read the tables",
-    "end_to_end_tests/torn": "ways in which a write is torn",
+    "end_to_end_tests/torn": "ways that a write can be torn",
     "clubdesk_tests": "runs of the program: the door, logs, clocks, odd files, input and refused output",
     "clubdesk_tests/commands": "shapes of arguments",
     "command_line_tests": "arguments of the programs, and passtool's reports", "pass_forms_tests": "readers and writers of passes",
@@ -67,7 +67,7 @@ def reason(module, name):
     parts = module.split("/")
     found = next((STAYS["/".join(parts[:it])] for it in range(len(parts), 0, -1) if "/".join(parts[:it]) in STAYS), None)
     if found is None:
-        raise LookupError(f"{module}: {name} is neither read nor said to stay")
+        raise LookupError(f"{module}: {name} has no reader in READERS and no reason in STAYS")
     return found
 
 
@@ -134,12 +134,12 @@ def main():
         print(f"missing: {module} {name} {number}: {str(fact)[:300]}")
     if given.leaves:
         for (module, name), (size, staying) in count.leaving.items():
-            print(f"{module} {name}: {size} rows" + (f", of which {staying} stay" if staying else ""))
+            print(f"{module} {name}: {size} rows" + (f", {staying} of them stay" if staying else ""))
     if given.stays:
         print(*(f"{number:5} rows stay: {why}" for why, number in sorted(count.staying.items())), sep="\n")
     in_files = sum(len(it) for it in count.said.values())
-    print(f"{count.rows} rows: {sum(count.staying.values())} stay, {count.rows - sum(count.staying.values())} say {len(count.sayable)} facts, "
-          f"of which {len({it[3] for it in count.missing})} are missing; the files say {in_files}, {len(count.said)} of them different")
+    print(f"{count.rows} rows: {sum(count.staying.values())} stay, {count.rows - sum(count.staying.values())} state {len(count.sayable)} facts, "
+          f"{len({it[3] for it in count.missing})} of them missing; the files state {in_files} facts, {len(count.said)} of them different")
     return 1 if count.missing else 0
 
 

@@ -79,7 +79,7 @@ def test_client_of_a_byte_a_second_is_cut_off(patient):
 @pytest.mark.parametrize("data_of, wanted", [
     (lambda place: REQUEST + b"x" * (1 + place * 99_999 // (COUNT - 1)), account().wanted),
     (lambda _: b"GET /account HTTP/1.1\r\nX: " + b"x" * (100_000 - 30) + b"\r\n\r\n", Row().gets(1).wanted)],
-    ids=["bytes behind requests", "heads of 100,000 bytes"])
+    ids=["bytes after requests", "heads of 100,000 bytes"])
 def test_all_is_sent_before_it_is_read(patient, data_of, wanted):
     with patient(COUNT) as server:
         for place in range(COUNT):

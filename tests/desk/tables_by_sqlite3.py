@@ -218,7 +218,7 @@ def refused(club):
     if (status, fault) != (5, "storage failed\n"):
         assert (status, fault) == (0, "")
         asked = [*(it.under(AMY) for it in (view(slot("09")), view(), view(ROOM), ACCOUNT)), ACCOUNT.under(FORGED)]
-        assert UNAVAILABLE in [club.ask(it.data).body for it in asked], "all is told"
+        assert UNAVAILABLE in [club.ask(it.data).body for it in asked], "the desk answers every request"
     assert (club.file.read_bytes(), dump(club)) == before
 
 

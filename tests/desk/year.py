@@ -138,7 +138,7 @@ class Year(Both):
         wanted = self.answer_of(command)
         found = programs.command(self.desk, *self.words_of(command))
         if found != (1, "", "refused: exists\n"):
-            expect(f"order {command} again", found, wanted)
+            expect(f"command {command} again", found, wanted)
         self.hand_out(command[1])
         self.kills += 1
 
@@ -228,14 +228,14 @@ def run(given, desk, plant=None):
         year.begin()
         year.pass_days(given.days, given.requests)
         bookings = sum(map(len, year.club.bookings.values()))
-        print(f"{given.days} days, seed {given.seed}: {bookings} bookings, {year.commands} orders, {year.kills} kills, no difference")
+        print(f"{given.days} days, seed {given.seed}: {bookings} bookings, {year.commands} commands, {year.kills} kills, no difference")
 
 
 def main():
     parser = argparse.ArgumentParser(description=__doc__.splitlines()[0])
     parser.add_argument("--seed", type=int, default=1)
     parser.add_argument("--days", type=int, default=365)
-    parser.add_argument("--requests", type=int, default=240, help="of a day; the default takes some ten minutes")
+    parser.add_argument("--requests", type=int, default=240, help="the number of requests per day; the default takes about ten minutes")
     parser.add_argument("--self-test", action="store_true", help="plants each fault of the reference in turn")
     given = parser.parse_args()
     os.environ.setdefault("TZ", "UTC")

@@ -71,7 +71,7 @@ def start_proxy(upstream, rate=5000, burst=5000):
                      *([("rate=400r/s", f"rate={rate}r/s"), ("rate=200r/s", f"rate={rate}r/s"), ("burst=2000", f"burst={burst}"), ("burst=1000", f"burst={burst}")]
                        if rate else []),
                      ("    listen [::]:443 ssl http2;\n", ""), ("listen 443", f"listen 127.0.0.1:{front}")]:
-        check(old in site, "the stored configuration has no", old)
+        check(old in site, "the repository's configuration has no", old)
         site = site.replace(old, new)
     name = f"{here}/nginx-{front}"
     pathlib.Path(f"{name}.site").write_text(site)
@@ -109,7 +109,7 @@ def printed(*words, given=None):
 def refused(fault, *words, given=None, **variables):
     """Checks that a command ends with status 1, prints no output, and writes a line on standard error that matches `fault`."""
     found = desk.command(*words, text=given, env={**os.environ, **variables})
-    check(found[:2] == (1, "") and re.search(fault, found[2]), "what is refused", words, given, variables, found)
+    check(found[:2] == (1, "") and re.search(fault, found[2]), "a refusal", words, given, variables, found)
 
 
 def office(command, *words):

@@ -67,7 +67,7 @@ class Both:
     def give(self, command):
         """Gives a command to the program and to the reference, and compares the answers."""
         found = programs.command(self.desk, *self.words_of(command))
-        expect(f"order {command}", found, self.answer_of(command))
+        expect(f"command {command}", found, self.answer_of(command))
 
     def ask(self, server, data, moment):
         """Sends a request's bytes to the program and to the reference. Compares the replies, and returns the program's reply."""

@@ -140,14 +140,14 @@ SCENES["repeats"] = [
     CANCEL, BOOK, CANCEL.at(BEGUN), BOOK.at(BEGUN), account(), shown(0),
 ]
 LIMITED = text(AMY, "spend <= 600")
-SCENES["a limit of points"] = [it.under(LIMITED) for it in (
+SCENES["a limit on points"] = [it.under(LIMITED) for it in (
     BOOK, book(8, ONE, slot("19")).gets(12, 1), CANCEL, booked(book(8, ONE, slot("19")), 200, 3))]
 for moment, refund in (("2026-04-30T18:00", 601), ("2026-04-30T18:01", 300), ("2026-05-01T17:59", 300), ("2026-05-01T18:00", None)):
     late = cancel(8, ROOM).at(moment)
     SCENES[f"a cancellation at {moment}"] = [booked(book(8, ONE, ROOM), 601, 0), cancel(9, ROOM).gets(15),
                                              late.gets(21) if refund is None else late.serves(booking="amy-1/8", refund=refund)]
 CHANGED = text(AMY)[:-1] + "g"
-SCENES["what is not verified"] = [
+SCENES["passes that aren't verified"] = [
     *(ACCOUNT.under(it).gets(9) for it in (
         text(key_pass("zed-1")), CHANGED, text(passes.minted(bytes.fromhex(ROOT), b"amy-1")), text(key_pass("amy-1", ROOT + "00")))),
     command("revoke-key amy-1"), ACCOUNT.gets(10), ACCOUNT.under(CHANGED).gets(9)]
@@ -155,11 +155,11 @@ SCENES["what is not verified"] = [
 # Amy gets the same replies in three clubs. In the first club, no other member does anything. In the second club, other members are busy. In the third
 # club, bob has a place in Amy's slot.
 TOLD = [account(9400, 1), CANCEL]
-SCENES["others are absent"] = [BOOK, *TOLD]
+SCENES["others do nothing"] = [BOOK, *TOLD]
 SCENES["others are busy"] = [
     *join("cy", 99, 100_000), command("credit bob 5"), command(f"add-key bob-2 bob {ROOT}", printed=text(key_pass("bob-2")) + "\n"),
     command("revoke-key bob-2"), *(booked(book(day, ONE, slot(day=f"{1 + day:02}"), text(CY)), 200, 3, "cy-1") for day in range(1, 21)), BOOK, *TOLD]
-SCENES["others are there"] = [booked(book(1, ONE, passed=text(BOB)), 200, 3, "bob-1"), booked(book(7, THREE), 600, 0), *TOLD]
+SCENES["others have a place"] = [booked(book(1, ONE, passed=text(BOB)), 200, 3, "bob-1"), booked(book(7, THREE), 600, 0), *TOLD]
 
 SCENES["the day sheet"] = [
     BOOK, booked(book(2, ONE, passed=text(BOB)), 200, 0, "bob-1"), command("sheet 2026-05-01", printed="""Day sheet 2026-05-01
@@ -219,13 +219,13 @@ SCENES["forms"] += [ACCOUNT.under(it).gets(6) for it in (
     *(passes.to_base64(it).decode() for it in (passes.from_base64(EXAMPLE.encode()) + b"x", passes.from_base64(BANK.encode()) + b"x", b"\2\2\x85\0", b"0003")),
     "x", *(BANK[:end] for end in range(1, len(BANK))), "A" * 8192)] + [ACCOUNT.under("A" * 8193).gets(5)]
 
-SCENES["requests that are none"] = [
+SCENES["bad requests"] = [
     Row(raw=b"").gets(1), Row(raw=BOOK.data[:-1]).gets(1), book(7, '{"guests":50}').gets(1), ACCOUNT.under("").gets(4),
     ACCOUNT.under(None).but(fields=("Authorization: Bearer",)).gets(4), ACCOUNT.but(fields=(f"Authorization: Bearer {text(AMY)}",)).gets(4)]
-SCENES["paths that are none"] = [Row("GET", path).gets(2) for path in (
+SCENES["unknown paths"] = [Row("GET", path).gets(2) for path in (
     "/", "/accounts", "/account/", "/account?x=1", "/slots/court-1", slot("9"), slot("24"), slot() + "/", slot() + "/bookings/07",
     slot(facility="Court-1"))]
-SCENES["methods that are none"] = [
+SCENES["methods that the path doesn't allow"] = [
     Row(method, path, passed=passed, body=THREE if method == "PUT" else None).gets(3, allow=allow)
     for path, allow, passed in (("/account", "GET", text(AMY)), (slot(), "GET", None), (slot() + "/bookings/7", "PUT, DELETE", text(AMY)))
     for method in ("GET", "HEAD", "POST", "PUT", "DELETE", "OPTIONS", "PATCH") if method not in allow]

@@ -1,7 +1,7 @@
 # Functions for tests that boot a fresh Debian with systemd-nspawn. The functions make the Debian system, run commands in it, and read root's command
 # lines in docs/RUNNING.md. This file sources serving.sh and checks.sh. Needs root.
 . "$(dirname -- "$0")/../lib/serving.sh"
-[ "$(id -u)" = 0 ] || { echo "$0 wants root, for a fresh Debian" >&2; exit 2; }
+[ "$(id -u)" = 0 ] || { echo "$0 needs root, for a fresh Debian" >&2; exit 2; }
 top=$(CDPATH='' cd -P -- "$here/../.." && pwd)
 PATH=/usr/sbin:/sbin:$PATH
 export CLUBDESK="$desk" PASSTOOL="$tool"

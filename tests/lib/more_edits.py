@@ -78,7 +78,7 @@ def edited_texts(crate, edit):
     for path, old, new in changes_of(edit):
         text = texts[path] if path in texts else (crate / path).read_text(encoding="utf-8")
         if text.count(old) != 1:
-            raise NoVerdict("bad", f"an old text is in {path} {text.count(old)} times")
+            raise NoVerdict("bad", f"an old text occurs {text.count(old)} times in {path}")
         texts[path] = text.replace(old, new)
     return texts
 
@@ -140,7 +140,7 @@ def check(crate):
         return lines, reached[-1].startswith("logic=proved")
     if limit := next(filter(LIMIT.search, lines), None):
         raise NoVerdict("limit", limit)
-    raise NoVerdict("bad", next((line for line in lines if "error" in line), "its check did not end"))
+    raise NoVerdict("bad", next((line for line in lines if "error" in line), "the check did not end"))
 
 
 def faults_in(lines):
@@ -268,7 +268,7 @@ class Trial:
         """Tries an edit alone. Returns the result, and a line with the reason."""
         texts = edited_texts(self.crate, edit)
         if not texts:
-            raise NoVerdict("bad", "it changes nothing")
+            raise NoVerdict("bad", "the edit changes nothing")
         self.put(texts)
         lines, proved = check(self.crate)
         if proved:
@@ -289,7 +289,7 @@ class Trial:
             self.put(fewer)
             lines, proved = check(self.crate)
             if proved:
-                return "proved", "without the answers whose names it took away the crate is proved"
+                return "proved", "the crate is proved without the answers whose names the edit removed"
         if left := open_goal(lines, gone):
             return "goal", left
         return "names", next((line for line in lines if FAULT.match(line)), lines[0])
@@ -328,7 +328,7 @@ def take_libraries(copy, names):
 def try_crate(crate, wanted, counts):
     """Tries the edits of a crate in the scratch copy. If `wanted` names edits, tries only these."""
     if not check(crate)[1]:
-        sys.exit(f"{crate.name}: not proved as it is")
+        sys.exit(f"{crate.name}: not proved without an edit")
     trial = Trial(crate)
     edits = [it for it in edits_of(crate) if not wanted or it.name in wanted]
     for group in groups_of(crate, edits):
@@ -344,7 +344,7 @@ def main(words):
     names = sorted({it.parent.name for place in (FOLDER, FILE) for it in (ROOT / "crates").glob(f"*/{place}")})
     lacking = [name for name in wanted if name not in names]
     if lacking:
-        print(f"{lacking[0]}: no crate that has edits", file=sys.stderr)
+        print(f"{lacking[0]}: not a crate with edits", file=sys.stderr)
         return 2
     counts = Counter()
     with tempfile.TemporaryDirectory(prefix="more-edits-") as folder:

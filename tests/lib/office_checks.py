@@ -54,7 +54,7 @@ def book_lines(*words):
 def changed_meanwhile(words, shown, change):
     """Checks that a command is refused if the club changes after the office has asked the clerk and before the clerk answers."""
     with begun(*words, *AT) as command:
-        same("what is shown", command.stdout.readline(), f"{shown}\n")
+        same("the shown line", command.stdout.readline(), f"{shown}\n")
         change()
         _, errors = command.communicate("y\n")
     same(f"a change before the answer: {words}", (command.returncode, "has changed since" in errors), (1, True))

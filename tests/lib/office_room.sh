@@ -6,7 +6,7 @@
 # folder.
 set -eu
 PATH=/usr/sbin:/sbin:$PATH
-[ "$(id -u)" = 0 ] || { echo "$0 wants root, for other users and folders of its own" >&2; exit 2; }
+[ "$(id -u)" = 0 ] || { echo "$0 needs root, for other users and for temporary overlays" >&2; exit 2; }
 if [ -z "${OFFICE_ROOM-}" ]; then
     OFFICE_ROOM=yes exec unshare --mount ${room_net:+--net} --propagation private sh "$0" "$@"
 fi

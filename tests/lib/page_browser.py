@@ -15,7 +15,7 @@ from selenium.webdriver.common.action_chains import ActionChains
 
 def check(holds, *what):
     if not holds:
-        sys.exit("doesn't hold: " + "\n  ".join(str(each) for each in what))
+        sys.exit("check failed: " + "\n  ".join(str(each) for each in what))
 
 
 class Browser:
@@ -105,13 +105,13 @@ class Browser:
             if properties.get("focusable") or node["role"]["value"] in roles:
                 check(node["name"]["value"].strip(), "no name for a screen reader", *what, node["role"], node.get("description"))
         heard = self.run("return [...document.querySelectorAll('[role=status], [role=alert], [aria-live]')].map((each) => each.id)")
-        check(live <= set(heard), "what a screen reader hears of when it changes", heard)
+        check(live <= set(heard), "elements that announce changes to a screen reader", heard)
         return tree
 
     def is_audited(self, *what):
         """Checks the elements of a page with the script AUDIT, which implements a selection of axe-core's rules."""
         found = self.run(AUDIT)
-        check(not found, "what an audit finds", *what, *found)
+        check(not found, "the audit's findings", *what, *found)
 
     def cuts_nothing_off(self, width, *what):
         """Checks that the page doesn't scroll sideways, and that no text extends beyond the right edge. Texts in elements that may scroll sideways
@@ -130,7 +130,7 @@ class Browser:
         """Checks that the focused element has an outline. A date field needs no outline, because the browser marks a part of the date."""
         outline = self.run("""const style = getComputedStyle(document.activeElement);
             return document.activeElement.type === "date" || [style.outlineStyle, style.outlineWidth];""")
-        check(outline in (True, ["solid", "3px"]), "a focus that can't be seen", *what, self.focused(), outline)
+        check(outline in (True, ["solid", "3px"]), "an invisible focus", *what, self.focused(), outline)
 
     def side_by_side(self, pictures, width, height):
         """Returns a picture that shows several pictures side by side."""
@@ -154,7 +154,7 @@ class Browser:
         messages = [json.loads(entry["message"])["message"] for entry in self.driver.get_log("performance")]
         asked = [each["params"]["request"]["url"] for each in messages if each["method"] == "Network.requestWillBeSent"]
         others = [address for address in asked if not address.startswith((page, "about:", "data:"))]
-        check(any(address.startswith(page) for address in asked) and not others, "the page asks for", others)
+        check(any(address.startswith(page) for address in asked) and not others, "the page requests", others)
         complaints = self.driver.get_log("browser")
         check(not complaints, "the console says", complaints)
 
@@ -177,7 +177,7 @@ def policy_holds(page, more, calls, *links):
     check(not re.search(r'\s(on[a-z]+|style|src|action|srcset)=', outside), "attributes that load or run something")
     check(all(link.startswith("data:") or link in links for link in re.findall('href="([^"]*)"', outside)), "links")
     misplaced = rf"innerHTML|outerHTML|insertAdjacentHTML|document\.write|eval\(|XMLHttpRequest|WebSocket|{calls}"
-    check(not re.search(misplaced, text), "calls that have no place in the page")
+    check(not re.search(misplaced, text), "forbidden calls")
     check(not re.search(r"url\(|@import", text), "styles that load something")
 
 

@@ -217,7 +217,7 @@ def unused_exceptions(root):
     for (file, words), reason in EXCEPTIONS.items():
         text = (root / file).read_text(encoding="utf-8") if (root / file).exists() else ""
         if words not in " ".join(text.split()):
-            yield f"no exception any more: {file}: {words}: {reason}"
+            yield f"unused exception: {file}: {words}: {reason}"
 
 
 def subject_faults(subject, crates):

@@ -185,7 +185,7 @@ def unescaped(text):
     out = bytearray()
     for plain, simple, code, odd in re.findall(r"([^\\]+)|\\([rnt\\])|\\x([0-9a-f]{2})|(\\.?)", text):
         if odd:
-            raise ValueError(f"{odd} is no escape")
+            raise ValueError(f"{odd} isn't an escape")
         out += plain.encode() or ESCAPES.get(simple) or bytes.fromhex(code)
     return bytes(out)
 
@@ -237,7 +237,7 @@ class Reader:
 
     def line(self, line):
         if line.startswith(" "):
-            raise ValueError("a line with spaces before it belongs to none")
+            raise ValueError("an indented line belongs to no other line")
         known = {"club": self.read_club, "root": self.read_root, "text": self.read_text, "at": self.read_at, "bytes": self.read_bytes,
                  "office": self.read_office, "sheet": self.read_sheet, "account": self.read_account, "slot": self.read_slot,
                  "crash": self.read_crash, "reopen": self.read_reopen}
@@ -249,14 +249,14 @@ class Reader:
 
     def none_below(self, below):
         if below:
-            raise ValueError("no lines with spaces before them belong to this one")
+            raise ValueError("this line has no indented lines")
 
     # ---- clubs
 
     def read_club(self, columns, below):
         words = " ".join([*columns[1:], *below])
         if self.crashes:
-            raise ValueError("a crash is followed by what is stopped")
+            raise ValueError("a crash must be followed by a request or a command")
         if words != "again":
             self.club = words
         if self.club is None:
@@ -323,7 +323,7 @@ class Reader:
         self.none_below(below)
         self.moment = caveats.moment_of(" ".join(columns[1:]))
         if self.moment is None:
-            raise ValueError("no moment")
+            raise ValueError("not a moment")
 
     # ---- events
 
@@ -331,7 +331,7 @@ class Reader:
         if not self.scenarios:
             raise ValueError("no club before it")
         if self.crashes and isinstance(event, (Listing, Reopen)):
-            raise ValueError("a crash is followed by what is stopped: a request or a command")
+            raise ValueError("a crash must be followed by a request or a command")
         self.scenarios[-1].events.append(Crash(event.place, event.moment, event) if self.crashes else event)
         self.crashes = False
 
@@ -345,7 +345,7 @@ class Reader:
         if len(columns) < 2:
             raise ValueError(f"not understood: {' '.join(columns)}")
         passed = self.holder(columns[0])
-        method, path, body = self.matched(columns[1], r"(\S+) (\S+)(?: (.+))?", "a request has a method, a path and maybe a body")
+        method, path, body = self.matched(columns[1], r"(\S+) (\S+)(?: (.+))?", "a request has a method, a path and perhaps a body")
         path = path if path.startswith("/") else f"/{path}" if path == "account" else f"/slots/{path}"
         body = (body or "").encode()
         pieces = [f"{method} {path} HTTP/1.1\r\nHost: club\r\n".encode()]
@@ -367,9 +367,9 @@ class Reader:
             return None
         if text.startswith("text "):
             if text[5:] not in self.texts:
-                raise ValueError(f"no {text}")
+                raise ValueError(f"undefined: {text}")
             return Text(self.texts[text[5:]])
-        key, parts = self.matched(text, rf"({NAME})(?: \[(.*)\])?", "a line begins with its word, or with a key and what its pass has")
+        key, parts = self.matched(text, rf"({NAME})(?: \[(.*)\])?", "a line begins with a keyword, or with a key and parts of its pass")
         parts = parts.split("; ") if parts else []
         if ("unknown" in parts) == (key in self.keys):
             raise ValueError(f"the key {key} is {'known' if key in self.keys else 'unknown'}")
@@ -401,11 +401,11 @@ class Reader:
             return None
         status, body = self.matched(columns[0], r"(\d{3}) (\S.*)", "a reply has a status and a body")
         if int(status) not in wire.PHRASES:
-            raise ValueError(f"no status of the desk: {status}")
+            raise ValueError(f"not a status of the desk: {status}")
         json.loads(body)
         methods = next((it.removeprefix("allows ").replace(" and ", ", ") for it in columns[1:] if it.startswith("allows ")), None)
         if (methods is not None) != (status == "405"):
-            raise ValueError("with 405, and with no other status, the methods of the path are told")
+            raise ValueError("a reply has the path's methods if and only if its status is 405")
         reply = Reply(int(status), body.encode(), methods)
         for it in columns[1:]:
             if not it.startswith("allows "):
@@ -414,7 +414,7 @@ class Reader:
 
     def has_length(self, reply, text):
         for count in text.split(", "):
-            number, what = self.matched(count, r"(\d+) (bytes|in all)", "what follows a reply is a count of its bytes")
+            number, what = self.matched(count, r"(\d+) (bytes|in all)", "only counts of its bytes may follow a reply")
             found = len(reply.body if what == "bytes" else reply.data)
             if int(number) != found:
                 raise ValueError(f"{found}, not {number} {what}")
@@ -424,22 +424,22 @@ class Reader:
         name, *values = columns[1].split(" ") if len(columns) > 1 else [""]
         kinds = COMMANDS.get(name)
         if kinds is None or len(values) not in (len(kinds), len(kinds) + 2 * (name in OF_KEYS)):
-            raise ValueError(f"no command: {' '.join(columns[1:2])}")
+            raise ValueError(f"not a command: {' '.join(columns[1:2])}")
         values = [self.value(kind, it) for kind, it in zip(kinds, values)] + values[len(kinds):]
         if name == "add-key":
             self.keys.setdefault(values[0], values[2])
         outcomes = tuple(columns[2].split(" or ")) if len(columns) > 2 else ()
         for it in outcomes:
-            self.matched(it, rf"(done|prints \S+|refused: (?:{'|'.join(REFUSALS)}))", "no outcome of a command")
+            self.matched(it, rf"(done|prints \S+|refused: (?:{'|'.join(REFUSALS)}))", "not an outcome of a command")
         self.happens(Office(self.place, self.moment, (name, *values), outcomes))
 
     def value(self, kind, text):
         if kind == "root":
             return self.root(text)
         if kind in SHAPES:
-            return self.matched(text, f"({SHAPES[kind]})", f"no {kind}")[0]
+            return self.matched(text, f"({SHAPES[kind]})", f"invalid {kind}")[0]
         if READERS[kind](text) is None:
-            raise ValueError(f"no {kind}: {text}")
+            raise ValueError(f"invalid {kind}: {text}")
         return text
 
     def read_sheet(self, columns, below):
@@ -458,19 +458,19 @@ class Reader:
 
     def listed(self, words, kinds, columns):
         if len(words) != 1 + len(kinds):
-            raise ValueError("another number of words")
+            raise ValueError("wrong number of words")
         values = tuple(self.value(kind, it) for kind, it in zip(kinds, words[1:]))
         self.happens(Listing(self.place, self.moment, (words[0], *values), tuple(columns[0].split(", ")) if columns else None))
 
     def read_crash(self, columns, below):
         self.none_below(below)
         if columns[1:] != [AGAIN]:
-            raise ValueError(f"a crash is {AGAIN}")
+            raise ValueError(f"a crash line must be `crash  {AGAIN}`")
         self.crashes = True
 
     def read_reopen(self, columns, below):
         self.none_below(below)
-        version, = self.matched(" ".join(columns[1:]), r"(?:as version (1))?", "the tables are opened again, maybe as version 1")
+        version, = self.matched(" ".join(columns[1:]), r"(?:as version (1))?", "a reopen line may only have `as version 1`")
         self.happens(Reopen(self.place, self.moment, version and int(version)))
 
 
@@ -492,7 +492,7 @@ def made(scenario, plant=None):
         try:
             club.command(Office(scenario.place, None, command, ()).command)
         except rules.CommandRefused as refusal:
-            raise Fault(f"{scenario.place}: no such club: {' '.join(command)}: refused: {refusal}") from refusal
+            raise Fault(f"{scenario.place}: can't make the club: {' '.join(command)}: refused: {refusal}") from refusal
     return club
 
 
@@ -501,7 +501,7 @@ def files(names=()):
     found = [*sorted(FOLDER.glob("*.txt")), PAGE]
     unknown = set(names) - {it.stem for it in found}
     if unknown:
-        raise Fault(f"no file of scenarios: {' '.join(sorted(unknown))}")
+        raise Fault(f"no such file of scenarios: {' '.join(sorted(unknown))}")
     return [it for it in found if not names or it.stem in names]
 
 

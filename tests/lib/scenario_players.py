@@ -101,7 +101,7 @@ class Rules:
         after, self.club = self.club, before
         compare(event, self.wanted(event), self.found(event))
         if vars(after) != vars(self.club):
-            raise Difference(event.place, "one club after both", "two")
+            raise Difference(event.place, "the same club in both cases", "two clubs")
 
 
 def listing(club, event):
@@ -181,7 +181,7 @@ class Programs:
     def carry_out(self, scenario, file, words):
         status, _, fault = programs.command(self.desk, words[0], file, *words[1:])
         if status != 0:
-            raise Fault(f"{scenario.place}: no such club: {' '.join(words)}: {fault}")
+            raise Fault(f"{scenario.place}: can't make the club: {' '.join(words)}: {fault}")
 
     def serve(self, requests):
         """Sends requests of the same moment to one server, and compares the replies."""

@@ -141,7 +141,7 @@ def text_fact(text, refusal=None):
 
 
 def of_spaced(text):
-    return "a pass that ends in spaces, which no field of a request has" if text.endswith(" ") else text_fact(text)
+    return "a pass that ends in spaces, which a field of a request can't have" if text.endswith(" ") else text_fact(text)
 
 
 # ---- crashes
@@ -153,7 +153,7 @@ def of_crash(value):
         name, values = last(event.name), event.values
         asked = facts.plain_bytes(values[1].encode()) if name != "Gives" else tuple(spelled_words(command_of(values[0])))
         found.append([Fact("crash", (asked,), "whole or not at all")])
-    return found or ["a crash while the tables are made or changed: a scenario's club is there before"]
+    return found or ["a crash while the tables are made or changed: a scenario's club exists before"]
 
 
 def spelled_words(words):

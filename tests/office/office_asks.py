@@ -59,7 +59,7 @@ class Terminal:
         return self.it.exitstatus
 
     def has(self, what, *texts):
-        same(f"{what}: what is shown", [text for text in texts if text not in self.shown.replace("\r", "")], [])
+        same(f"{what}: the shown text", [text for text in texts if text not in self.shown.replace("\r", "")], [])
 
 
 def task(called, *pairs, language="C.UTF-8", begin="Task: ", end="Enter for"):
@@ -87,8 +87,8 @@ def week():
               "the pass is in the file passes/oezdemir-ayse-1",
               "office club letters oezdemir-ayse-1 --to letter-oezdemir-ayse-1.html", "1 sheets for 1 members are in letter-oezdemir-ayse-1.html")
     same("her letter", run_as("anna", "sh", "-c", 'grep -c "book.html#$(cat passes/oezdemir-ayse-1)" letter-oezdemir-ayse-1.html')[1], "1\n")
-    same("her name as it is written", (run_as("anna", "grep", "-c", '<p class="to">Özdemir, Ayşe</p>', "letter-oezdemir-ayse-1.html")[1],
-                                       done("members", "--csv").splitlines()[-1]), ("1\n", 'oezdemir-ayse,3000,5,0,1,"Özdemir, Ayşe"'))
+    same("her full name", (run_as("anna", "grep", "-c", '<p class="to">Özdemir, Ayşe</p>', "letter-oezdemir-ayse-1.html")[1],
+                            done("members", "--csv").splitlines()[-1]), ("1\n", 'oezdemir-ayse,3000,5,0,1,"Özdemir, Ayşe"'))
     same("a new member", rows("SELECT name, credited, quota FROM members WHERE name = 'oezdemir-ayse'"), [("oezdemir-ayse", 3000, 5)])
     root = rows("SELECT hex(root) FROM keys WHERE name = 'oezdemir-ayse-1'")[0][0]
     same("her pass", run_as("anna", "sh", "-c", f"passtool verify --root {root} <passes/oezdemir-ayse-1")[1], "signed\n")
@@ -98,11 +98,11 @@ def week():
     shown = task("a lost pass", ("Member", "muller"), ("Do it", ENTER))
     shown.has("a lost pass", "office club lost-pass mueller-bob-1 --to passes/mueller-bob-1", "the pass is in the file passes/mueller-bob-1")
     lost = run_as("anna", "cat", "passes/mueller-bob-1")[1]
-    task("a lost pass", ("Member", "muller"), ("Do it", ENTER)).has("a pass that is lost again", f"are in letter-mueller-bob-1-{TODAY}-2.html")
+    task("a lost pass", ("Member", "muller"), ("Do it", ENTER)).has("a pass that is lost a second time", f"are in letter-mueller-bob-1-{TODAY}-2.html")
     root, text = rows("SELECT hex(root) FROM keys WHERE name = 'mueller-bob-1'")[0][0], run_as("anna", "cat", "passes/mueller-bob-1")[1]
-    same("its pass, and the lost one", [run_as("anna", "passtool", "verify", "--root", root, given=it)[1] for it in (text, lost)], ["signed\n", "not signed\n"])
+    same("the new and the lost pass", [run_as("anna", "passtool", "verify", "--root", root, given=it)[1] for it in (text, lost)], ["signed\n", "not signed\n"])
     letter = run_as("anna", "cat", f"letter-mueller-bob-1-{TODAY}-2.html")[1]
-    same("the letter has the new pass alone", [f"book.html#{it.strip()}" in letter for it in (text, lost)], [True, False])
+    same("the letter has only the new pass", [f"book.html#{it.strip()}" in letter for it in (text, lost)], [True, False])
     task("take points back", ("Member", "karin"), ("Points", "250"), ("Shall", "y"))
     same("points taken back", rows("SELECT credited FROM members WHERE name = 'baecker-karin'"), [(4750,)])
     day = TODAY + datetime.timedelta(3)
@@ -127,7 +127,7 @@ def in_german():
     day = TODAY + datetime.timedelta((5 - TODAY.weekday()) % 7)
     shown = task("Turnier", ("Tag", "sa"), ("Stunden", "15"), ("Welche", "Boote"), ("Soll", "n"), language="de_DE.UTF-8", begin="Aufgabe: ", end="Enter für")
     shown.has("a tournament in German", f"-> Samstag, {day.day}. ", f"sperrt boat-1 {day} 15:00", "nicht bestätigt; nichts geändert")
-    same("every line fits 80 columns", [it for it in shown.shown.replace("\r", "").split("\n") if len(it) > 80], [])
+    same("every line fits in 80 columns", [it for it in shown.shown.replace("\r", "").split("\n") if len(it) > 80], [])
 
 
 def refused_in_german():
@@ -152,7 +152,7 @@ def refused_in_german():
     same("usage in German", (status, "Aufruf: " in errors, "es fehlen: MEMBER, POINTS" in errors), (2, True, True))
     same("done, in German", german("set-quota", "mueller-bob", "7", "--yes")[1].splitlines()[-1], "erledigt")
     same("a list's heads", german("members")[1].split()[:5], ["Mitglied", "Punkte", "zugleich", "offen", "Schlüssel"])
-    same("but not in values", german("members", "--csv"), office("members", "--csv"))
+    same("comma-separated values aren't translated", german("members", "--csv"), office("members", "--csv"))
     status, _, errors = run_as("anna", "env", "LANG=de_DE.UTF-8", "office", "other", "members")
     same("no such club", (status, errors), (1, "abgelehnt: kein Verein other ist eingerichtet: es gibt kein /etc/clubdesk/other.conf\n"))
 
@@ -171,7 +171,7 @@ def calls():
     task("undo the last", ("Shall", "y")).has("undone", "undoes what was done on", "puts back the booking", "in all: 3 changes")
     same("the booking again", rows("SELECT count(*) FROM bookings WHERE cancelled = 0"), [(1,)])
     task("name, mail", ("Member", "bob"), ("Full name", "Bob Müller"), ("Mail", "bob@example.org"), ("Telephone", "+49 1")).has("a person", "done")
-    task("what a member has", ("Member", "müller bob")).has("a member by the name as it is written", "Bob Müller")
+    task("what a member has", ("Member", "müller bob")).has("a member by full name", "Bob Müller")
     task("a lost list", ("Member", "bob"), ("none: ", "2")).has("a lost list", "record of mueller-bob-office")
     task("another key", ("Member", "bob"), ("Do it", ENTER)).has("one more key", "the pass is in the file passes/mueller-bob-2", "are in letter-mueller-bob-2.html")
     task("the sheet", ("Day", "+2")).has("a sheet", "Day sheet", "mueller-bob-office")
@@ -193,8 +193,8 @@ def season_start():
     same("a preview that is too wide", [it for it in shown if len(it) > 80], [])
     task("letters with").has("letters", f"office club letters --to letters-{TODAY}.html", "sheets for 4 members")
     task("the season's points", ("Points", "300"), ("A name", "season 2027"), ("Shall", "y")).has("points for all", "office club credit-all 300 --as season-2027", "members credited with 300 points")
-    same("they have them", rows("SELECT credited FROM members WHERE name = 'ida-lund'"), [(800,)])
-    task("the season's points", ("Points", "300"), ("A name", "season 2027")).has("once", "season-2027 was given already")
+    same("the members have the season's points", rows("SELECT credited FROM members WHERE name = 'ida-lund'"), [(800,)])
+    task("the season's points", ("Points", "300"), ("A name", "season 2027")).has("once", "season-2027 was already given")
     first = TODAY + datetime.timedelta(7)
     task("close slots each week", ("First", "+7"), ("Last", "+28"), ("Hours", "18-20"), ("The reason", "Training"), ("Which", "court-1"), ("Shall", "y")).has(
         "training", f"office club close {first}..{TODAY + datetime.timedelta(28)} 18-20 court-1 --weekday {first:%A} --why Training".lower().replace("training", "Training"), "in all: 8 slots closed")
@@ -218,21 +218,21 @@ def what_is_odd():
         terminal.answers(("Go on", "n"))
         same(f"{words}: the status", terminal.ends(), 1)
         terminal.has(f"{words}", text, "not confirmed")
-    same("nothing is changed", everything(), before)
+    same("the club is unchanged", everything(), before)
 
 
 def words_of_commands():
     """Commands at a terminal accept the same input as the menu. Commands without a terminal accept only whole names."""
     terminal = Terminal("club", "credit", "bäck kar", "10")
     terminal.answers(("Number", "1"), ("Go on", "y"))
-    same("two that fit", (terminal.ends(), rows("SELECT credited FROM members WHERE name = 'baecker-karin'")), (0, [(4760,)]))
-    terminal.has("two that fit", "bäck kar may be", "office club credit baecker-karin 10")
+    same("two matching names", (terminal.ends(), rows("SELECT credited FROM members WHERE name = 'baecker-karin'")), (0, [(4760,)]))
+    terminal.has("two matching names", "bäck kar may be", "office club credit baecker-karin 10")
     terminal = Terminal("club", "credit", "bäck kar", "10")
     terminal.answers(("Number", None))
-    same("none of two", (terminal.ends(), rows("SELECT credited FROM members WHERE name = 'baecker-karin'")), (1, [(4760,)]))
+    same("neither of two matching names", (terminal.ends(), rows("SELECT credited FROM members WHERE name = 'baecker-karin'")), (1, [(4760,)]))
     terminal = Terminal("club", "credit", "muller", "10")
     terminal.answers(("Go on", ENTER))
-    same("an order by a part of a name is asked about", (terminal.ends(), rows("SELECT credited FROM members WHERE name = 'mueller-bob'")), (1, [(5000,)]))
+    same("the office asks about a part of a name", (terminal.ends(), rows("SELECT credited FROM members WHERE name = 'mueller-bob'")), (1, [(5000,)]))
     same("without a terminal", office("credit", "muller", "10"), (1, "", "refused: unknown\n"))
     same("a correction without a terminal", office("debit", "muller", "10", "--yes")[0], 1)
     day = TODAY + datetime.timedelta(3)
@@ -248,10 +248,10 @@ def words_of_commands():
     terminal = Terminal("club", "credit", "muller", "10")
     terminal.answers(("Number", None))
     same("a name with an umlaut, and one without", terminal.ends(), 1)
-    terminal.has("both fit", "muller may be", " 1 muller-eva", " 2 mueller-bob")
+    terminal.has("both match", "muller may be", " 1 muller-eva", " 2 mueller-bob")
     terminal = Terminal("club", "bookings", "karl")
-    same("a list of a part of a name", terminal.ends(), 0)
-    terminal.has("a list of a part of a name", "karl: baecker-karl")
+    same("a list for a part of a name", terminal.ends(), 0)
+    terminal.has("a list for a part of a name", "karl: baecker-karl")
 
 
 def interrupted():
@@ -273,7 +273,7 @@ def interrupted():
     terminal = Terminal("club")
     terminal.answers(("Task: ", None))
     same("Ctrl-C at the menu ends it", terminal.ends(), 0)
-    same("nothing is changed", everything(), before)
+    same("the club is unchanged", everything(), before)
     status, _, errors = office()
     same("no menu without a terminal", (status, "COMMAND" in errors), (2, True))
 

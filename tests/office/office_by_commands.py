@@ -6,7 +6,7 @@ Then the test runs the same correction again. The club must be the same as after
 still runs, the next correction waits for that command. The test also checks the copy that the office makes before a correction, and the rows that
 `undo` restores. The test needs root, because it covers the machine's folders with temporary overlays (tests/lib/office_room.sh).
 
-  tests/office/office_by_commands.py [debit|times]    debit: only debits; times: the time of a tournament, and a client's wait meanwhile
+  tests/office/office_by_commands.py [debit|times]    debit: tests only debits; times: measures a tournament, and a client's waits during it
 """
 # pytestmark = [mark.package, mark.faults, mark.speed("times"), mark.root, mark.alone, mark.needs("clubdesk passtool"),
 #     mark.wants("sudo sqlite3 openssl util-linux bsdutils iproute2 systemd python3-psutil")]
@@ -242,14 +242,14 @@ def killed_and_given_again(correction, programs):
     same(f"{words} is done", lines(*words, "--yes")[-1], "done")
     same(f"{command} runs programs", calls(), programs)
     same(f"{words} is done: the club", rows(correction.sql), wanted)
-    same(f"{words}: the copy of before", rows_of_copy(command, correction.sql), before)
+    same(f"{words}: the copy from before", rows_of_copy(command, correction.sql), before)
     for point in [f"{number} {how}" for number in range(1, programs + 1) for how in ("before", "after")] + ["output"]:
         words, wanted = correction.next()
         if point == "output":
             killed_at_its_output([*words, "--yes"])
         else:
             killed(point, [*words, "--yes"])
-        what = f"{words}, killed {point} and given again"
+        what = f"{words}, killed {point} and repeated"
         same(what, office(*words, "--yes")[::2], (0, ""))
         same(f"{what}: the club", rows(correction.sql), wanted)
         same(f"{what}: the book", [line for line in book_lines() if line.endswith(" ".join(words))][-1:], [f"anna 0 {' '.join(words)}"])
@@ -277,7 +277,7 @@ def outlives_its_order(correction, programs):
     with begun(*words, "--yes") as again:
         same(f"{words} waits for its command", again.stderr.readline(), "waiting for another command\n")
         again.communicate()
-    same(f"{words}, once its command has ended", (again.returncode, rows(correction.sql)), (0, wanted))
+    same(f"{words}, after its command has ended", (again.returncode, rows(correction.sql)), (0, wanted))
 
 
 def credited_meanwhile(correction):
@@ -286,10 +286,10 @@ def credited_meanwhile(correction):
     words, _ = correction.next()
     killed("3 before", [*words, "--yes"])
     done("credit", "zoe", "7")
-    refused([*words, "--yes"], 1, "refused: zoe was credited otherwise since this was interrupted")
+    refused([*words, "--yes"], 1, "refused: the credits of zoe have changed since this was interrupted")
     before = rows(correction.sql)[0][0]
     done(*words, "--yes")
-    same(f"{words} begins anew", rows(correction.sql), [(before - int(words[-1]),)])
+    same(f"{words} starts over", rows(correction.sql), [(before - int(words[-1]),)])
 
 
 def late(point, words, path):
@@ -316,7 +316,7 @@ def booked_meanwhile(closing):
     same("its booking", rows(sql), [(1, 0)])
     whole("a booking before a slot is closed")
     undone(words, closing.sql, [(hour, closed, taken + 1 if (hour, kind) == (10, 1) else taken, kind) for hour, closed, taken, kind in before])
-    same("its booking stands again", rows(sql), [(0, -200)])
+    same("the cancelled booking is back", rows(sql), [(0, -200)])
 
 
 def booked_out_of_hours(prices):
@@ -325,8 +325,8 @@ def booked_out_of_hours(prices):
     words[-1] = "--hours=10-20"
     day = str(TODAY + datetime.timedelta(50))
     status, out, errors = late(2, [*words, "--yes"], f"/slots/court-1/{day}/09/bookings/2")
-    same("a booking before its hour is left out", (status, out[-1], errors), (0, "done", f"booked meanwhile: amy-1 2 is booked {day} 09:00\n"))
-    same("the numbers then", rows(prices.sql), [(*wanted[0][:4], 10, 20)])
+    same("a booking before the opening hours change", (status, out[-1], errors), (0, "done", f"booked meanwhile: the booking amy-1 2 is on {day} at 09:00\n"))
+    same("the facility's numbers afterwards", rows(prices.sql), [(*wanted[0][:4], 10, 20)])
 
 
 def undone(words, sql, before):
@@ -376,9 +376,9 @@ def tournament():
     is_over.set()
     client.join()
     same("a tournament", shown[-2:], ["in all: 60 bookings cancelled, 12000 points back to zoe, 56 slots closed", "done"])
-    print(f"a tournament of 60 bookings and 56 slots took {whole_time:.2f} s; of {len(waits)} replies the longest came after {max(waits) * 1000:.1f} ms")
-    same("it takes at most 3 s, and no reply more than 20 ms", (whole_time < 3, max(waits) < 0.02), (True, True))
-    same("the server goes on", server.starts, 1)
+    print(f"a tournament of 60 bookings and 56 slots took {whole_time:.2f} s; the slowest of {len(waits)} replies came after {max(waits) * 1000:.1f} ms")
+    same("the tournament takes at most 3 s, and each reply at most 20 ms", (whole_time < 3, max(waits) < 0.02), (True, True))
+    same("the server keeps running", server.starts, 1)
     whole("a tournament")
 
 
@@ -403,10 +403,10 @@ closing.hold_reasons()
 outlives_its_order(debit, 3)
 credited_meanwhile(debit)
 booked_out_of_hours(prices)
-same("the server goes on", server.starts, 1)
+same("the server keeps running", server.starts, 1)
 killed_and_given_again(Leaving(), 6)
-same("nobody is a person", [it for it in (HOME / "club-people.csv").read_text(encoding="utf-8").splitlines() if it.startswith("m")], ["member,name,mail,telephone"])
-same("what is left of copies", [it for folder in (Path("/dev/shm"), HOME) for it in folder.glob(".office-*")], [])
+same("no personal data is left", [it for it in (HOME / "club-people.csv").read_text(encoding="utf-8").splitlines() if it.startswith("m")], ["member,name,mail,telephone"])
+same("copies that are left", [it for folder in (Path("/dev/shm"), HOME) for it in folder.glob(".office-*")], [])
 for correction in (quota, debit, prices, closing):
     words, _ = correction.next()
     before = rows(correction.sql)

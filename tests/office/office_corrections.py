@@ -12,12 +12,12 @@ from office_room import CLUB, HOME, ROOM, Service, begun, configure, desk, done,
 
 def corrections(server, amy, bob):
     same("a price", lines("set-facility", "court-1", "--price", "250", *YES), ["price of court-1 changes from 200 to 250; existing bookings keep their charge", "done"])
-    same("its view", slot(server, amy, "court-1", 18), {
+    same("the slot with the new price", slot(server, amy, "court-1", 18), {
         "facility": "court-1", "day": DAY, "hour": 18, "kind": "court", "price": 250, "places": 4, "taken": 3, "closed": False})
-    same("a booking at it", book(server, amy, "court-1", 19, 9, 0), {"booking": "amy-1/9", "charge": 250, "left": 3})
+    same("a booking at the new price", book(server, amy, "court-1", 19, 9, 0), {"booking": "amy-1/9", "charge": 250, "left": 3})
     whole("a price")
-    refused(["set-facility", "court-1", "--places", "2", *YES], 1, f"refused: 3 persons are booked {DAY} 18:00")
-    refused(["set-facility", "court-1", "--hours", "8-19", *YES], 1, f"refused: amy-1 9 is booked {DAY} 19:00")
+    refused(["set-facility", "court-1", "--places", "2", *YES], 1, f"refused: 3 persons are booked for {DAY} 18:00")
+    refused(["set-facility", "court-1", "--hours", "8-19", *YES], 1, f"refused: the booking amy-1 9 is on {DAY} at 19:00")
     refused(["set-facility", "court-1", *YES], 2, "nothing to set")
     refused(["set-facility", "court-9", "--price", "1", *YES], 1, "refused: there is no facility court-9")
     for option, value in (("--price", "10000"), ("--places", "0"), ("--places", "51"), ("--hours", "9-9"), ("--hours", "9-25"), ("--price", "1; --")):
@@ -25,7 +25,7 @@ def corrections(server, amy, bob):
     done("set-facility", "court-1", "--places", "3", "--hours", "7-20", *YES)
     same("places and hours", lines("show-slot", "court-1", DAY, "18")[5:7], ["places 3", "taken 3"])
     same("a quota", lines("set-quota", "bob", "0", *YES), ["quota of bob changes from 2 to 0", "done"])
-    same("bookings above it stay", account(server, bob), {"member": "bob", "balance": 2900, "quota": 0, "open": 1, "spent": 100})
+    same("bookings above the quota stay", account(server, bob), {"member": "bob", "balance": 2900, "quota": 0, "open": 1, "spent": 100})
     done("set-quota", "bob", "9", *YES)
     refused(["set-quota", "bob", "100", *YES], 3, "bad value")
     refused(["set-quota", "bo", "1", *YES], 1, "refused: there is no member bo")
@@ -34,7 +34,7 @@ def corrections(server, amy, bob):
     refused(["debit", "amy", "8451", *YES], 1, "refused: the balance of amy is 8450")
     refused(["debit", "amy' OR 1=1 --", "1", *YES], 3, "bad value")
     done("reopen-slot", "court-1", DAY, "9", *YES)
-    same("a slot that is open again", slot(server, amy, "court-1", 9)["closed"], False)
+    same("a reopened slot", slot(server, amy, "court-1", 9)["closed"], False)
     refused(["reopen-slot", "court-1", DAY, "9", *YES], 1, "isn't closed")
     whole("these corrections")
     done("revoke-key", "amy-1")
@@ -42,14 +42,14 @@ def corrections(server, amy, bob):
     same("a booking of a revoked key", shown, [f"cancels court-1 {DAY} 18:00, 3 persons, 600 points back: amy-1 7, amy", "done"])
     same("its slot", lines("show-slot", "court-1", DAY, "18")[6], "taken 0")
     same("its key", lines("show-account", "amy-1", *AT)[1:5], ["balance 9050", "quota 5", "open 2", "spent 450"])
-    refused(["cancel", "amy-1", "7", *YES], 1, "refused: booking 7 of amy-1 is cancelled already")
-    refused(["cancel", "amy-1", "77", *YES], 1, "refused: booking 77 of amy-1 is unknown")
+    refused(["cancel", "amy-1", "7", *YES], 1, "refused: booking 7 of amy-1 is already cancelled")
+    refused(["cancel", "amy-1", "77", *YES], 1, "refused: amy-1 has no booking 77")
     refused(["cancel", "amy-7", "7", *YES], 1, "refused: there is no key amy-7")
     refused(["cancel", "amy-1", *YES], 2, "a NUMBER, or --all")
     refused(["cancel", "amy-1", "9", "--all", *YES], 2, "a NUMBER, or --all")
-    same("all to come", lines("cancel", "amy-1", "--all", *YES)[2:], ["in all: 2 bookings cancelled, 450 points back to amy", "done"])
+    same("all future bookings", lines("cancel", "amy-1", "--all", *YES)[2:], ["in all: 2 bookings cancelled, 450 points back to amy", "done"])
     same("its account", lines("show-account", "amy-1", *AT)[1:5], ["balance 9500", "quota 5", "open 0", "spent 0"])
-    refused(["cancel", "amy-1", "--all", *YES], 1, "no booking to come")
+    refused(["cancel", "amy-1", "--all", *YES], 1, "no future bookings")
     whole("cancellations")
 
 
@@ -67,10 +67,10 @@ def tournament_and_rain(server, bob):
         for hour in (12, 13):
             found = slot(server, amy, facility, hour)
             same(f"{facility} at {hour}", (found["taken"], found["closed"]), (0, True))
-    same("the money is back", (account(server, amy)["balance"], account(server, bob)["spent"]), (9500, 100))
+    same("the points are back", (account(server, amy)["balance"], account(server, bob)["spent"]), (9500, 100))
     same("a repeat of a cancellation", asked(server, amy, "DELETE", f"/slots/court-1/{DAY}/12/bookings/1"), {"booking": "amy-3/1", "refund": 500})
-    refused(["close", DAY, "12-14", "court-1", "court-2", *YES], 1, "closed already")
-    refused(["close", DAY, "6-14", "court-1", *YES], 1, "refused: court-1 opens 7-20")
+    refused(["close", DAY, "12-14", "court-1", "court-2", *YES], 1, "already closed")
+    refused(["close", DAY, "6-14", "court-1", *YES], 1, "refused: court-1 is open from 7 to 20")
     refused(["close", DAY, "14-12", "court-1", *YES], 3, "bad value")
     book(server, amy, "court-1", 15, 2, 1)
     book(server, amy, "court-1", 16, 3, 1)
@@ -85,7 +85,7 @@ def tournament_and_rain(server, bob):
 def member_leaves(server, bob):
     book(server, bob, "court-2", 18, 33, 1)
     shown = lines("leave", "bob", *YES)
-    same("what is shown", (shown[-3], len(shown)), ("renames member bob to 1, with quota 0 and a balance of 3000", 7))
+    same("the preview", (shown[-3], len(shown)), ("renames member bob to 1, with quota 0 and a balance of 3000", 7))
     same("the member", rows("SELECT name, credited, quota, used FROM members WHERE name IN ('1', 'bob')"), [("1", 3000, 0, 0)])
     same("its keys", rows("SELECT name, member, revoked FROM keys WHERE member IN ('1', 'bob') ORDER BY name"), [("1-1", "1", 1), ("1-2", "1", 1)])
     same("its passes", server.answer(bob, "GET", "/account"), (401, '{"fault":9,"text":"not verified"}'))
@@ -95,7 +95,7 @@ def member_leaves(server, bob):
     refused(["leave", "bob", *YES], 1, "refused: there is no member bob")
     done("add-member", "bob", "1")
     done("leave", "bob", *YES)
-    same("a second one", rows("SELECT name FROM members WHERE name = '2'"), [("2",)])
+    same("a second leaving member", rows("SELECT name FROM members WHERE name = '2'"), [("2",)])
     whole("a member that leaves")
 
 
@@ -105,11 +105,11 @@ def breaks_no_total(server):
     text = done("add-key", "amy-4", "amy").strip()
     book(server, text, "court-2", 20, 5, 1)
     by_hand("UPDATE bookings SET guests = 3 WHERE pass_key = 'amy-4'")
-    same("check", office("check")[:2], (1, f"slot court-2 {DAY} 20: its bookings have 2 persons more than taken\n"))
+    same("check", office("check")[:2], (1, f"slot court-2 {DAY} 20: the bookings have 2 more persons than stored\n"))
     refused(["cancel", "amy-4", "5", *YES], 1, "nothing changed")
     done("debit", "amy", "1", *YES)
     by_hand("UPDATE bookings SET guests = 1 WHERE pass_key = 'amy-4'")
-    whole("a row that is as it was")
+    whole("a row with its old value")
     done("cancel", "amy-4", "5", *YES)
     whole("its cancellation")
 
@@ -136,13 +136,13 @@ def booked_meanwhile(server):
                 pass
             book(server, text, "court-2", 17, number + 1, 0)
             out, errors = command.communicate(answers)
-        same(f"booked meanwhile, {answers!r}", (command.returncode, "not confirmed; what was confirmed before is done" in errors), (status, status == 1))
-        same("what is named", out.partition("booked meanwhile: ")[2].splitlines()[:3], [
+        same(f"booked meanwhile, {answers!r}", (command.returncode, "not confirmed; the changes confirmed earlier are done" in errors), (status, status == 1))
+        same("the new booking's lines", out.partition("booked meanwhile: ")[2].splitlines()[:3], [
             slot_text, f"cancels {slot_text}, 1 person, 200 points back: amy-5 {number + 1}, amy", f"closes {slot_text}"])
-        same("the end", last in (None, out.splitlines()[-1].rpartition("] ")[2]), True)
+        same("the last line", last in (None, out.splitlines()[-1].rpartition("] ")[2]), True)
         same("the slot", lines("show-slot", "court-2", DAY, "17")[6:], [f"taken {status}", f"closed {'no' if status else 'yes'}"])
     done("reopen-slot", "court-2", DAY, "17", *YES)
-    whole("bookings meanwhile")
+    whole("bookings during a correction")
 
 
 def back_ups():
@@ -150,7 +150,7 @@ def back_ups():
     made = sorted((HOME / "club-before").iterdir())
     same("their number", 10 <= len(made) <= 30, True)
     same("their modes", {mode(it) for it in made}, {"clubdesk 100600"})
-    same("nothing else", [it for it in made if not re.fullmatch(r"20\d\d-\d\d-\d\dT\d\d-\d\d-\d\d-[a-z-]+(-[0-9]+)?", it.name)], [])
+    same("no other files", [it for it in made if not re.fullmatch(r"20\d\d-\d\d-\d\dT\d\d-\d\d-\d\d-[a-z-]+(-[0-9]+)?", it.name)], [])
     subprocess.run(["cp", made[-1], ROOM / "before"], check=True)
     status, out, _ = run_as("root", "clubdesk", "sheet", ROOM / "before", DAY, folder="/")
     same("the newest is a club", (status, out.splitlines()[0]), (0, f"Day sheet {DAY}"))
@@ -159,7 +159,7 @@ def back_ups():
 def keep_copy():
     """Runs the nightly job that copies the club, and returns the copy's name."""
     before = set(COPIES.glob("*"))
-    same("a night's copy", run_as("clubdesk", "/usr/lib/clubdesk/keep_copies", CLUB, COPIES, folder="/")[0], 0)
+    same("a nightly copy", run_as("clubdesk", "/usr/lib/clubdesk/keep_copies", CLUB, COPIES, folder="/")[0], 0)
     return (set(COPIES.glob("*")) - before).pop().name
 
 
@@ -167,7 +167,7 @@ def restores(server):
     """Restores a copy. The office shows what the restore changes. The office keeps a copy of the old club. If the old file is damaged, the office
     keeps this file instead."""
     configure(BACK_UPS=COPIES)
-    same("no copy of a night", [line for line in lines("copies", "--csv") if "back-up" in line], [])
+    same("no nightly copy", [line for line in lines("copies", "--csv") if "back-up" in line], [])
     text = done("add-key", "amy-6", "amy").strip()
     book(server, text, "court-2", 19, 61, 1)
     book(server, text, "court-2", 8, 62, 0)
@@ -196,25 +196,25 @@ def restores(server):
     starts = server.starts
     same("a restore", lines("restore", night, *YES), [*shown, "done"])
     same("the club of the copy", everything(), before)
-    same("a repeat of before", book(server, text, "court-2", 19, 61, 1)["charge"], 400)
-    same("what came after", server.answer(text, "DELETE", f"/slots/court-2/{DAY}/09/bookings/63"), (404, '{"fault":15,"text":"no such booking"}'))
-    same("the server began anew", server.starts > starts, True)
+    same("a repeat of an earlier booking", book(server, text, "court-2", 19, 61, 1)["charge"], 400)
+    same("a booking made after the copy", server.answer(text, "DELETE", f"/slots/court-2/{DAY}/09/bookings/63"), (404, '{"fault":15,"text":"no such booking"}'))
+    same("the server was restarted", server.starts > starts, True)
     whole("a restore")
     undone = sorted(file for file in os.listdir(f"{HOME}/club-before") if file.endswith("-restore"))[-1]
     same("its own copy is listed", f"{undone},before a correction" in {",".join(line.split(",")[:2]) for line in lines("copies", "--csv")}, True)
-    same("what undoes it", lines("restore", undone, *YES), [
+    same("a restore that undoes the restore", lines("restore", undone, *YES), [
         "brings back the member dora", f"balance of amy changes from {balance} to {balance + 250}", "brings back the key dora-1 and its passes",
         "accepts the passes that amy-3 had before its rotation, and refuses the later passes of amy-3", "refuses the passes of amy-5: the key is revoked again",
         "changes the facility boat-1 back to its earlier state", f"closes court-2 {DAY} 11:00", f"loses the booking court-2 {DAY} 19:00, 2 persons, 400 points: amy-6 61, amy",
         f"books court-2 {DAY} 09:00 again, 1 person, 200 points: amy-6 63, amy", "in all: 9 changes", "done",
     ])
-    same("it is undone", everything(), after)
+    same("the restore is undone", everything(), after)
     refused(["restore", "2001-01-01T000000Z", *YES], 1, "refused: there is no copy 2001-01-01T000000Z")
     for wrong in ("../club", "club", "2026-04-20", f"{night}/..", "2026-04-20T12-00-00-debit;"):
         refused(["restore", wrong, *YES], 3, "bad value")
     for called, change, line in (
-        ("2026-01-01T000000Z", None, "is no club that clubdesk opens"),
-        ("2026-01-02T000000Z", "UPDATE members SET used = used + 1 WHERE name = 'amy'", "isn't sound: member amy: used is"),
+        ("2026-01-01T000000Z", None, "clubdesk can't open the copy 2026-01-01T000000Z"),
+        ("2026-01-02T000000Z", "UPDATE members SET used = used + 1 WHERE name = 'amy'", "the copy 2026-01-02T000000Z has a fault: member amy: "),
     ):
         path = COPIES / called
         if change:
@@ -258,7 +258,7 @@ def damaged(server, text, night, before, was):
             same(f"{what}: no club", desk("sheet", DAY)[0], 5)
         lost = lost_files()
         out = done("restore", night, *YES)
-        same(f"{what}: what is said", ("and is kept beside the new one" in out, out.splitlines()[-1]), (True, "done"))
+        same(f"{what}: the output", ("and is kept next to the new one" in out, out.splitlines()[-1]), (True, "done"))
         same(f"{what}: the file is kept", lost_files() - lost, 0 if what == "gone" else 1)
         same(f"{what}: the club of the copy", everything(), before)
         same(f"{what}: its owner and mode", mode(CLUB), "clubdesk 100600")

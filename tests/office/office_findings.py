@@ -37,8 +37,8 @@ def journal_that_is_silent():
         except subprocess.TimeoutExpired:
             kill(command)
     entry.unlink()
-    same("an order beside a silent journal", command.returncode, 0)
-    same("its line is in the file", BOOK.read_text(encoding="utf-8").splitlines()[-1].split(" ", 1)[1], "anna 0 credit amy 14")
+    same("a command while the journal is silent", command.returncode, 0)
+    same("the command's line is in the file", BOOK.read_text(encoding="utf-8").splitlines()[-1].split(" ", 1)[1], "anna 0 credit amy 14")
 
 
 def copies_of_one_second():
@@ -48,16 +48,16 @@ def copies_of_one_second():
         for _ in range(6):
             pool.submit(done, "debit", "amy", "1", *YES)
     made = sorted(it.name for it in (HOME / "club-before").glob("*-debit*"))
-    same("a copy of each correction of one second", len(made) - before, 6)
-    same("two of one second", [it for it in made if re.search("-debit-[0-9]$", it)] != [], True)
-    same("they are copies", [it for it in made if it not in done("copies", "--csv")], [])
+    same("a copy for each correction within one second", len(made) - before, 6)
+    same("two copies from the same second", [it for it in made if re.search("-debit-[0-9]$", it)] != [], True)
+    same("the list has these copies", [it for it in made if it not in done("copies", "--csv")], [])
 
 
 def moments_to_come():
     """The office refuses a correction whose --at is in the future, because the correction would treat bookings before that moment as past."""
     for words in (["new-year"], ["set-facility", "court-1", "--hours", "8-9"], ["cancel", "amy-1", "--all"], ["restore", "2026-01-01T000000Z"]):
-        refused([*words, "--yes", "--at", "2099-12-31T00:00"], 1, "refused: --at 2099-12-31T00:00 is to come: it is 20")
-    same("in the book", book_lines()[-1], "anna 1 restore 2026-01-01T000000Z --at 2099-12-31T00:00")
+        refused([*words, "--yes", "--at", "2099-12-31T00:00"], 1, "refused: --at 2099-12-31T00:00 is in the future: it is now 20")
+    same("the refusal in the book", book_lines()[-1], "anna 1 restore 2026-01-01T000000Z --at 2099-12-31T00:00")
 
 
 def lines_that_are_forged():
@@ -71,17 +71,17 @@ def lines_that_are_forged():
         status, _, errors = office("credit", data, "5")
         same(f"a word of bytes {data}", (status != 0, "Traceback" in errors), (True, False))
     found = book_lines()[before:]
-    same("a line for each", (len(found), [it for it in found if not re.match("anna [0-9] credit ", it)]), (13, []))
+    same("one line for each command", (len(found), [it for it in found if not re.match("anna [0-9] credit ", it)]), (13, []))
     same("each line", [line for line in done("log").split("\n")[:-1] if not re.fullmatch(LINE.replace("[0-9] ", "[0-9?] "), line)], [])
     same("an escape that a clerk typed", (office("credit", "amy\\x85", "5")[0], book_lines()[-1]), (3, "anna 3 credit 'amy\\\\x85' 5"))
     before = len(book_lines())
     same("too many words", office("close", DAY, "10-11", *["court-1"] * 30_000, "--yes")[0], 3)
     same("a long word", office("credit", "a" * 2_000, "5")[0], 3)
-    same("no line of them", len(book_lines()), before)
+    same("no lines for these commands", len(book_lines()), before)
     refused(["debit", "amy", "1", *AT], 1, "refused: not confirmed", given="n\n")
     same("a correction that isn't confirmed", book_lines()[-1], f"anna 1 debit amy 1 --at {NOON}")
     refused(["debit", "nobody", "1", *AT], 1, "refused: there is no member nobody")
-    same("one that is refused", book_lines()[-1], f"anna 1 debit nobody 1 --at {NOON}")
+    same("a refused correction", book_lines()[-1], f"anna 1 debit nobody 1 --at {NOON}")
 
 
 def orders_that_cannot_be_read():
@@ -92,10 +92,10 @@ def orders_that_cannot_be_read():
         same(f"the rest of a line: {left}", re.match("unknown [?] .a command that can't be read. ", book_lines()[-2]) is not None, True)
     TURN.write_bytes(b"2026-04-20T12:00:00 ben ? cred\xff\n\x85")
     done("credit", "amy", "1")
-    same("a line that is cut", book_lines()[-2], "ben ? cred\\xff\\x0a\\x85")
+    same("a truncated line", book_lines()[-2], "ben ? cred\\xff\\x0a\\x85")
     BOOK.write_text(BOOK.read_text(encoding="utf-8") + "2026-04-20T12:00:00 anna 0 cred", encoding="utf-8")
     done("credit", "amy", "1")
-    same("below a line that is cut", book_lines()[-2:], ["anna 0 cred", "anna 0 credit amy 1"])
+    same("below a truncated line", book_lines()[-2:], ["anna 0 cred", "anna 0 credit amy 1"])
 
 
 def programs_of_a_clerk():
@@ -121,11 +121,11 @@ def programs_of_a_clerk():
     variables = f"CLUBDESK={home}/bin/clubdesk SUDO={home}/bin/sudo OFFICE_CONF={home}/conf PATH={home}/bin:{os.environ['PATH']}".split()
     line = "sudo -n -u clubdesk /usr/bin/office --desk club".split()
     for words in (["sheet", DAY], ["members"], ["credit", "amy", "1"], ["debit", "amy", "1", *YES]):
-        same(f"{words} with programs of a clerk", run_as("anna", "env", *variables, *line, *words)[0], 0)
-        same(f"{words} at the counter", run_as("anna", "env", *variables[:2], variables[3], "office", "club", *words)[0], 0)
-    same("what ran as the desk", ran.read_text(), "")
-    same("sudo has a path of its own", "secure_path=" in Path("/etc/sudoers.d/clubdesk-office").read_text(encoding="utf-8"), True)
-    same("nobody's club", (HOME / "other").exists(), False)
+        same(f"{words} with a clerk's programs", run_as("anna", "env", *variables, *line, *words)[0], 0)
+        same(f"{words} on the clerk's side", run_as("anna", "env", *variables[:2], variables[3], "office", "club", *words)[0], 0)
+    same("a clerk's programs that ran as the desk's user", ran.read_text(), "")
+    same("sudo has its own path", "secure_path=" in Path("/etc/sudoers.d/clubdesk-office").read_text(encoding="utf-8"), True)
+    same("no other club", (HOME / "other").exists(), False)
     lax.unlink()
     sudoers.write_text(kept, encoding="utf-8")
 
@@ -135,7 +135,7 @@ def inner_words():
     line = "sudo -n -u clubdesk /usr/bin/office --desk club import-row zed 1 5 zed-1".split()
     for given in ("", "00", "g" * 64, f"{'0' * 64} x", "0" * 63):
         same(f"the roots {given}", run_as("anna", *line, given=given)[0], 3)
-    same("nobody is made", rows("SELECT count(*) FROM members WHERE name = 'zed'"), [(0,)])
+    same("no member is added", rows("SELECT count(*) FROM members WHERE name = 'zed'"), [(0,)])
 
 
 def desk_side(command):
@@ -179,7 +179,7 @@ def terminals_that_stop():
                 command.communicate(timeout=60)
             except subprocess.TimeoutExpired:
                 kill(command)
-            same(f"an order at signal {number}", (sent != [], command.returncode), (True, 0))
+            same(f"a command at signal {number}", (sent != [], command.returncode), (True, 0))
         done("credit", "amy", "1")
 
 
@@ -197,7 +197,7 @@ def terminals_that_take_nothing():
             if "credit nobody-2 1" in BOOK.read_text(encoding="utf-8") + TURN.read_text(encoding="utf-8"):
                 break
             time.sleep(0.02)
-        same("an order beside a terminal that takes nothing", office("credit", "amy", "1")[::2], (0, ""))
+        same("a command next to a terminal that accepts no output", office("credit", "amy", "1")[::2], (0, ""))
         kill(command)
     os.close(taken)
     os.close(full)
@@ -211,7 +211,7 @@ def folder_of_a_clerk():
     lax.write_text('Defaults env_keep += "HOME"\n')
     lax.chmod(0o440)
     with slow_clubdesk():
-        same("an order", run_as("anna", "env", "HOME=/home/anna", *"sudo -n -u clubdesk /usr/bin/office --desk club credit amy 1".split())[0], 0)
+        same("a command", run_as("anna", "env", "HOME=/home/anna", *"sudo -n -u clubdesk /usr/bin/office --desk club credit amy 1".split())[0], 0)
         same("the folder of the desk's user", (ROOM / "home-of-clubdesk").read_text(encoding="utf-8"), f"{pwd.getpwnam('clubdesk').pw_dir}\n")
     lax.unlink()
 
@@ -224,8 +224,8 @@ def file_that_came_since():
         desk_side(command)
         run_as("anna", "sh", "-c", "echo mine >amy-8")
         _, errors = command.communicate()
-    same("a file that came since", (command.returncode, errors), (7, "the key amy-8 was changed. There is a file amy-8 by now, so its pass is in amy-8-2\n"))
-    same("it stays", run_as("anna", "cat", "amy-8")[1], "mine\n")
+    same("a file made in the meantime", (command.returncode, errors), (7, "the key amy-8 was added or changed. Its pass is in amy-8-2, because a file amy-8 was created in the meantime\n"))
+    same("the other program's file stays", run_as("anna", "cat", "amy-8")[1], "mine\n")
     same("the pass", run_as("anna", "sh", "-c", "passtool show <amy-8-2")[1].count("key:amy-8"), 1)
     run_as("anna", "sh", "-c", "mkdir -p came; printf 'name,quota,points\\nIda,1,1\\n' >ida.csv")
     with slow_clubdesk():
@@ -233,13 +233,13 @@ def file_that_came_since():
         desk_side(command)
         run_as("anna", "sh", "-c", "echo mine >came/ida-1")
         _, errors = command.communicate()
-    same("an import beside it", (command.returncode, "isn't this row's pass" in errors), (1, True))
-    same("once more", office("import", "ida.csv", "--passes", "came", "--yes")[0], 1)
-    same("it stays, too", run_as("anna", "cat", "came/ida-1")[1], "mine\n")
+    same("an import next to such a file", (command.returncode, "isn't this row's pass" in errors), (1, True))
+    same("the import again", office("import", "ida.csv", "--passes", "came", "--yes")[0], 1)
+    same("the other program's second file stays", run_as("anna", "cat", "came/ida-1")[1], "mine\n")
     run_as("anna", "rm", "came/ida-1")
     done("import", "ida.csv", "--passes", "came", "--yes")
     root = rows("SELECT hex(root) FROM keys WHERE name = 'ida-1'")[0][0]
-    same("and its pass", run_as("anna", "sh", "-c", f"passtool verify --root {root} <came/ida-1")[1], "signed\n")
+    same("the key's pass", run_as("anna", "sh", "-c", f"passtool verify --root {root} <came/ida-1")[1], "signed\n")
 
 
 def page_that_came_since():
@@ -250,8 +250,8 @@ def page_that_came_since():
         browser.rename(kept)
     browser.write_text('#!/bin/sh\nfor it; do case $it in --print-to-pdf=*) echo mine >board.pdf; echo printed >"${it#*=}" ;; esac; done\n', encoding="ascii")
     browser.chmod(0o755)
-    same("the board's page alone", ".pdf" in done("report", "--to", "board.html"), False)
-    same("the page that came since", run_as("anna", "sh", "-c", "cat board.pdf; ls -d pdf-*")[1], "mine\n")
+    same("only the board's page", ".pdf" in done("report", "--to", "board.html"), False)
+    same("a page made in the meantime", run_as("anna", "sh", "-c", "cat board.pdf; ls -d pdf-*")[1], "mine\n")
     browser.unlink()
     if kept.exists():
         kept.rename(browser)
@@ -267,15 +267,15 @@ def clubs_beside():
             path.write_text(f"FILE={of}\n", encoding="utf-8")
         for words in (["credit", "amy", "1"], ["members"], ["new"]):
             status, _, errors = office(*words, club="other")
-            same(f"{words} beside a club other-{ending}", (status, f"{file} is the file of the club other-{ending}" in errors), (1, True))
+            same(f"{words} next to a club other-{ending}", (status, f"{file} is the file of the club other-{ending}" in errors), (1, True))
         same(f"the file of other-{ending}", file.read_bytes(), b"another club")
         configuration.unlink()
         file.unlink()
-    same("what is made", [it.name for it in HOME.glob("other*")], [])
+    same("no file is made", [it.name for it in HOME.glob("other*")], [])
     names = ("other-newcomers", "other-bookings", "others")
     for name in names:
         Path(f"/etc/clubdesk/{name}.conf").write_text(f"FILE={HOME / name}\n", encoding="utf-8")
-    same("beside clubs whose names only begin so", office("new", club="other")[::2], (0, ""))
+    same("next to clubs whose names only begin the same way", office("new", club="other")[::2], (0, ""))
     for it in [*HOME.glob("other*"), *(Path(f"/etc/clubdesk/{name}.conf") for name in ("other", *names))]:
         it.unlink()
 
@@ -295,8 +295,8 @@ def memory_that_is_full():
     for count in range(20):
         with contextlib.suppress(OSError):
             (memory / f"rest-{count}").touch()
-    same("a list without a file's place in memory", office("members")[::2], (0, ""))
-    same("a correction there", office("debit", "amy", "1", *YES)[::2], (0, ""))
+    same("a list without free inodes in memory", office("members")[::2], (0, ""))
+    same("a correction without free inodes in memory", office("debit", "amy", "1", *YES)[::2], (0, ""))
     for rest in memory.glob("rest-*"):
         rest.unlink()
     subprocess.run(["mount", "-o", "remount,nr_inodes=100k", memory], check=True)
@@ -310,8 +310,8 @@ def memory_that_is_full():
             os.chown(home / called, user.pw_uid, user.pw_gid)
     (HOME / "club-before" / ".2026-01-01T00-00-00-debit.new").write_bytes(b"roots")
     done("credit", "amy", "1")
-    same("what killed ones left", [it.name for home in (memory, HOME) for it in home.glob(".office-*")], [alive, alive])
-    same("and unnamed copies", list((HOME / "club-before").glob(".*")), [])
+    same("copies that killed commands left", [it.name for home in (memory, HOME) for it in home.glob(".office-*")], [alive, alive])
+    same("unnamed copies", list((HOME / "club-before").glob(".*")), [])
     for home in (memory, HOME):
         shutil.rmtree(home / alive)
 
@@ -328,10 +328,10 @@ def disk_that_is_full():
     ended = [office(*words)[0] for words in (["credit", "amy", "1"], ["debit", "amy", "100", *YES], ["close", "2026-06-01", "9-19", "court-1", *YES], ["credit", "amy", "1"])]
     copies = office("copies")[0]
     subprocess.run(["mount", "-o", "remount,size=50%", ROOM], check=True)
-    same("orders on a full disk", (set(ended) <= {0, 5}, 5 in ended), (True, True))
-    same("what was done is what they say", credited() - before, (ended[0] == 0) - 100 * (ended[1] == 0) + (ended[3] == 0))
+    same("commands on a full disk", (set(ended) <= {0, 5}, 5 in ended), (True, True))
+    same("the statuses match the points", credited() - before, (ended[0] == 0) - 100 * (ended[1] == 0) + (ended[3] == 0))
     same("closed slots", len(rows("SELECT * FROM slots WHERE closed = 1 AND day = 20605")), 10 * (ended[2] == 0))
-    same("a look", copies, 0)
+    same("the list of copies", copies, 0)
     whole("a full disk")
     done("credit", "amy", "1")
     done("debit", "amy", "1", *YES)
@@ -348,9 +348,9 @@ def titles_of_the_page():
     status, out, errors = made(b'\xef\xbb\xbf# titles\r\n\r\ncourt-1\t"Centre" Court\tone \r\ncourt-2 Pl\xc3\xa4tzchen')
     found = {it["name"]: it.get("title") for it in json.loads(out or '{"facilities":[]}')["facilities"]}
     same("titles", (status, errors, found), (0, "", {"court-1": '"Centre" Court one', "court-2": "Plätzchen", "boat-1": None}))
-    for text, line in ((b"court-1 A\ncourt-2 B\ncourt-1 C\n", "line 3: court-1 has a title already, in line 1"), (b"\ncourt-1 Pl\xe4tze\n", "line 2: it is no UTF-8"),
+    for text, line in ((b"court-1 A\ncourt-2 B\ncourt-1 C\n", "line 3: court-1 already has a title, in line 1"), (b"\ncourt-1 Pl\xe4tze\n", "line 2: not UTF-8"),
                        (b"court-9 Nowhere\n", "line 1: the club has no facility court-9"), (b"court-1\n", "line 1: court-1 has no title"),
-                       (b"court-1 a\x00b\n", "line 1: its title has a letter"), (b"court-1 " + b"x" * 81, "line 1: its title has more than 80 letters")):
+                       (b"court-1 a\x00b\n", "line 1: the title has an unprintable character"), (b"court-1 " + b"x" * 81, "line 1: the title has more than 80 characters")):
         same(f"titles {text[:30]}", [it for it in [made(text)] if it[0] != 1 or line not in it[2]], [])
 
 
@@ -371,4 +371,4 @@ def findings():
     clubs_beside()
     memory_that_is_full()
     disk_that_is_full()
-    whole("what others did")
+    whole("the other tests")

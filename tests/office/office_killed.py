@@ -85,21 +85,21 @@ def commands_beside_the_desk():
     with ThreadPoolExecutor(4) as pool:
         clients = [pool.submit(books_and_cancels, server, place, text[f"k{place}"], is_over) for place in range(1, 5)]
         plain = seconds_of("debit", "zoe", "1", *YES)
-        print(f"a correction beside the desk takes {plain:.2f} s")
+        print(f"a correction while the desk runs takes {plain:.2f} s")
         for attempt, words in enumerate(commands):
             killed_after(chance.uniform(0, plain * (0.4 if words[0] == "credit" else 1.2)), words, chance if attempt % 3 == 0 else None)
             if attempt % 10 == 0:
                 whole(f"kill {attempt}")
         server.is_heard()
         is_over.set()
-    same("replies that are wrong", [it for client in clients for it in client.result()[1]], [])
+    same("wrong replies", [it for client in clients for it in client.result()[1]], [])
     print(f"{given.kills} kills in {time.monotonic() - start:.0f} s, {server.starts} starts, {sum(it.result()[0] for it in clients)} replies")
     whole("all kills")
     hold_book(commands)
-    same("the desk serves", server.is_heard(), True)
-    same("and answers", server.answer(text["zoe"], "GET", "/account")[0], 200)
+    same("the desk runs", server.is_heard(), True)
+    same("the desk answers", server.answer(text["zoe"], "GET", "/account")[0], 200)
     done("members")
-    same("nothing is left", left(), [])
+    same("no temporary files are left", left(), [])
     server.stop()
 
 
@@ -128,10 +128,10 @@ def hold_book(commands):
         points = int(words[1]) * (1 if command == "credit" else -1)
         if status in ("0", "?"):
             sums = {it + points for it in sums} | (sums if status == "?" else set())
-    same(f"zoe's credits, {counts['?']} of them broken off", rows("SELECT credited FROM members WHERE name = 'zoe'")[0][0] in sums, True)
+    same(f"zoe's credits, {counts['?']} of them interrupted", rows("SELECT credited FROM members WHERE name = 'zoe'")[0][0] in sums, True)
     lines = {" ".join(word for word in words if word != "--yes") for words in commands} | {"credit zoe 100000", f"debit zoe 1 --at {NOON}"}
-    same("no order of nobody", {" ".join([command, *words]) for _, command, words in book} - lines, set())
-    print(f"of the credits and debits {counts['0'] - 2} were done, {counts['?']} were broken off")
+    same("no commands that the test didn't run", {" ".join([command, *words]) for _, command, words in book} - lines, set())
+    print(f"credits and debits: {counts['0'] - 2} were done, {counts['?']} were interrupted")
 
 
 def restores():
@@ -156,12 +156,12 @@ def restores():
             goes_on()
         killed_after(chance.uniform(0, plain * 2), ["restore", night, "--yes"])
         found = everything()
-        same("a club that is one or the other", found in (copy, later), True)
+        same("the club is the copy or unchanged", found in (copy, later), True)
         outcomes["restored" if found == copy else "before"] += 1
         whole("a killed restore")
-    same("it is done after all kills", done("restore", night, "--yes").splitlines()[-1], "done")
+    same("the restore works after all kills", done("restore", night, "--yes").splitlines()[-1], "done")
     same("the club of the copy", everything(), copy)
-    same("the desk serves", server.is_heard(), True)
+    same("the desk runs", server.is_heard(), True)
     server.stop()
     print(f"a restore, killed {sum(outcomes.values())} times: {dict(outcomes)}")
 
@@ -177,10 +177,10 @@ def season_points():
     for _ in range(min(given.kills, 12)):
         killed_after(chance.uniform(0.2, 4), words, chance if chance.random() < 0.3 else None)
         more = {points - before[name] for name, points in rows("SELECT name, credited FROM members WHERE quota > 0")}
-        same("each has the points, or not yet", more <= {0, 100}, True)
-    same("given again", office(*words)[0] in (0, 1), True)
-    same("each has them once", {points - before[name] for name, points in rows("SELECT name, credited FROM members WHERE quota > 0")}, {100})
-    same("and never again", office(*words)[0], 1)
+        same("each member has the points once or not yet", more <= {0, 100}, True)
+    same("the command again", office(*words)[0] in (0, 1), True)
+    same("each member has the points once", {points - before[name] for name, points in rows("SELECT name, credited FROM members WHERE quota > 0")}, {100})
+    same("the command is refused afterwards", office(*words)[0], 1)
     server.stop()
 
 
@@ -198,7 +198,7 @@ def bookings_for_callers():
         status, _, errors = office(*words)
         same(f"a booking, again at {first}", (status == 0, "already" in errors) in ((True, False), (False, True)), True)
         for hour in range(first, first + count):
-            same(f"it is one at {hour}", rows(f"SELECT count(*), sum(taken) FROM slots WHERE facility = 'room-1' AND day = 20593 AND hour = {hour}"), [(1, 2)])
+            same(f"booked at {hour}", rows(f"SELECT count(*), sum(taken) FROM slots WHERE facility = 'room-1' AND day = 20593 AND hour = {hour}"), [(1, 2)])
     whole("killed bookings")
     server.stop()
 
@@ -214,7 +214,7 @@ def undos():
         same("a killed undo", found in (before, after), True)
         if found == after:
             done("undo", "--yes")
-            same("it is undone", everything(), before)
+            same("the correction is undone", everything(), before)
 
 
 def copies_elsewhere():
@@ -237,22 +237,22 @@ def copies_elsewhere():
         kill(command, chance if attempt % 3 == 0 else None)
         named = [it.name for it in place.glob("2*Z")]
         tested = [it.split()[0] for it in (place / "tested").read_text(encoding="ascii").splitlines()]
-        same("each was tested", [it for it in named if it not in tested], [])
+        same("each copy was tested", [it for it in named if it not in tested], [])
         for it in named[-3:]:
             found = subprocess.run(["sqlite3", f"file:{place / it}?immutable=1", "PRAGMA integrity_check; SELECT count(*) FROM desk"], capture_output=True, text=True, check=False)
-            same(f"the copy {it} is whole", found.stdout, "ok\n1\n")
-    same("it is done after all kills", run_as("clubdesk", *line[4:], folder="/")[0], 0)
+            same(f"the copy {it} is complete", found.stdout, "ok\n1\n")
+    same("the job works after all kills", run_as("clubdesk", *line[4:], folder="/")[0], 0)
     newest = sorted(it.name for it in place.glob("2*Z"))[-1]
-    same("the last change is there", copy_rows(place / newest), [it for it in everything() if "INSERT" in it])
-    same("nothing is left here", left(), [])
+    same("the copy has the last change", copy_rows(place / newest), [it for it in everything() if "INSERT" in it])
+    same("no temporary files are left after the copies", left(), [])
     copy, after = copy_rows(place / newest), None
     for _ in range(min(given.kills, 8)):
         done("credit", "zoe", "7")
         after = [it for it in everything() if "INSERT" in it]
         killed_after(chance.uniform(0.2, 3), ["restore", newest, "--yes"])
-        same("a killed restore of one", [it for it in everything() if "INSERT" in it] in (copy, after), True)
+        same("a killed restore of such a copy", [it for it in everything() if "INSERT" in it] in (copy, after), True)
         done("restore", newest, "--yes")
-        same("a restore of one", [it for it in everything() if "INSERT" in it], copy)
+        same("a restore of such a copy", [it for it in everything() if "INSERT" in it], copy)
     print(f"copies elsewhere, killed {killed} times")
     subprocess.run(["umount", place], check=True)
     configure()
@@ -341,13 +341,13 @@ def imports():
     make_list(first)
     for number in range(1, 1 + sum(2 + (points > 0) for _, _, points, _ in first)):
         for point in (f"{number} before", f"{number} after"):
-            where = " order ".join(reversed(point.split()))
+            where = " command ".join(reversed(point.split()))
             fresh_club()
             same(f"killed {where}", import_stopped(point) != 0, True)
             same(f"killed {where}: again", import_stopped(), 0)
             imported(f"killed {where}", first)
-    same("once more", import_stopped(), 0)
-    imported("once more", first)
+    same("a repeated import", import_stopped(), 0)
+    imported("a repeated import", first)
     make_list(MEMBERS, ";")
     fresh_club()
     import_stopped()
@@ -355,44 +355,44 @@ def imports():
     fresh_club()
     for _ in range(min(given.kills, 40)):
         killed_after(chance.uniform(0.1, 2), ["import", "members.csv", "--yes"], chance if chance.random() < 0.3 else None)
-    same("at random: again", import_stopped(), 0)
+    same("killed at random: again", import_stopped(), 0)
     imported("killed at random", MEMBERS)
     keys = rows("SELECT name, hex(root) FROM keys")
     same("a debit, then the import again", done("debit", "zoe", "1", *YES).splitlines()[-1], "done")
-    same("it has nothing to do", office("import", "members.csv", "--yes")[1].splitlines()[-1], "nothing to do")
-    same("and did nothing", rows("SELECT name, hex(root) FROM keys"), keys)
-    same("nor gave a credit", rows("SELECT credited FROM members WHERE name = 'zoe'"), [(0,)])
+    same("the import has nothing to do", office("import", "members.csv", "--yes")[1].splitlines()[-1], "nothing to do")
+    same("the import changed no key", rows("SELECT name, hex(root) FROM keys"), keys)
+    same("the import gave no credit", rows("SELECT credited FROM members WHERE name = 'zoe'"), [(0,)])
 
 
 def refused_lists():
     """The office refuses these lists before it changes anything."""
     fresh_club()
-    same("no list", office("import", "members.csv", "--yes")[0], 7)
+    same("no file", office("import", "members.csv", "--yes")[0], 7)
     for what, lines, status in (
-        ("no heads", "Amy,5,10", 3),
-        ("another quota", "name,quota,points\nAmy,100,10", 3),
-        ("other points", "name,quota,points\nAmy,1,1000001", 3),
+        ("no column names", "Amy,5,10", 3),
+        ("an invalid quota", "name,quota,points\nAmy,100,10", 3),
+        ("invalid points", "name,quota,points\nAmy,1,1000001", 3),
         ("no name", "name,quota,points\n'--',1,1", 3),
         ("too few cells", "name,quota,points\nAmy,1", 3),
         ("too many cells", "name,quota,points\nAmy,1,1,1,1", 3),
-        ("two of one name", "name,quota,points\nAmy,1,1\nÄmy,1,1\nämy,2,2", 3),
-        ("two of one key", "name,quota,points,key\nAmy,1,1,k\nBob,1,1,K", 3),
+        ("two rows with one name", "name,quota,points\nAmy,1,1\nÄmy,1,1\nämy,2,2", 3),
+        ("two rows with one key", "name,quota,points,key\nAmy,1,1,k\nBob,1,1,K", 3),
         ("no letter", "name,quota,points\n\udc81,1,1", 7),
-        ("no list of members", "name,quota,points\n" + "Amy,1,1\n" * 1_300_000, 3),
-        ("a mail address that is none", "name,quota,points,mail\nAmy,1,1,amy", 3),
+        ("too large for a list of members", "name,quota,points\n" + "Amy,1,1\n" * 1_300_000, 3),
+        ("an invalid mail address", "name,quota,points,mail\nAmy,1,1,amy", 3),
     ):
         LIST.write_text(f"{lines}\n", encoding="utf-8", errors="surrogateescape")
         same(what, office("import", "members.csv", "--yes")[0], status)
-    same("nobody is a member", rows("SELECT * FROM members"), [])
+    same("no member is added", rows("SELECT * FROM members"), [])
     make_list(MEMBERS[:2])
     status, out, _ = office("import", "members.csv", given="n\n")
     same("not confirmed", (status, out.splitlines()[2].split()), (1, ["2", "Amy", "Müller", "amy-mueller", "5", "10000", "amy-mueller-1", "new"]))
-    same("nobody is a member yet", rows("SELECT * FROM members"), [])
+    same("no member is added before the confirmation", rows("SELECT * FROM members"), [])
     run_as("anna", "mkdir", "passes")
     run_as("anna", "sh", "-c", "echo mine >passes/bob-1")
-    same("a file of the pass's name", office("import", "members.csv", "--yes")[0], 1)
-    same("it stays", run_as("anna", "cat", "passes/bob-1")[1], "mine\n")
-    same("nobody is a member then", rows("SELECT * FROM members"), [])
+    same("a file with the pass's name", office("import", "members.csv", "--yes")[0], 1)
+    same("the other file stays", run_as("anna", "cat", "passes/bob-1")[1], "mine\n")
+    same("no member is added after the refusal", rows("SELECT * FROM members"), [])
 
 
 commands_beside_the_desk()

@@ -171,14 +171,14 @@ def within_a_minute(keeper):
         same("a booking", book(number)[0], 200)
         found = soon(60, lambda: [it for it in copies() if it not in before])
         took = time.monotonic() - begun
-        same(f"booking {number} is there within a minute", bool(found) and took < 60, True)
-        same("as it is here", rows_of(FOLDER / copies()[-1]), rows_now())
-        print(f"a booking is there after {took:.1f} s")
-    same("modes there", {(it.owner(), f"{it.stat().st_mode:o}") for it in FOLDER.iterdir()}, {("carl", "100600")})
+        same(f"booking {number} is copied within a minute", bool(found) and took < 60, True)
+        same("the copy has the club's rows", rows_of(FOLDER / copies()[-1]), rows_now())
+        print(f"a booking was copied after {took:.1f} s")
+    same("owners and modes of the copies", {(it.owner(), f"{it.stat().st_mode:o}") for it in FOLDER.iterdir()}, {("carl", "100600")})
     before = copies()
     time.sleep(8)
-    same("nothing without a change", copies(), before)
-    same("the keeper goes on", keeper.process.poll(), None)
+    same("no copy without a change", copies(), before)
+    same("the service keeps running", keeper.process.poll(), None)
     same("the state's mode", mode(HOME / "club-offsite"), "clubdesk 100600")
 
 
@@ -198,35 +198,35 @@ def beside():
 
     wanted = ["beside/book", "beside/people.csv", "beside/reasons", "beside/seasons", "clerks", "conf/club.conf", "conf/club.titles"]
     found = soon(60, lambda: packed() if sorted(packed()) == wanted and b"amy@example.org" in packed()["beside/people.csv"] else None) or packed()
-    same("what goes with a copy", sorted(found), wanted)
+    same("the files in a copy's archive", sorted(found), wanted)
     same("the clerks", found["clerks"], b"anna\nben\n")
     soon(30, lambda: len(list(FOLDER.glob("*.tar"))) == 1)
-    same("only with the newest", [it.name for it in FOLDER.glob("*.tar")], [f"{copies()[-1]}.tar"])
-    same("no person in a copy", [it for it in copies() if b"example.org" in (FOLDER / it).read_bytes()], [])
+    same("only the newest copy has an archive", [it.name for it in FOLDER.glob("*.tar")], [f"{copies()[-1]}.tar"])
+    same("no personal data in a copy", [it for it in copies() if b"example.org" in (FOLDER / it).read_bytes()], [])
 
 
 def listed():
     """`copies` lists the copies on this machine and on the other disk. In both languages, the list shows the age and the size of each copy, and
     whether the copy was tested."""
-    same("a copy of the night", run_as("clubdesk", "/usr/lib/clubdesk/keep_copies", CLUB, HOME / "back-ups", folder="/")[0], 0)
+    same("a nightly copy", run_as("clubdesk", "/usr/lib/clubdesk/keep_copies", CLUB, HOME / "back-ups", folder="/")[0], 0)
     found = [it.split(",") for it in done("copies", "--csv").splitlines()]
     same("the heads", found[0], ["copy", "is", "bytes", "minutes", "tested"])
     same("kinds", {it[1]: it[4] for it in found[1:]}, {"back-up": "opened", "before a correction": "whole", "off-site": "whole"})
     newest = [it for it in found if it[1] == "off-site"][-1]
-    same("the newest there", (newest[0], int(newest[2]), int(newest[3]) < 3), (copies()[-1], (FOLDER / copies()[-1]).stat().st_size, True))
+    same("the newest copy on the other disk", (newest[0], int(newest[2]), int(newest[3]) < 3), (copies()[-1], (FOLDER / copies()[-1]).stat().st_size, True))
     text = done("copies")
-    same("for people", (text.split()[:5], len(re.findall(r"off-site +[0-9]+ minutes +[0-9]+ +whole", text)) > 0), (["copy", "is", "age", "bytes", "tested"], True))
+    same("the list for people", (text.split()[:5], len(re.findall(r"off-site +[0-9]+ minutes +[0-9]+ +whole", text)) > 0), (["copy", "is", "age", "bytes", "tested"], True))
     text = run_as("anna", "env", "LANG=de_DE.UTF-8", "office", "club", "copies")[1]
-    same("in German", (text.split()[:5], "außer Haus" in text, "geöffnet" in text), (["Kopie", "ist", "Alter", "Bytes", "geprüft"], True, True))
+    same("the list in German", (text.split()[:5], "außer Haus" in text, "geöffnet" in text), (["Kopie", "ist", "Alter", "Bytes", "geprüft"], True, True))
 
 
 def restored_from_there():
     """Restores a copy that is only on the other disk."""
     wanted, name = rows_of(FOLDER / copies()[-1]), copies()[-1]
-    same("a booking after it", book(15, 15)[0], 200)
+    same("a booking after the copy", book(15, 15)[0], 200)
     done("debit", "amy", "7", "--yes")
     shown = done("restore", name, "--yes").splitlines()
-    same("what changes, and whom to tell", [it for it in shown if it[:5] in ("loses", "done", "To te", "    A")], [
+    same("the changes, and whom to tell", [it for it in shown if it[:5] in ("loses", "done", "To te", "    A")], [
         f"loses the booking court-1 {DAY} 15:00, 1 person, 1 points: amy-1 15, amy", "done", "To tell:", "    Amy Möller  amy@example.org  +49 1"])
     same("the club of the copy", rows_now(), wanted)
     soon(60, lambda: rows_of(FOLDER / copies()[-1]) == rows_now())
@@ -234,9 +234,9 @@ def restored_from_there():
     kept = broken.read_bytes()
     broken.write_bytes(kept[:-1] + b"x")
     found = office("restore", broken.name, "--yes")
-    same("a copy that was changed there", (found[0], "isn't what was sent there" in found[2]), (5, True))
+    same("a copy that was changed on the other disk", (found[0], "differs from the copy sent there" in found[2]), (5, True))
     broken.write_bytes(kept)
-    whole("a restore from there")
+    whole("a restore from the other disk")
 
 
 def host_down(sshd, keeper):
@@ -245,23 +245,23 @@ def host_down(sshd, keeper):
     health(0)
     sshd.stop()
     book(20)
-    said = soon(40, lambda: "it is tried again" in keeper.said())
-    same("it is said", (said, "Connection refused" in keeper.said()), (True, True))
+    said = soon(40, lambda: "the service will try again" in keeper.said())
+    same("the fault is reported", (said, "Connection refused" in keeper.said()), (True, True))
     time.sleep(3)
-    same("health fails", "nothing is copied to elsewhere:clubs/club since" in health(1, PATIENCE="2"), True)
-    same("but not for a moment", health(0).startswith("well: "), True)
+    same("health fails", "nothing has been copied to elsewhere:clubs/club since" in health(1, PATIENCE="2"), True)
+    same("health tolerates a short failure", health(0).startswith("healthy: "), True)
     status, out, errors = office("copies")
-    same("copies of this machine are listed", (status, "opened" in out, "its copies aren't listed" in errors), (0, True, True))
+    same("copies of this machine are listed", (status, "opened" in out, "the copies there aren't listed" in errors), (0, True, True))
     status, _, errors = run_as("anna", "env", "LANG=de_DE.UTF-8", "office", "club", "restore", "2001-01-01T000000Z", "--yes")
-    same("a copy that isn't there", (status, "abgelehnt: es gibt keine Kopie" in errors), (1, True))
+    same("a missing copy", (status, "abgelehnt: es gibt keine Kopie" in errors), (1, True))
     time.sleep(22)
-    same("said once", keeper.said().count("it is tried again"), 1)
+    same("the fault is reported once", keeper.said().count("the service will try again"), 1)
     before = copies()
     sshd.start()
-    same("it is tried again", bool(soon(60, lambda: [it for it in copies() if it not in before])), True)
-    same("and what was booked meanwhile is there", soon(30, lambda: rows_of(FOLDER / copies()[-1]) == rows_now()), True)
-    same("which is said", soon(10, lambda: "takes copies again" in keeper.said()), True)
-    same("health is well", soon(40, lambda: health(None, PATIENCE="2").startswith("well: ")), True)
+    same("the service tries again", bool(soon(60, lambda: [it for it in copies() if it not in before])), True)
+    same("the copy has the bookings made meanwhile", soon(30, lambda: rows_of(FOLDER / copies()[-1]) == rows_now()), True)
+    same("the recovery is reported", soon(10, lambda: "accepts copies again" in keeper.said()), True)
+    same("health passes again", soon(40, lambda: health(None, PATIENCE="2").startswith("healthy: ")), True)
 
 
 def health(status, **more):
@@ -277,10 +277,10 @@ def health(status, **more):
 def nobody_looks(keeper):
     keeper.stop()
     time.sleep(3)
-    same("nobody copies", "nobody copies to elsewhere:clubs/club since" in health(1, PATIENCE="2"), True)
+    same("the service is stopped", "the service that copies to elsewhere:clubs/club has been silent since" in health(1, PATIENCE="2"), True)
     state = (HOME / "club-offsite").read_bytes()
     (HOME / "club-offsite").unlink()
-    same("nothing was copied", "nothing was copied to elsewhere:clubs/club yet" in health(1), True)
+    same("no copy yet", "nothing has been copied to elsewhere:clubs/club yet" in health(1), True)
     (HOME / "club-offsite").write_bytes(state)
     shutil.chown(HOME / "club-offsite", "clubdesk", "clubdesk")
 
@@ -322,12 +322,12 @@ def kept_by_rule():
     for back in range(12):
         year, month = divmod(today.year * 12 + today.month - 1 - back, 12)
         wanted |= set([it for it in counted if it.startswith(f"{year}-{month + 1:02}-")][:1])
-    same("the copies that are kept", sorted(copies()), sorted(wanted))
+    same("the kept copies", sorted(copies()), sorted(wanted))
     same("other files stay", (FOLDER / "notes").read_text(), "mine")
     listed_there = {line.split()[0] for line in (FOLDER / "tested").read_text().splitlines()}
-    same("the list of what was tested has no name that is gone", [it for it in listed_there if not (FOLDER / it).exists()], [])
+    same("the list of tested copies has only existing copies", [it for it in listed_there if not (FOLDER / it).exists()], [])
     found = {it.split(",")[4] for it in done("copies", "--csv").splitlines() if it.startswith(tuple(made - listed_there))}
-    same("what was never tested is said", found, {"no"})
+    same("untested copies are marked", found, {"no"})
     for name in made - listed_there:
         (FOLDER / name).unlink(missing_ok=True)
 
@@ -345,10 +345,10 @@ def torn():
         ssh.write_text(f"#!/bin/sh\n{script}\n")
         ssh.chmod(0o755)
         status, _, errors = once()
-        same(f"a transfer that is {what}", (status, "what came there is not what was sent" in errors), (5, True))
-        same(f"{what}: what is there", sorted(it.name for it in FOLDER.iterdir()), before)
+        same(f"a transfer that is {what}", (status, "the transferred bytes differ from the sent bytes" in errors), (5, True))
+        same(f"{what}: the other disk's files", sorted(it.name for it in FOLDER.iterdir()), before)
         shutil.copy2(whole_one, ssh)
-    same("then it is there", (once()[0], rows_of(FOLDER / copies()[-1])), (0, rows_now()))
+    same("the next transfer succeeds", (once()[0], rows_of(FOLDER / copies()[-1])), (0, rows_now()))
 
 
 def full_there():
@@ -359,9 +359,9 @@ def full_there():
             fill.write(bytes(4096))
     book(50)
     status, _, errors = once()
-    same("a full disk there", (status, "No space left" in errors, copies(), list(FOLDER.glob(".new.2*"))), (5, True, before, []))
+    same("a full disk on the other machine", (status, "No space left" in errors, copies(), list(FOLDER.glob(".new.2*"))), (5, True, before, []))
     (AWAY / "fill").unlink()
-    same("room again", (once()[0], rows_of(FOLDER / copies()[-1])), (0, rows_now()))
+    same("space again", (once()[0], rows_of(FOLDER / copies()[-1])), (0, rows_now()))
 
 
 # ---- A folder that is mounted.
@@ -374,9 +374,9 @@ def mounted():
     place.mkdir()
     configure(OFFSITE=place)
     status, _, errors = once()
-    same("a folder of the own disk, or of the machine's", (status, "is it mounted?" in errors), (5, True))
+    same("a folder on the club's own disk", (status, "is it mounted?" in errors), (5, True))
     configure(OFFSITE="/var/lib/none")
-    same("none", (once()[0], "is it mounted?" in once()[2]), (5, True))
+    same("a missing folder", (once()[0], "is it mounted?" in once()[2]), (5, True))
     run("mount", "-t", "tmpfs", "-o", "uid=0,mode=777", "tmpfs", place)
     configure(OFFSITE=place)
     same("a mounted folder", once()[0], 0)
@@ -385,11 +385,11 @@ def mounted():
     for wrong in ("elsewhere", "-oProxyCommand=x:folder", "elsewhere:", "a b:c"):
         configure(OFFSITE=wrong)
         status, _, errors = once()
-        same(f"no place: {wrong}", (status, "is no HOST:FOLDER" in errors), (5, True))
+        same(f"an invalid place: {wrong}", (status, "is neither HOST:FOLDER" in errors), (5, True))
     configure()
-    same("no place at all", once()[0], 1)
+    same("no place", once()[0], 1)
     configure(OFFSITE="elsewhere:clubs/club")
-    same("the other place again", once()[0], 0)
+    same("the ssh server again", once()[0], 0)
 
 
 # ---- The public name and its certificate.
@@ -434,19 +434,19 @@ def public_name():
     def asked(status, port=None):
         line = ["env", f"CURL_CA_BUNDLE={ROOM}/site.pem", "/usr/lib/clubdesk/check_health", CLUB, str(port or server.port), CONF / "club.health", f"https://{SITE}"]
         found, out, errors = run_as("clubdesk", *line, folder="/")
-        same(f"by the public name: {out}{errors}", found, status)
+        same(f"health by the public name: {out}{errors}", found, status)
         return out + errors
 
     with site_for(40):
         until = (datetime.datetime.now(datetime.timezone.utc) + datetime.timedelta(40)).date()
-        same("well", f"also at https://{SITE}, whose certificate is good until {until}" in asked(0), True)
+        same("a healthy site", f"also at https://{SITE}, whose certificate is valid until {until}" in asked(0), True)
     with site_for(9):
         until = (datetime.datetime.now(datetime.timezone.utc) + datetime.timedelta(9)).date()
-        same("nine days more", f"the certificate of {SITE} is good until {until}: it is to be renewed" in asked(1), True)
-    same("no site", f"the desk isn't well at https://{SITE}: curl: (7)" in asked(1), True)
+        same("a certificate for nine more days", f"the certificate of {SITE} is valid until {until}: renew it" in asked(1), True)
+    same("a stopped site", f"the desk doesn't answer as expected at https://{SITE}: curl: (7)" in asked(1), True)
 
 
-# ---- What is counted.
+# ---- Metrics.
 
 
 def counted():
@@ -473,11 +473,11 @@ echo "-- cursor: $(wc -l <{lines})"
         same(f"metrics {errors}", status, 0)
         text = (folder / "clubdesk_club.prom").read_text()
         odd = [it for it in text.splitlines() if not re.fullmatch(r'# (HELP|TYPE) clubdesk_[a-z_]+ .*|clubdesk_[a-z_]+\{club="club"(,[a-z]+="[^"\\]*")*\} [0-9.+Inf]+', it)]
-        same("lines that are none", odd, [])
+        same("malformed lines", odd, [])
         return dict(it.rsplit(" ", 1) for it in text.splitlines() if it[0] != "#")
 
     first = read()
-    same("the first time nothing was counted", [it for it in first if "requests_total" in it], [])
+    same("the first run counts no requests", [it for it in first if "requests_total" in it], [])
     with open(lines, "a", encoding="ascii") as more:
         more.write(line.format(200, 3000) * 3 + line.format(409, 40_000) + "- - - - 7000000\n" + "listening on 127.0.0.1:8080\n")
     orders = int(read()['clubdesk_orders_total{club="club",status="0"}'])
@@ -488,14 +488,14 @@ echo "-- cursor: $(wc -l <{lines})"
          {'clubdesk_requests_total{club="club",status="-"}': "1", 'clubdesk_requests_total{club="club",status="200"}': "3", 'clubdesk_requests_total{club="club",status="409"}': "1"})
     same("their time", [found[f'clubdesk_request_seconds{it}'] for it in ('_bucket{club="club",le="0.005"}', '_bucket{club="club",le="0.05"}', '_bucket{club="club",le="+Inf"}', '_count{club="club"}', '_sum{club="club"}')],
          ["3", "4", "5", "5", "7.049"])
-    same("orders", int(found['clubdesk_orders_total{club="club",status="0"}']) - orders, 1)
-    same("a refused one", 'clubdesk_orders_total{club="club",status="1"}' in found, True)
+    same("commands", int(found['clubdesk_orders_total{club="club",status="0"}']) - orders, 1)
+    same("a refused command", 'clubdesk_orders_total{club="club",status="1"}' in found, True)
     version = run_as("clubdesk", "clubdesk", "--version", folder="/")[1].split()[1]
     same("the version", found[f'clubdesk_info{{club="club",version="{version}"}}'], "1")
     same("the size", found['clubdesk_file_bytes{club="club",file="club"}'], str(CLUB.stat().st_size))
     same("ages", [int(found[f'clubdesk_copy_age_seconds{{club="club",place="{it}"}}']) < 600 for it in ("here", "off-site")], [True, True])
     same("its mode", mode(folder / "clubdesk_club.prom"), "clubdesk 100644")
-    same("nothing else", [it.name for it in folder.iterdir()], ["clubdesk_club.prom"])
+    same("no other files", [it.name for it in folder.iterdir()], ["clubdesk_club.prom"])
 
 
 # ---- The machine is gone.
@@ -509,7 +509,7 @@ def brought_back():
     run("chown", "root:clubdesk", CONF / "club.health")
     (CONF / "club.health").chmod(0o640)
     same("a last copy", once()[0], 0)
-    same("the old year is there", (FOLDER / "until-2025-12-31").read_bytes(), (HOME / "club-until-2025-12-31").read_bytes())
+    same("the old year's file is copied", (FOLDER / "until-2025-12-31").read_bytes(), (HOME / "club-until-2025-12-31").read_bytes())
     wanted, people = rows_now(), (HOME / "club-people.csv").read_bytes()
     seasons, year = (HOME / "club-seasons").read_bytes(), {it.name: it.read_bytes() for it in HOME.glob("club-until-*")}
     lost = book(99, 11, 3)
@@ -521,12 +521,12 @@ def brought_back():
     line = ["clubdesk-setup", "--from", "elsewhere:clubs/club"]
     status, _, errors = run_as("root", *line, "--copy", "2001-01-01T000000Z", folder="/")
     same("no such copy", (status, "has no copy 2001-01-01T000000Z" in errors), (1, True))
-    same("nothing is made", (list(CONF.iterdir()), [it for it in HOME.iterdir() if it.name != ".ssh"]), ([], []))
+    same("no file is made", (list(CONF.iterdir()), [it for it in HOME.iterdir() if it.name != ".ssh"]), ([], []))
     begun = time.monotonic()
     status, out, errors = run_as("root", *line, folder="/")
-    same(f"it is brought back: {errors}", status, 0)
-    print(f"brought back in {time.monotonic() - begun:.1f} s")
-    same("what is said", [it for it in (f"made  {CONF}/club.conf", f"made  {CLUB}, as it was at ", "made  the clerk ben") if it not in out], [])
+    same(f"the restore succeeds: {errors}", status, 0)
+    print(f"restored in {time.monotonic() - begun:.1f} s")
+    same("the output", [it for it in (f"made  {CONF}/club.conf", f"made  {CLUB}, as it was at ", "made  the clerk ben") if it not in out], [])
     same("the rows", rows_now(), wanted)
     same("persons, the season, old years", ((HOME / "club-people.csv").read_bytes(), (HOME / "club-seasons").read_bytes(), {it.name: it.read_bytes() for it in HOME.glob("club-until-*")}),
          (people, seasons, year))
@@ -535,12 +535,12 @@ def brought_back():
     same("the clerks", sorted(grp.getgrnam("office").gr_mem), ["anna", "ben"])
     before = {it: it.stat().st_mtime_ns for it in [*CONF.iterdir(), *HOME.glob("club*")]}
     status, out, _ = run_as("root", *line, folder="/")
-    same("again it changes nothing", (status, "made" in out, {it: it.stat().st_mtime_ns for it in before}), (0, False, before))
+    same("a second restore changes nothing", (status, "made" in out, {it: it.stat().st_mtime_ns for it in before}), (0, False, before))
     again = Service(server.port, at=f"{datetime.date.today()}T08:00")
-    same("what was lost is booked anew", again.answer(amy, "PUT", f"/slots/court-1/{DAY}/11/bookings/99", '{"guests":3}'), lost)
-    same("what wasn't is repeated", again.answer(amy, "PUT", f"/slots/court-1/{DAY}/10/bookings/1", '{"guests":0}')[0], 200)
+    same("a repeat makes the lost booking again", again.answer(amy, "PUT", f"/slots/court-1/{DAY}/11/bookings/99", '{"guests":3}'), lost)
+    same("a repeat of a booking that wasn't lost", again.answer(amy, "PUT", f"/slots/court-1/{DAY}/10/bookings/1", '{"guests":0}')[0], 200)
     same("the season's points aren't given twice", office("credit-all", "10", "--as", "season-1", "--yes")[0], 1)
-    whole("a club that was brought back")
+    whole("a restored club")
     again.stop()
 
 
@@ -562,14 +562,14 @@ def hostile_archive():
     (FOLDER / f"{newest}.tar").write_bytes(made.getvalue())
     for it in [*CONF.iterdir(), *HOME.glob("club*")]:
         shutil.rmtree(it) if it.is_dir() else it.unlink()
-    same("an archive of others", run_as("root", "clubdesk-setup", "--from", "elsewhere:clubs/club", folder="/")[0], 0)
+    same("an archive with other files", run_as("root", "clubdesk-setup", "--from", "elsewhere:clubs/club", folder="/")[0], 0)
     found = [str(it) for top in (Path("/etc"), Path("/srv"), HOME, Path("/")) for it in top.glob("**/evil*" if top != Path("/") else "evil*")]
-    same("nothing elsewhere", (found, sorted(it.name for it in CONF.iterdir())), ([], ["club.conf", "club.health", "club.titles"]))
+    same("no other files", (found, sorted(it.name for it in CONF.iterdir())), ([], ["club.conf", "club.health", "club.titles"]))
     (FOLDER / f"{newest}.tar").write_bytes(b"no archive")
     for it in [*CONF.iterdir(), *HOME.glob("club*")]:
         shutil.rmtree(it) if it.is_dir() else it.unlink()
     status, _, errors = run_as("root", "clubdesk-setup", "--from", "elsewhere:clubs/club", folder="/")
-    same("an archive that is none", (status, "can't be read" in errors, "Traceback" in errors), (1, True, False))
+    same("an invalid archive", (status, "can't be read" in errors, "Traceback" in errors), (1, True, False))
 
 
 CONF.mkdir(exist_ok=True)

@@ -16,18 +16,18 @@ from office_room import CLUB, HOME, NOON, TESTS, begun, configure, desk, done, m
 def before_there_is_a_club():
     same("a club that isn't configured", office("members"), (1, "", "refused: no club club is configured: there is no /etc/clubdesk/club.conf\n"))
     for wrong in ("../club", "Club", "-club", "", "club;id", "a" * 25):
-        same(f"no name of a club: {wrong!r}", run_as("anna", "office", "--", wrong, "members")[0], 3)
+        same(f"an invalid club name: {wrong!r}", run_as("anna", "office", "--", wrong, "members")[0], 3)
     configure()
     Path("/etc/clubdesk/empty.conf").write_text("zone = UTC0\n", encoding="ascii")
     same("a configuration without a file", office("members", club="empty")[0], 5)
     for words in (["members"], ["credit", "amy", "5"], ["sheet", DAY], ["debit", "amy", "5", "--yes"], ["check"]):
         refused(words, 1, f"refused: there is no file {CLUB}", keeps=False)
         same("no file is made", [it for it in os.listdir(HOME) if it in ("club", "club-wal")], [])
-    same("a clerk of no group", office("new", by="carl")[0], 1)
-    same("nothing is made", CLUB.exists(), False)
+    same("a user who isn't a clerk", office("new", by="carl")[0], 1)
+    same("no file is made by that user", CLUB.exists(), False)
     same("new", done("new"), "done\n")
     same("the file's owner and mode", mode(CLUB), "clubdesk 100600")
-    refused(["new"], 1, "refused: exists")
+    refused(["new"], 1, f"refused: the file {CLUB} already exists")
 
 
 def as_nobody_else():
@@ -60,7 +60,7 @@ def commands_and_looks():
     for words in (["add-member", "Amy", "5"], ["credit", "amy'; DROP TABLE members; --", "5"], ["close-slot", "court-1", "2026-02-30", "09"]):
         same(" ".join(words), office(*words), (3, "", "bad value\n"))
     for words in (["add-member", "amy"], ["credit"], ["serve", "--port", "0"], ["pause", "5"], ["import-row", "amy", "1", "1", "x"], ["credi", "amy", "1"]):
-        same(f"no words: {words}", office(*words)[0], 2)
+        same(f"invalid words: {words}", office(*words)[0], 2)
     same("the version", run_as("anna", "office", "--version")[1], run_as("anna", "clubdesk", "--version")[1].replace("clubdesk", "office"))
 
 
@@ -69,11 +69,11 @@ def passes():
     same("a pass in a file", done("add-key", "amy-1", "amy", "--to", "amy-1"), "")
     text = run_as("anna", "cat", "amy-1")[1]
     same("its mode", run_as("anna", "stat", "-c", "%a %U", "amy-1")[1], "600 anna\n")
-    refused(["add-key", "amy-2", "amy", "--to", "amy-1"], 1, "refused: there is a file amy-1 already")
+    refused(["add-key", "amy-2", "amy", "--to", "amy-1"], 1, "refused: the file amy-1 already exists")
     same("the file stays", run_as("anna", "cat", "amy-1")[1], text)
-    refused(["add-key", "amy-2", "amy", "--to", "/root/amy-2"], 7, "no leave to write to /root")
+    refused(["add-key", "amy-2", "amy", "--to", "/root/amy-2"], 7, "no permission to write to /root")
     refused(["add-key", "amy-1", "amy", "--to", "other"], 1, "refused: exists")
-    same("no file of a refused order", run_as("anna", "ls", "-A")[1].split(), [".bash_logout", ".bashrc", ".profile", "amy-1"])
+    same("no file of a refused command", run_as("anna", "ls", "-A")[1].split(), [".bash_logout", ".bashrc", ".profile", "amy-1"])
     root = "5ec4e7" + "0" * 58
     shown = done("add-key", "bob-1", "bob", "--root-stdin", given=root + "\n")
     same("a root from standard input", run_as("anna", "passtool", "verify", "--root", root, given=shown)[1], "signed\n")
@@ -108,20 +108,20 @@ def lists(server, amy, bob):
     same("bookings of a day", lines("bookings", DAY, "--csv")[1:], [
         "2026-05-01,7,boat-1,bob,bob-2,3,2,100", "2026-05-01,18,court-1,amy,amy-1,7,3,600"])
     same("bookings of a facility", lines("bookings", "court-2", "--csv", *AT)[1:], ["2026-04-21,10,court-2,amy,amy-1,8,1,200"])
-    same("bookings of before", lines("bookings", "court-2", "--csv", "--at", "2026-04-22T00:00")[1:], [])
+    same("no past bookings", lines("bookings", "court-2", "--csv", "--at", "2026-04-22T00:00")[1:], [])
     same("all bookings", lines("bookings", "court-2", "--all", "--csv", "--at", "2026-04-22T00:00")[1:], [
         "2026-04-21,10,court-2,amy,amy-1,8,1,200,no,0"])
     same("money", done("money", "amy", "--csv"), "member,credited,charged,refunded,balance\namy,10000,800,0,9200\n")
-    same("money of all", len(lines("money")), 3)
+    same("money of all members", len(lines("money")), 3)
     same("closed", done("closed", "--csv", *AT), f"facility,day,hour\ncourt-1,{DAY},9\n")
     same("check", done("check"), "the stored totals match the sums of the bookings\n")
     for words, status in ((["keys", "nobody"], 1), (["bookings", "nobody"], 1), (["bookings", "2026-13-01"], 3), (["money", "x'y"], 3), (["keys", "a b"], 3)):
         refused(words, status, "refused" if status == 1 else "bad value")
-    same("what a list leaves", [f for f in os.listdir(HOME) if f.startswith(".")], [])
+    same("files that a list leaves", [f for f in os.listdir(HOME) if f.startswith(".")], [])
     begun = server.starts
     for _ in range(5):
         done("members")
-    same("lists leave the server alone", server.starts, begun)
+    same("lists don't restart the server", server.starts, begun)
 
 
 def takes_turns():
@@ -133,34 +133,34 @@ def takes_turns():
         fcntl.flock(turn, fcntl.LOCK_EX)
         commands = [begun(*words) for words in (["credit", "amy", "1"], ["debit", "amy", "1", *YES])]
         for command in commands:
-            same("it says that it waits", command.stderr.readline(), "waiting for another command\n")
-        same("both wait", [command.poll() for command in commands], [None, None])
+            same("a command prints that it waits", command.stderr.readline(), "waiting for another command\n")
+        same("both commands wait", [command.poll() for command in commands], [None, None])
         before = balance()
     for command in commands:
         command.communicate()
-    same("both are done then", [command.returncode for command in commands], [0, 0])
-    same("and in turn", balance(), before)
+    same("both commands succeed", [command.returncode for command in commands], [0, 0])
+    same("the balance after both commands", balance(), before)
     with ThreadPoolExecutor(7) as pool:
         for _ in range(6):
             pool.submit(done, "credit", "amy", "10", by="ben")
         pool.submit(done, "debit", "amy", "5", *YES)
-    same("seven at once", balance(), before + 55)
+    same("seven simultaneous commands", balance(), before + 55)
 
 
 def in_the_book():
     found = book_lines()
-    same("its first lines", found[:3], ["anna 0 new", "anna 1 new", "anna 0 add-member amy 5"])
+    same("the book's first lines", found[:3], ["anna 0 new", "anna 1 new", "anna 0 add-member amy 5"])
     same("each line", [line for line in lines("log") if not re.fullmatch(LINE, line)], [])
-    same("by another clerk", len([line for line in found if line.split()[0] == "ben"]), 6)
-    same("a refused order", [line for line in found if " credit nobody " in line], ["anna 1 credit nobody 5"])
+    same("lines of another clerk", len([line for line in found if line.split()[0] == "ben"]), 6)
+    same("a refused command", [line for line in found if " credit nobody " in line], ["anna 1 credit nobody 5"])
     same("a word with spaces", [line for line in found if "DROP" in line and " credit " in line], ["anna 3 credit 'amy'\"'\"'; DROP TABLE members; --' 5"])
-    same("of bob", book_lines("bob")[:2], ["anna 0 add-member bob 2", "anna 0 credit bob 3000"])
+    same("lines with bob", book_lines("bob")[:2], ["anna 0 add-member bob 2", "anna 0 credit bob 3000"])
     same("a refused correction", [line for line in found if " cancel amy-1 77 " in line], [f"anna 1 cancel amy-1 77 --at {NOON}"])
-    same("no look", [line for line in found if line.split()[2] in ("sheet", "members", "show-account", "log")], [])
+    same("no lines for lists", [line for line in found if line.split()[2] in ("sheet", "members", "show-account", "log")], [])
     same("its mode", mode(BOOK), "clubdesk 100600")
     TURN.write_text("2026-04-20T12:00:00 ben ? credit amy 7\n", encoding="ascii")
     done("credit", "amy", "1")
-    same("an order that was broken off", book_lines()[-2:], ["ben ? credit amy 7", "anna 0 credit amy 1"])
+    same("an interrupted command", book_lines()[-2:], ["ben ? credit amy 7", "anna 0 credit amy 1"])
 
 
 def in_the_journal():
@@ -180,13 +180,13 @@ def in_the_journal():
     time.sleep(1)
     seen = run_as("root", "journalctl", "--quiet", "--no-pager", "--output=cat", "SYSLOG_IDENTIFIER=clubdesk-office", folder="/")[1]
     same("the forged line is in the journal", "credit amy 13" in seen, True)
-    same("the book of the journal, and the file's", book_lines(), [*was, "anna 0 credit amy 11", "ben 0 credit amy 12"])
+    same("the lines in the journal and in the file", book_lines(), [*was, "anna 0 credit amy 11", "ben 0 credit amy 12"])
     same("the file stays", BOOK.read_bytes(), kept)
     long = ["x\u2028" * 200] * 6
-    same("a long order", office("add-facility", *long)[0], 3)
+    same("a long command", office("add-facility", *long)[0], 3)
     time.sleep(1)
     (line,) = (line for line in lines("log") if " add-facility 'x" in line)
-    same("its line is cut", (len(line) < 8_000, line.endswith(" bytes]")), (True, True))
+    same("the long command's line is truncated", (len(line) < 8_000, line.endswith(" bytes]")), (True, True))
     journal.terminate()
     journal.wait()
     entry.unlink()

@@ -102,11 +102,11 @@ SUMS = {
     "keys": "SELECT name, member, hex(root), revoked FROM keys ORDER BY rowid",
     "older roots": "SELECT pass_key, hex(root), until FROM old_roots ORDER BY rowid",
     "facilities": "SELECT * FROM facilities ORDER BY rowid",
-    "what keys have spent": "SELECT pass_key, sum(charge - refund) FROM bookings GROUP BY pass_key HAVING sum(charge - refund) > 0 ORDER BY pass_key",
-    "bookings to come": "SELECT * FROM bookings WHERE day >= 20453 ORDER BY rowid",
-    "slots to come": "SELECT * FROM slots WHERE day >= 20453 ORDER BY rowid",
-    "sheets to come": "SELECT day, count(*), sum(guests + 1), sum(charge) FROM bookings WHERE cancelled = 0 AND day >= 20453 GROUP BY day",
-    "all that is spent": "SELECT sum(charge - refund) FROM bookings",
+    "points spent by keys": "SELECT pass_key, sum(charge - refund) FROM bookings GROUP BY pass_key HAVING sum(charge - refund) > 0 ORDER BY pass_key",
+    "future bookings": "SELECT * FROM bookings WHERE day >= 20453 ORDER BY rowid",
+    "future slots": "SELECT * FROM slots WHERE day >= 20453 ORDER BY rowid",
+    "future sheets": "SELECT day, count(*), sum(guests + 1), sum(charge) FROM bookings WHERE cancelled = 0 AND day >= 20453 GROUP BY day",
+    "all spent points": "SELECT sum(charge - refund) FROM bookings",
 }
 
 
@@ -140,12 +140,12 @@ def goes_on():
     ROOM.chmod(0o755)
     server = Service(at=NOW)
     configure(PORT=server.port, PAGES=pages, ZONE_NAME="Etc/UTC", SITE="https://desk.example.org", OFFSITE=place)
-    same("a new year isn't undone", office("undo", "--yes")[::2], (1, "refused: there is no correction to undo; `office club copies` has the club of before each\n"))
-    same("the copy of before it", "-new-year,before a correction," in done("copies", "--csv"), True)
+    same("a new year can't be undone", office("undo", "--yes")[::2], (1, "refused: there is no correction to undo; `office club copies` lists the copies from before corrections\n"))
+    same("the copy from before the new year", "-new-year,before a correction," in done("copies", "--csv"), True)
     credited = dict(rows("SELECT name, credited FROM members WHERE quota > 0"))
     done("credit-all", "70", "--as", "season-2026", "--yes")
     same("points for all", dict(rows("SELECT name, credited FROM members WHERE quota > 0")), {name: points + 70 for name, points in credited.items()})
-    same("once", office("credit-all", "70", "--as", "season-2026", "--yes")[0], 1)
+    same("the points only once", office("credit-all", "70", "--as", "season-2026", "--yes")[0], 1)
     same("a booking for a caller", done("book", "eve", "court-1", "2026-01-07", "9").split(",")[0], "booked court-1 2026-01-07 09:00 for eve")
     same("its cancellation", done("cancel-for", "eve", "court-1", "2026-01-07", "9").split(",")[0], "cancelled court-1 2026-01-07 09:00 of eve")
     same("a weekly closure", done("close", "2026-01-12..2026-01-26", "20-22", "court-1", "--weekday", "mon", "--why", "League", "--yes").splitlines()[-1], "done")
@@ -153,7 +153,7 @@ def goes_on():
     done("undo", "--yes")
     same("undone", rows("SELECT count(*) FROM slots WHERE closed = 1 AND day >= 20465"), [(0,)])
     same("the page's list", done("page"), f"{pages / 'club.json'}: done\n")
-    same("a record has what is to come, and what was carried forward", done("record", "amy-1").count("\n"),
+    same("a record has future bookings and what was carried forward", done("record", "amy-1").count("\n"),
          1 + rows("SELECT count(*) FROM bookings WHERE pass_key = 'amy-1'")[0][0])
     done("lost-pass", "bob-1", "--to", "bob-1")
     same("letters", done("letters", "bob-1", "--passes", "."), "1 sheets for 1 members are in letters.html\n")
@@ -161,8 +161,8 @@ def goes_on():
     same("the board's page of the old year", done("report", "2025").split(",")[0].strip(), "the report is in report-2025.html")
     (sent,) = kept_files()
     same("copied elsewhere", run_as("clubdesk", "/usr/lib/clubdesk/copy_offsite", "club", "--once", folder="/")[0], 0)
-    same("with the old year", sum_of(place / sent.name.removeprefix("club-")), sum_of(sent))
-    same("and listed", ",off-site," in done("copies", "--csv"), True)
+    same("the old year's file is copied too", sum_of(place / sent.name.removeprefix("club-")), sum_of(sent))
+    same("the copy is listed", ",off-site," in done("copies", "--csv"), True)
     same("the totals", done("check"), "the stored totals match the sums of the bookings\n")
     server.stop()
     subprocess.run(["umount", place], check=True)
@@ -178,18 +178,18 @@ desk("sheet", "2025-12-31")
 original = ROOM / "original"
 subprocess.run(["cp", "-p", CLUB, original], check=True)
 bookings = rows("SELECT count(*), sum(day < 20453), sum(day < 20453 AND cancelled = 0) FROM bookings")[0]
-print(f"{bookings[0]} bookings, {bookings[1]} of them over")
+print(f"{bookings[0]} bookings, {bookings[1]} of them past")
 wanted = replies(asked)
 put_back()
 
 status, _, errors = office("new-year", "--before", "2026-01-01", *YES)
-same("a day to come", (status, errors), (1, "refused: 2026-01-01 is to come\n"))
+same("a future day", (status, errors), (1, "refused: 2026-01-01 is in the future\n"))
 status, out, _ = office("new-year", "--at", NOW, given="no\n")
 same("not confirmed", (status, sum_of(CLUB), kept_files()), (1, sum_of(original), []))
 shown = done("new-year", *YES).splitlines()
 old_file = HOME / "club-until-2025-12-30"
-same("what it says", shown[0], f"copies the whole file to {old_file}")
-same("the old file is kept as it was", (kept_files(), sum_of(old_file)), ([old_file], sum_of(original)))
+same("the preview", shown[0], f"copies the whole file to {old_file}")
+same("the old file is kept unchanged", (kept_files(), sum_of(old_file)), ([old_file], sum_of(original)))
 same("its owner and mode", mode(old_file), "clubdesk 100600")
 same_sums("")
 whole("a new year")
@@ -197,14 +197,14 @@ carried = rows("SELECT count(*), sum(cancelled), sum(refund), max(day) FROM book
 with opened(original) as database:
     costs = database.execute("SELECT sum(charge - refund) FROM bookings WHERE day < 20453 GROUP BY pass_key HAVING sum(charge - refund) > 0").fetchall()
 parts = sum(-(-cost // 499950) for (cost,) in costs)
-same("what is carried forward", carried, (parts, parts, 0, 20452))
-same("a key with more than a row holds", parts > len(costs), True)
+same("the carried points", carried, (parts, parts, 0, 20452))
+same("a key that needs several rows", parts > len(costs), True)
 same("the file is smaller", CLUB.stat().st_size < original.stat().st_size, True)
 for request, old, new in zip(asked, wanted, replies(asked), strict=True):
     same(f"{request}", new, old)
 same("sheets", (0, done("sheet", "2026-01-04")), desk("sheet", "2026-01-04"))
-same("once more", office("new-year", *YES)[0], 1)
-same_sums(", once more", "keys", "older roots", "facilities")
+same("a second new-year", office("new-year", *YES)[0], 1)
+same_sums(", after a second new-year", "keys", "older roots", "facilities")
 
 goes_on()
 
@@ -220,10 +220,10 @@ for attempt in range(min(count // 60, 25)):
     same_sums(", killed")
     whole("a killed new year")
     if was_done:
-        same("the old file, killed", sum_of(kept_files()[0]), sum_of(original))
+        same("the old file after a killed new-year", sum_of(kept_files()[0]), sum_of(original))
     elif attempt % 5 == 0:
         done("new-year", *YES)
-        same("the old file, after a kill", sum_of(original) in map(sum_of, kept_files()), True)
-        same_sums(", after a kill")
+        same("the old file after a repeat", sum_of(original) in map(sum_of, kept_files()), True)
+        same_sums(", after a repeat")
 print(f"killed {sum(outcomes.values())} times: {outcomes}")
 leave()

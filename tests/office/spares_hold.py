@@ -34,13 +34,13 @@ def pass_in(folder, key):
 def imports():
     (HOME / "season.csv").write_text("first name,surname\nAmy,Ray\nMaximiliane,Oberhuber\n", encoding="utf-8")
     out = done("import", "season.csv", "--quota", "5", "--points", "1000", "--passes", "season", "--yes")
-    same("what an import says", [line for line in out.splitlines() if "spare" in line], [f"{it[:-7] if it.startswith('ray') else LONG}: spare pass {it}" for it in [*SPARES, *LONG_SPARES]])
+    same("the output of an import", [line for line in out.splitlines() if "spare" in line], [f"{it[:-7] if it.startswith('ray') else LONG}: spare pass {it}" for it in [*SPARES, *LONG_SPARES]])
     same("keys of an import", (keys_of("ray-amy"), keys_of(LONG)), (["ray-amy-1", *SPARES], [f"{LONG}-1", *LONG_SPARES]))
     same("points are credited once", rows("SELECT credited FROM members ORDER BY name"), [(1000,), (1000,)])
     root = rows(f"SELECT hex(root) FROM keys WHERE name = '{SPARES[1]}'")[0][0]
     same("a spare pass", run_as("anna", "passtool", "verify", "--root", root, given=pass_in("season", SPARES[1]))[1], "signed\n")
     out = done("import", "season.csv", "--quota", "5", "--points", "1000", "--passes", "season", "--yes")
-    same("an import given again", out.splitlines()[-1], "nothing to do")
+    same("a repeated import", out.splitlines()[-1], "nothing to do")
     whole("an import with spare keys")
 
 
@@ -73,14 +73,14 @@ def by_the_menu():
 
 def by_the_command():
     spares = ["lee-cy-lend-1", "lee-cy-lend-2"]
-    same("what add-member says", done("add-member", "lee-cy", "5").splitlines(), ["done", *(f"lee-cy: spare pass {it}" for it in spares)])
+    same("the output of add-member", done("add-member", "lee-cy", "5").splitlines(), ["done", *(f"lee-cy: spare pass {it}" for it in spares)])
     same("its keys", keys_of("lee-cy"), spares)
     root = rows(f"SELECT hex(root) FROM keys WHERE name = '{spares[0]}'")[0][0]
     same("its spare pass", run_as("anna", "passtool", "verify", "--root", root, given=pass_in("passes", spares[0]))[1], "signed\n")
-    same("given again", office("add-member", "lee-cy", "5")[0], 1)
+    same("a repeated add-member", office("add-member", "lee-cy", "5")[0], 1)
     (HOME / "passes" / "lee-dot-lend-2").write_text("another's\n", encoding="utf-8")
     status, _, errors = office("add-member", "lee-dot", "5")
-    same("a file is there", (status, errors, rows("SELECT count(*) FROM members WHERE name = 'lee-dot'")), (1, "refused: there is a file passes/lee-dot-lend-2 already\n", [(0,)]))
+    same("an existing file", (status, errors, rows("SELECT count(*) FROM members WHERE name = 'lee-dot'")), (1, "refused: the file passes/lee-dot-lend-2 already exists\n", [(0,)]))
     whole("spare keys of a new member")
 
 
@@ -90,10 +90,10 @@ def at_the_desk():
     slot = "/slots/court-1/2026-05-01/18/bookings"
     same("her own booking", server.answer(own, "PUT", f"{slot}/7", '{"guests":0}'), (200, '{"booking":"ray-amy-1/7","charge":200,"left":3}'))
     same("under a spare pass", server.answer(spare, "PUT", f"{slot}/7", '{"guests":1}'), (200, f'{{"booking":"{SPARES[0]}/7","charge":400,"left":1}}'))
-    same("it pays with her points, and counts for itself", server.answer(spare, "GET", "/account"), (200, '{"member":"ray-amy","balance":400,"quota":5,"open":2,"spent":400}'))
-    same("it counts nothing for her", server.answer(own, "GET", "/account"), (200, '{"member":"ray-amy","balance":400,"quota":5,"open":2,"spent":200}'))
-    same("it reaches its own booking", server.answer(spare, "DELETE", f"{slot}/7"), (200, f'{{"booking":"{SPARES[0]}/7","refund":400}}'))
-    same("and none of hers", server.answer(spare, "DELETE", f"{slot}/8"), (404, '{"fault":15,"text":"no such booking"}'))
+    same("a spare pass uses her points and counts its own", server.answer(spare, "GET", "/account"), (200, '{"member":"ray-amy","balance":400,"quota":5,"open":2,"spent":400}'))
+    same("her own pass doesn't count them", server.answer(own, "GET", "/account"), (200, '{"member":"ray-amy","balance":400,"quota":5,"open":2,"spent":200}'))
+    same("a spare pass cancels its own booking", server.answer(spare, "DELETE", f"{slot}/7"), (200, f'{{"booking":"{SPARES[0]}/7","refund":400}}'))
+    same("a spare pass can't cancel her booking", server.answer(spare, "DELETE", f"{slot}/8"), (404, '{"fault":15,"text":"no such booking"}'))
     server.stop()
 
 
@@ -106,10 +106,10 @@ def in_the_configuration():
     for odd in ({"SPARES": "10"}, {"SPARES": "x"}, {"SPARES": "-1"}, {"SPARES": "1", "SPARE_NAME": "A b"}):
         configure(SITE=SITE, **odd)
         status, out, errors = office("import", "none.csv", "--quota", "5", "--points", "0", "--passes", "none", "--yes")
-        same(f"{odd} is refused", (status != 0, "SPARES and SPARE_NAME" in errors, rows("SELECT * FROM members WHERE name = 'fox-dan'")), (True, True, []))
+        same(f"{odd} is refused", (status != 0, "SPARES or SPARE_NAME" in errors, rows("SELECT * FROM members WHERE name = 'fox-dan'")), (True, True, []))
     configure(SITE=SITE)
     done("import", "none.csv", "--quota", "5", "--points", "0", "--passes", "none", "--yes")
-    same("none without a line", keys_of("fox-dan"), ["fox-dan-1"])
+    same("no spare keys without a configuration line", keys_of("fox-dan"), ["fox-dan-1"])
 
 
 SPARES = ["ray-amy-lend-1", "ray-amy-lend-2"]

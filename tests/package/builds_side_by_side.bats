@@ -72,13 +72,13 @@ proved_behind() { clone/bin/proved top "$@" >out 2>said 3>&- & }
     [ ! -s said ]
 }
 
-@test 'one at a time, behind an edit' {
+@test 'one at a time, after an edit' {
     edit left
     PROVED_AT_ONCE=1 built 4
     [ "$(most)" = 1 ]
 }
 
-@test 'files that were touched, and an edit that was put back, build nothing' {
+@test 'touched files and an undone edit build nothing' {
     touch clone/crates.txt clone/crates/low/src/lib.rt
     built 0
     edit low
@@ -88,7 +88,7 @@ proved_behind() { clone/bin/proved top "$@" >out 2>said 3>&- & }
     [ -z "$(find clone/crates/*/src -newer clone/crates/top/out/top)" ]
 }
 
-@test 'a file that is gone, and one that is new, build again' {
+@test 'a removed file and a new file cause a build' {
     echo two >clone/crates/low/src/two.rt
     built 4
     sleep 0.05
@@ -96,7 +96,7 @@ proved_behind() { clone/bin/proved top "$@" >out 2>said 3>&- & }
     built 4
 }
 
-@test 'a crate that stands on one more builds again' {
+@test 'a crate with one more dependency is built again' {
     sleep 0.05
     sed -i 's/^right: low/right: low left/' clone/crates.txt
     built 4
@@ -108,13 +108,13 @@ proved_behind() { clone/bin/proved top "$@" >out 2>said 3>&- & }
     built 4
 }
 
-@test 'a number that is none' {
+@test 'an invalid number' {
     edit low
     PROVED_AT_ONCE=none run ! clone/bin/proved top
-    [[ $output == *"PROVED_AT_ONCE is a number above 0, not 'none'"* ]]
+    [[ $output == *"PROVED_AT_ONCE must be a number above 0, not 'none'"* ]]
 }
 
-@test 'an edit in the course of a build' {
+@test 'an edit during a build' {
     edit low
     proved_behind
     wait_for 'begin left'
@@ -143,7 +143,7 @@ stopped() {
 @test 'a build that is stopped by INT' { stopped INT; }
 @test 'a build that is stopped by HUP' { stopped HUP; }
 
-@test 'a build that is killed, when the program is there and newer than its sources' {
+@test 'a build that is killed when the program exists and is newer than its sources' {
     edit low
     TAKES=1 proved_behind
     wait_for 'begin top'
@@ -165,7 +165,7 @@ stopped() {
     built 4
 }
 
-@test 'two calls at once' {
+@test 'two simultaneous calls' {
     edit low
     proved_behind first
     wait_for 'begin low'

@@ -45,7 +45,7 @@ fails() {
     both_ran
 }
 
-@test 'the same from the top by .ci/run' {
+@test 'the same result from .ci/run' {
     run -0 --separate-stderr sh -c 'cd clone && exec .ci/run'
     [ "${lines[-1]}" = '135 passed, 0 failed' ]
     [ "${lines[1]}" = '123 passed, 0 failed' ]
@@ -76,13 +76,13 @@ fails() {
     fails '0 passed, 2 failed' 'rt ci, tests/run quick'
 }
 
-@test 'a status that says otherwise than the counts' {
+@test 'a status that contradicts the counts' {
     stub path/rt gate 1 '123 passed, 0 failed'
     stub clone/tests/run scripts 0 '10 passed, 2 failed, 0 skipped'
     fails '133 passed, 3 failed' 'rt ci, tests/run quick'
 }
 
-@test 'tests that never end, and what they leave' {
+@test 'tests that never end, and their children' {
     sed -i 's/^MINUTES=.*/MINUTES=0.02/' clone/bin/check
     # shellcheck disable=SC2016
     printf '#!/bin/sh\nsleep 300 &\necho $! >left\nwait\n' >clone/tests/run

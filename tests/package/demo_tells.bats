@@ -33,7 +33,7 @@ demo_of_some() { PATH=$some demo; }
 says_what_is_missing() {
     run -1 --separate-stderr demo_of_some
     [ -z "$output" ]
-    [ "$stderr" = 'demo: these commands are missing: curl sqlite3. Root installs them so: apt-get install curl sqlite3' ]
+    [ "$stderr" = 'demo: these commands are missing: curl sqlite3. As root, run: apt-get install curl sqlite3' ]
 }
 
 # Replaces the desk with a desk whose server records its process id and never listens.
@@ -55,7 +55,7 @@ ended() { for _ in $(seq 20); do kill -0 "$(cat server)" 2>/dev/null || return 0
     says_what_is_missing
 }
 
-@test 'another user than root, who does not call apt-get' {
+@test 'a user other than root, who does not call apt-get' {
     is_user 1000
     printf 'touch %s/called\n' "$PWD" | put apt-get
     says_what_is_missing

@@ -41,21 +41,21 @@ today=$(date -u +%F)
 ends 'a copy' 0 "$deploy/keep_copies" club copies
 name=$(ls copies)
 case $name in "$today"T[0-2][0-9][0-5][0-9][0-5][0-9]Z | *T0000??Z) ;; *) fail "the copy is called $name" ;; esac
-same 'what it prints' "copies/$name: backed up, with 0 bookings" "$(cat told)"
-same 'its mode' '600 700' "$(stat -c %a "copies/$name" copies | xargs)"
+same 'the output of keep_copies' "copies/$name: backed up, with 0 bookings" "$(cat told)"
+same 'the modes of the copy and its folder' '600 700' "$(stat -c %a "copies/$name" copies | xargs)"
 cp "copies/$name" restored
-same 'a club that was restored' amy "$("$desk" show-account restored amy-1 --at 2026-04-20T12:00 | sed -n 's/^member //p')"
-ends 'no words' 2 "$deploy/keep_copies"
+same 'a restored club' amy "$("$desk" show-account restored amy-1 --at 2026-04-20T12:00 | sed -n 's/^member //p')"
+ends 'no arguments' 2 "$deploy/keep_copies"
 ends 'no file' 1 "$deploy/keep_copies" none copies
 echo broken >broken
 old=$(date -u -d '-400 days' +%FT031007Z)
 touch "copies/$old"
-ends 'a copy of what is no club' 1 "$deploy/keep_copies" broken copies
+ends "a copy of a file that isn't a club" 1 "$deploy/keep_copies" broken copies
 printf '#!/bin/sh\necho storage failed >&2\nexit 5\n' >refuses
 chmod +x refuses
 ends 'a copy that clubdesk refuses' 1 env CLUBDESK="$work/refuses" "$deploy/keep_copies" club copies
-grep -q "clubdesk can't open the copy" said || fail "it doesn't say so: $(cat said)"
-same 'what is left of them' "$old $name" "$(find copies -mindepth 1 -printf '%f\n' | sort | xargs)"
+grep -q "clubdesk can't open the copy" said || fail "no message about it: $(cat said)"
+same 'the copies after these failures' "$old $name" "$(find copies -mindepth 1 -printf '%f\n' | sort | xargs)"
 # The test kills the job during a copy. The next run removes the incomplete copy. If two jobs run at the same time, the second waits for the first.
 printf '#!/bin/sh\ntouch waits\nexec sleep 30\n' >waits.sh
 chmod +x waits.sh
@@ -72,10 +72,10 @@ sleep 1
 "$deploy/keep_copies" club copies >first 2>&1 &
 job=$!
 sleep 1.1
-ends 'a second at once' 0 "$deploy/keep_copies" club copies
-wait "$job" || fail "two at once: $(cat first)"
-same 'the copies after all that' '3 0' "$(find copies -mindepth 1 ! -name '.*' | wc -l) $(find copies -name '.new*' | wc -l)"
-ends 'a day that is none' 2 "$deploy/old_copies" copies tomorrow
+ends 'a second job at the same time' 0 "$deploy/keep_copies" club copies
+wait "$job" || fail "two jobs at the same time: $(cat first)"
+same 'the copies after these jobs' '3 0' "$(find copies -mindepth 1 ! -name '.*' | wc -l) $(find copies -name '.new*' | wc -l)"
+ends 'an invalid day' 2 "$deploy/old_copies" copies tomorrow
 ends 'no folder' 1 "$deploy/old_copies" nowhere 2026-05-01
 
 # On each day of three years, the test creates at most two copies, and removes the copies that the job no longer keeps. The remaining copies must be
@@ -88,7 +88,7 @@ checks=$((checks + 1100))
 for zone in UTC0 CET-1CEST,M3.5.0,M10.5.0/3 '<+13>-13' '<-11>11'; do
     there=$(TZ=$zone date +%F)
     ends "a sheet in $zone" 0 "$deploy/morning_sheet" club "$zone" 0 "sheets $zone"
-    [ "$there" = "$(TZ=$zone date +%F)" ] || { echo 'the day changed: give it again' >&2; exit 2; }
+    [ "$there" = "$(TZ=$zone date +%F)" ] || { echo 'the day changed: run the test again' >&2; exit 2; }
     same "the sheet in $zone" "Day sheet $there
 No bookings." "$(cat "sheets $zone/$there")"
     echo mine >"sheets $zone/$there"
@@ -102,16 +102,16 @@ ends 'a sheet at midnight' 0 "$deploy/morning_sheet" club "$midnight" 1 early
 [ ! -e early ] || fail "a sheet before its hour, in $midnight"
 touch -d '-40 days' 'sheets UTC0/2020-01-01' 'sheets UTC0/notes'
 rm "sheets UTC0/$(date -u +%F)"
-ends 'a sheet that is late' 0 "$deploy/morning_sheet" club UTC0 0 'sheets UTC0'
+ends 'a late sheet' 0 "$deploy/morning_sheet" club UTC0 0 'sheets UTC0'
 same 'old sheets' "$(date -u +%F) notes" "$(find 'sheets UTC0' -mindepth 1 ! -name '.*' -printf '%f\n' | sort | xargs)"
 for hour in '' 24 x -1 007; do ends "the hour '$hour'" 2 "$deploy/morning_sheet" club UTC0 "$hour" odd; done
 ends 'a sheet of no club' 1 "$deploy/morning_sheet" none UTC0 0 odd
 ends 'a sheet that clubdesk refuses' 5 env CLUBDESK="$work/refuses" "$deploy/morning_sheet" club UTC0 0 odd
-same 'what is left of it' '' "$(ls -A odd)"
+same 'the files of a refused sheet' '' "$(ls -A odd)"
 
 # ---- Mail.
 ends 'no mailer' 0 "$deploy/send_mail" amy@example.org sheet </dev/null
-grep -q "nothing was mailed to amy@example.org" said || fail "it doesn't say so: $(cat said)"
+grep -q "nothing was mailed to amy@example.org" said || fail "no message about it: $(cat said)"
 printf '#!/bin/sh\necho "$*" >>%s/mailed\ncat >>%s/mailed\n' "$work" "$work" >mailer
 chmod +x mailer
 for _ in 1 2; do ends 'a mailed sheet' 0 "$deploy/mail_sheet" club UTC0 'sheets UTC0' amy@example.org; done
@@ -126,7 +126,7 @@ Content-Transfer-Encoding: 8bit
 Day sheet $(date -u +%F)
 No bookings." "$(cat mailed)"
 rm mailed 'sheets UTC0'/.mailed*
-ends 'nobody to mail to' 0 "$deploy/mail_sheet" club UTC0 'sheets UTC0' ''
+ends 'no mail address' 0 "$deploy/mail_sheet" club UTC0 'sheets UTC0' ''
 ends 'no sheet to mail' 0 "$deploy/mail_sheet" club UTC0 odd amy@example.org
 [ ! -e mailed ] || fail "something was mailed: $(cat mailed)"
 cp mailer works
@@ -134,7 +134,7 @@ printf '#!/bin/sh\nexit 75\n' >mailer
 ends 'a mailer that fails' 1 "$deploy/mail_sheet" club UTC0 'sheets UTC0' amy@example.org
 cp works mailer
 ends 'a mailer that works again' 0 "$deploy/mail_sheet" club UTC0 'sheets UTC0' amy@example.org
-grep -q '^Day sheet' mailed || fail 'a sheet that could not be mailed is not tried again'
+grep -q '^Day sheet' mailed || fail 'a sheet that could not be mailed is not mailed later'
 
 # ---- Reports of failures.
 mkdir configured marks path
@@ -148,8 +148,8 @@ rm mailed
 for _ in 1 2; do ends 'a report' 0 report clubdesk-back-up@club.service; done
 same 'the report' '1 1' "$(grep -c '^Subject: club: clubdesk-back-up@club.service failed$' mailed) $(grep -c '^journal of .* -u clubdesk-back-up@club.service$' mailed)"
 grep -qx 'Failed with result' mailed || fail "a report before the journal has the failure: $(cat mailed)"
-ends 'a report to nobody' 0 report clubdesk-back-up@quiet.service
-ends 'a report of no unit' 2 report ssh.service
+ends 'a report without a mail address' 0 report clubdesk-back-up@quiet.service
+ends 'a report of another service' 2 report ssh.service
 touch -d '-13 hours' marks/*
 ends 'a report half a day later' 0 report clubdesk-back-up@club.service
 same 'the reports' 2 "$(grep -c '^Subject' mailed)"
@@ -157,21 +157,21 @@ same 'the reports' 2 "$(grep -c '^Subject' mailed)"
 # ---- Health.
 check() { "$deploy/check_health" "$@"; }
 ends 'a check' 0 check club "$port"
-grep -q '^well: the desk answers; its disk has [0-9]* MB left$' told || fail "a check: $(cat told)"
+grep -q '^healthy: the desk answers; its disk has [0-9]* MB left$' told || fail "a check: $(cat told)"
 ends 'a check with a pass' 0 check club "$port" health
-grep -q '^well: the desk answers, and reads its file; ' told || fail "a check with a pass: $(cat told)"
-ends 'a check with a pass that is not there' 0 check club "$port" nothing
-ends 'a check without words' 2 check club
+grep -q '^healthy: the desk answers, and reads its file; ' told || fail "a check with a pass: $(cat told)"
+ends 'a check with a missing pass' 0 check club "$port" nothing
+ends 'a check without arguments' 2 check club
 sed -i 's/^least=.*/least=99999999999/' "$(cp "$deploy/check_health" full && echo full)"
 ends 'a full disk' 1 ./full club "$port"
-grep -q 'once it is full the desk books nothing' said || fail "a full disk: $(cat said)"
+grep -q 'once the disk is full, the desk books nothing' said || fail "a full disk: $(cat said)"
 "$desk" revoke-key club amy-1 >told
 ends 'a check with a revoked pass' 1 check club "$port" health
-grep -q "isn't well: .*\"fault\":10" said || fail "a revoked pass: $(cat said)"
+grep -q "doesn't answer as expected: .*\"fault\":10" said || fail "a revoked pass: $(cat said)"
 ! grep -qF "$(cat health)" told said || fail 'the check prints the pass'
 kill "$server"
 wait "$server" 2>/dev/null || :
 server=
-ends 'a check of no desk' 1 check club "$port"
-grep -q "the desk at port $port isn't well: curl: (7)" said || fail "no desk: $(cat said)"
+ends 'a check of a stopped desk' 1 check club "$port"
+grep -q "the desk on port $port doesn't answer as expected: curl: (7)" said || fail "a stopped desk: $(cat said)"
 echo "$checks checks of the timers' jobs passed"

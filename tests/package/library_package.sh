@@ -10,10 +10,10 @@
 # Debian in this folder, and needs no mirror.
 # pytestmark = [mark.package, mark.root, mark.needs("passtool pass_c"),
 #     mark.wants("debootstrap lintian dpkg-dev xz-utils util-linux python3-build python3-setuptools python3-wheel")]
-# shellcheck disable=SC2016 # a shell of the fresh Debian reads what is quoted
+# shellcheck disable=SC2016 # a shell of the fresh Debian reads the quoted text
 set -eu
 here=$(CDPATH='' cd -P -- "$(dirname -- "$0")" && pwd)
-[ "$(id -u)" = 0 ] || { echo "$0 wants root, for a fresh Debian" >&2; exit 2; }
+[ "$(id -u)" = 0 ] || { echo "$0 needs root, for a fresh Debian" >&2; exit 2; }
 PATH=/usr/sbin:/sbin:$PATH
 work=$(mktemp -d)
 trap 'rm -rf --one-file-system "$work"' EXIT
@@ -22,12 +22,12 @@ cd "$work"
 version=$("$here/../../bin/version")
 
 holds 'the packages are made' "$here/../../bin/package_library" first
-holds 'and again' "$here/../../bin/package_library" second
-same 'bytes of both' "$(cat first/LIBRARY_SHA256SUMS)" "$(cat second/LIBRARY_SHA256SUMS)"
+holds 'the packages are made again' "$here/../../bin/package_library" second
+same 'bytes of both runs' "$(cat first/LIBRARY_SHA256SUMS)" "$(cat second/LIBRARY_SHA256SUMS)"
 (cd first && sha256sum --quiet -c LIBRARY_SHA256SUMS)
 chmod -R go+rX "$work"
 holds 'lintian' setpriv --reuid=65534 --regid=65534 --clear-groups env HOME=/ lintian --fail-on error,warning,info first/*.deb
-same 'what lintian says' '' "$(cat told)"
+same 'the output of lintian' '' "$(cat told)"
 
 root=$work/debian
 if [ -n "${DEBIAN-}" ]; then
@@ -47,8 +47,8 @@ inside() { unshare --net chroot "$root" env -i PATH=/usr/sbin:/usr/bin:/sbin:/bi
 
 before=$(inside find /usr /etc ! -name '*.pyc' ! -path '*__pycache__*' ! -path '/etc/ld.so.cache' | sort)
 holds 'the wheel' inside sh -c 'cd /root/wheel && python3 -m zipfile -e *.whl .'
-holds 'Python by the wheel' inside sh -c "PYTHONPATH=/root/wheel python3 -c 'import clubpass; print(clubpass.Pass.parse(\"$text\").narrow(\"kind = court\"))'"
-same 'Python by the wheel' "$lent" "$(cat told)"
+holds 'Python with the wheel' inside sh -c "PYTHONPATH=/root/wheel python3 -c 'import clubpass; print(clubpass.Pass.parse(\"$text\").narrow(\"kind = court\"))'"
+same 'Python with the wheel' "$lent" "$(cat told)"
 
 holds 'dpkg' inside sh -c 'dpkg -i /root/*.deb'
 same 'versions' "$version $version $version" "$(inside dpkg-query -W -f '${Version} ' libclubpass0 libclubpass-dev python3-clubpass | sed 's/ $//')"
@@ -65,6 +65,6 @@ done
 holds 'ldd' inside ldd /root/lend
 grep -q '/libclubpass.so.0' told || fail "the program isn't linked to the library: $(cat told)"
 
-holds 'dpkg removes' inside dpkg --purge python3-clubpass libclubpass-dev libclubpass0
-same 'what is left' "$before" "$(inside find /usr /etc ! -name '*.pyc' ! -path '*__pycache__*' ! -path '/etc/ld.so.cache' | sort)"
+holds 'dpkg removes the packages' inside dpkg --purge python3-clubpass libclubpass-dev libclubpass0
+same 'the files after the removal' "$before" "$(inside find /usr /etc ! -name '*.pyc' ! -path '*__pycache__*' ! -path '/etc/ld.so.cache' | sort)"
 echo "$checks checks hold"

@@ -10,7 +10,7 @@
 # DEBIAN=FOLDER, the test copies the Debian in this folder, as package_lives.sh does.
 # pytestmark = [mark.package, mark.root, mark.needs("clubdesk passtool"),
 #     mark.wants("debootstrap systemd-container dpkg-dev xz-utils util-linux python3-pexpect openssl")]
-# shellcheck disable=SC2016 # a shell of the fresh Debian reads what is quoted
+# shellcheck disable=SC2016 # a shell of the fresh Debian reads the quoted text
 set -eu
 . "$(dirname -- "$0")/../lib/machine.sh"
 holder=
@@ -78,7 +78,7 @@ by_name() {
 authority=/var/lib/caddy/.local/share/caddy/pki/authorities/local/root.crt
 trusts_authority() {
     soon 30 "caddy has no authority" inside test -s "$authority"
-    gives 'its authority' <<LINES
+    gives "caddy's authority" <<LINES
 cp $authority /root/ca.pem
 cp $authority /usr/local/share/ca-certificates/test.crt
 update-ca-certificates
@@ -146,7 +146,7 @@ grep -q "default-src 'none'; connect-src 'self'" heads || fail "the worker's pol
 grep -q '^content-type: text/javascript' heads || fail "the worker's type: $(cat heads)"
 head_of https://desk.example.org/club.json >heads
 grep -q '^content-type: application/json' heads || fail "the list's type: $(cat heads)"
-same 'the way to the page' '302 /book.html' "$(inside curl -sS --cacert /root/ca.pem -o /dev/null -w '%{http_code} %header{location}' https://desk.example.org/)"
+same 'the redirect to the page' '302 /book.html' "$(inside curl -sS --cacert /root/ca.pem -o /dev/null -w '%{http_code} %header{location}' https://desk.example.org/)"
 same 'a large body' 413 "$(inside sh -c 'head -c 1500 /dev/zero | curl -sS --http1.1 --cacert /root/ca.pem -o /dev/null -w "%{http_code}" -X PUT --data-binary @- https://desk.example.org/slots/court-1/2026-05-01/18/bookings/1')"
 same 'without TLS' 000 "$(inside curl -s -o /dev/null -w '%{http_code}' --max-time 5 http://desk.example.org/account || :)"
 same 'no pass' '{"fault":4,"text":"no pass"} 401' "$(inside curl -sS --cacert /root/ca.pem -w ' %{http_code}' https://desk.example.org/account)"
@@ -174,8 +174,8 @@ copies() { find "$there/clubs/club" -maxdepth 1 -name '2*Z' -printf '%f\n' 2>/de
 has_copy() { [ -n "$(copies)" ]; }
 soon 60 'no copy elsewhere' has_copy
 # Requests to the public name. caddy's own certificate authority gives certificates that are valid for twelve hours, so the health check fails.
-if inside systemctl start clubdesk-health@club 2>told; then fail 'health of a certificate of twelve hours'; fi
-is_asked() { inside journalctl -q -o cat -u clubdesk-health@club | grep -q 'the certificate of desk.example.org is good until .*: it is to be renewed'; }
+if inside systemctl start clubdesk-health@club 2>told; then fail 'the health check accepts a certificate of twelve hours'; fi
+is_asked() { inside journalctl -q -o cat -u clubdesk-health@club | grep -q 'the certificate of desk.example.org is valid until .*: renew it'; }
 soon 10 'health by the public name' is_asked
 same 'units that failed' '' "$(inside systemctl --failed --plain --no-legend | grep -v clubdesk-health || :)"
 gives 'metrics' <<'LINES'
@@ -228,7 +228,7 @@ echo "elsewhere.example $(cat hostkey)" >second/root/.ssh/known_hosts
 ssh-keygen -q -t ed25519 -N '' -f second/root/.ssh/id_ed25519
 trust second/root/.ssh/id_ed25519.pub
 blocks 'The machine is gone' >lines
-same 'how many lines' 2 "$(wc -l <lines)"
+same 'the number of lines' 2 "$(wc -l <lines)"
 head -n 1 lines | sed "s/clubdesk_[0-9.]*_amd64.deb/$deb/; s/caddy/& ca-certificates/" | gives 'The machine is gone, its first line'
 sed -i 's/^\tauto_https disable_redirects/&\n\tlocal_certs\n\tskip_install_trust/' second/usr/share/doc/clubdesk/examples/Caddyfile
 tail -n 1 lines | gives 'The machine is gone, its second line'
@@ -251,7 +251,7 @@ while read -r at path; do
     if ! grep -qx "${path##*/}" numbers; then
         lost=$((lost + 1))
         [ $((lost_at - at)) -le 60 ] || fail "a booking of $((lost_at - at)) seconds before the loss is gone: $path"
-        case $(by_name PUT "$path" '{"guests":0}') in *'"charge":200'*' 200') ;; *) fail "a lost booking, again: $path" ;; esac
+        case $(by_name PUT "$path" '{"guests":0}') in *'"charge":200'*' 200') ;; *) fail "a repeat of a lost booking: $path" ;; esac
     fi
 done <acknowledged
 inside sh -c 'rm -f /root/looked; /usr/lib/clubdesk/back_up /var/lib/clubdesk/club /root/looked' >told
@@ -270,9 +270,9 @@ trust key
 before=$(copies | tail -n 1)
 sed -n '/accept-new/,$p' lines | gives 'Copies elsewhere, on the new machine'
 has_newer() { [ "$(copies | tail -n 1)" != "$before" ]; }
-soon 60 'no copy of the new machine' has_newer
+soon 60 'no copy from the new machine' has_newer
 # The ssh server's machine is down, and then up again.
-failures() { inside journalctl -q -o cat -u clubdesk-offsite@club | grep -c 'it is tried again' || :; }
+failures() { inside journalctl -q -o cat -u clubdesk-offsite@club | grep -c 'the service will try again' || :; }
 failed=$(failures)
 end_of "$ssh_server"
 booked=$(by_name PUT "slots/court-1/$day/12/bookings/90" '{"guests":0}')
@@ -281,6 +281,6 @@ is_said() { [ "$(failures)" -gt "$failed" ]; }
 soon 60 'a host that is down' is_said
 before=$(copies | tail -n 1)
 serve_ssh
-soon 60 'no copy once it is up' has_newer
+soon 60 'no copy after the host is up again' has_newer
 same 'units that failed' '' "$(inside systemctl --failed --plain --no-legend | grep -v clubdesk-health || :)"
-echo "$checks checks of machines passed; the club served again $took seconds after the first line, without the downloads; of $acknowledged bookings $lost were lost, and booked anew"
+echo "$checks checks of machines passed; the club was available again $took seconds after the first line, without the downloads; $lost of $acknowledged bookings were lost, and made again"

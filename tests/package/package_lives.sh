@@ -11,7 +11,7 @@
 # `debootstrap --variant=minbase --include=systemd,systemd-sysv bookworm FOLDER`.
 # pytestmark = [mark.package, mark.root, mark.needs("clubdesk passtool"),
 #     mark.wants("debootstrap systemd-container lintian dpkg-dev xz-utils util-linux")]
-# shellcheck disable=SC2016 # a shell of the fresh Debian reads what is quoted
+# shellcheck disable=SC2016 # a shell of the fresh Debian reads the quoted text
 set -eu
 . "$(dirname -- "$0")/../lib/machine.sh"
 version=$("$top/bin/version")
@@ -41,14 +41,14 @@ trap leave_all EXIT
 holds 'bin/package' "$top/bin/package" first
 (umask 077 && cd / && LC_ALL=C.UTF-8 TZ=Asia/Tokyo HOME=/nonexistent "$top/bin/package" "$work/second" >"$work/told")
 for file in first/*; do same "$file, again" "$(sha256sum <"$file")" "$(sha256sum <"second/${file##*/}")"; done
-same 'what is made' "SHA256SUMS clubdesk-$version-amd64.tar.xz clubdesk_${version}_amd64.deb" "$(cd first && echo *)"
+same 'the made files' "SHA256SUMS clubdesk-$version-amd64.tar.xz clubdesk_${version}_amd64.deb" "$(cd first && echo *)"
 (cd first && sha256sum --quiet -c SHA256SUMS)
 deb=clubdesk_${version}_amd64.deb
 # The option --allow-root is necessary, because lintian otherwise prints a warning for root.
 holds lintian lintian --allow-root --fail-on error,warning --tag-display-limit 0 "first/$deb"
-same 'what lintian says' '' "$(cat told)"
+same 'the output of lintian' '' "$(cat told)"
 dpkg-deb -x "first/$deb" unpacked
-same 'its completions' 'clubdesk office passtool _clubdesk _office _passtool clubdesk.fish office.fish passtool.fish' \
+same "the package's completions" 'clubdesk office passtool _clubdesk _office _passtool clubdesk.fish office.fish passtool.fish' \
     "$(cd unpacked/usr/share && for folder in bash-completion/completions zsh/vendor-completions fish/vendor_completions.d; do ls $folder; done | xargs)"
 holds 'the packed clubdesk' cmp "$desk" unpacked/usr/bin/clubdesk
 holds 'the packed passtool' cmp "$tool" unpacked/usr/bin/passtool
@@ -64,8 +64,8 @@ other() {
 other "$version+1"
 other "$version+2" "printf '#!/bin/sh\necho storage failed >&2\nexit 5\n' >usr/bin/clubdesk"
 other "$version+3"
-if "$top/bin/package" a b >told 2>&1; then fail 'bin/package takes two folders'; fi
-if CLUBDESK=/bin/true "$top/bin/package" third >told 2>&1; then fail 'bin/package takes another program'; fi
+if "$top/bin/package" a b >told 2>&1; then fail 'bin/package accepts two folders'; fi
+if CLUBDESK=/bin/true "$top/bin/package" third >told 2>&1; then fail 'bin/package accepts another program'; fi
 [ -z "$(ls third)" ] || fail 'a refused package left something'
 
 root=$work/debian
@@ -94,7 +94,7 @@ gives Install <install
 holds 'the installed files' inside dpkg --verify clubdesk
 same 'the version' "clubdesk $version" "$(inside clubdesk --version)"
 same 'the user' '/var/lib/clubdesk /usr/sbin/nologin' "$(inside getent passwd clubdesk | cut -d : -f 6,7 | tr : ' ')"
-same 'its folders' '700 clubdesk clubdesk /var/lib/clubdesk
+same "the package's folders" '700 clubdesk clubdesk /var/lib/clubdesk
 700 clubdesk clubdesk /var/backups/clubdesk
 2750 clubdesk office /var/spool/clubdesk' "$(inside stat -c '%a %U %G %n' /var/lib/clubdesk /var/backups/clubdesk /var/spool/clubdesk)"
 same 'no desk yet' '' "$(inside systemctl list-units --all --plain --no-legend 'clubdesk*')"
@@ -120,7 +120,7 @@ same 'the timers' 'clubdesk-back-up@club.timer clubdesk-health@club.timer clubde
 same "the files' modes" '600 600' "$(inside stat -c %a /var/lib/clubdesk/club /var/lib/clubdesk/club-wal | xargs)"
 
 # Makes the desk's club, with the member amy, a key and a court.
-gives 'orders' <<'LINES'
+gives 'commands' <<'LINES'
 c=/var/lib/clubdesk/club
 desk() { runuser -u clubdesk -- clubdesk "$@"; }
 desk add-member $c amy 5
@@ -149,22 +149,22 @@ books() { same "$1" '{"booking":"amy-1/7","charge":3,"left":47} 200' "$(by_tls P
 day=$(TZ=CET-1CEST,M3.5.0,M10.5.0/3 date -d '+2 days' +%F)
 books 'a booking behind TLS'
 served=$(($(date +%s) - installed))
-[ "$served" -lt 600 ] || fail "a served club behind TLS took $served seconds"
+[ "$served" -lt 600 ] || fail "setting up a club behind TLS took $served seconds"
 for page in book.html pass.html demo.html worker.js app.webmanifest; do
     same "the page $page" "$(sha256sum <"$top/web/$page")" "$(inside curl -sS --cacert /etc/ssl/clubdesk/certificate.pem \
         --resolve desk.example.org:443:127.0.0.1 "https://desk.example.org/$page" | sha256sum)"
 done
 holds 'a letter' inside grep -q svg /root/amy-1.html
-same 'what the pages know of the club' 'Europe/Berlin court-1 Court 1' \
+same "the club's list for the pages" 'Europe/Berlin court-1 Court 1' \
     "$(by_tls GET club.json | sed 's/ 200$//' | python3 -c 'import json, sys; club = json.load(sys.stdin); court = club["facilities"][0]; print(club["zone"], court["name"], court["title"])')"
 same 'the account behind TLS' '{"member":"amy","balance":9997,"quota":5,"open":1,"spent":3} 200' "$(by_tls GET account)"
 
 # ---- Health.
-health_says() { inside journalctl -q -o cat -u clubdesk-health@club | grep "^well: the desk answers$1; its disk has"; }
+health_says() { inside journalctl -q -o cat -u clubdesk-health@club | grep "^healthy: the desk answers$1; its disk has"; }
 holds 'a check without a pass' inside systemctl start clubdesk-health@club
-soon 10 'what the check without a pass says' health_says ''
+soon 10 'the output of the check without a pass' health_says ''
 blocks 'Is it well?' | gives 'Is it well?'
-soon 10 'what the check says' health_says ', and reads its file'
+soon 10 'the output of the check' health_says ', and reads its file'
 same 'the pass of the check' '640 root clubdesk' "$(inside stat -c '%a %U %G' /etc/clubdesk/club.health)"
 
 # ---- A second club, whose time zone is about half a day ahead of the first club's. The second club's mail goes to a file. The first club has no mail
@@ -189,7 +189,7 @@ there=NZST-12NZDT,M9.5.0,M4.1.0/3
 tomorrow=$(TZ=$there date -d tomorrow +%F)
 same 'a booking in the second club' '{"booking":"ben-1/1","charge":20,"left":2}' \
     "$(inside sh -c "curl -sS -X PUT -H \"Authorization: Bearer \$(cat /root/ben-1)\" -d '{\"guests\":1}' http://127.0.0.1:8081/slots/boat-1/$tomorrow/10/bookings/1")"
-same 'its desk alone' '{"fault":9,"text":"not verified"}' \
+same 'a pass of the other club' '{"fault":9,"text":"not verified"}' \
     "$(inside sh -c 'curl -sS -H "Authorization: Bearer $(cat /root/ben-1)" http://127.0.0.1:8080/account')"
 today=$(TZ=$there date +%F)
 for _ in 1 2; do holds 'the sheet' inside systemctl start clubdesk-sheet@rowing; done
@@ -203,7 +203,7 @@ Subject: rowing: day sheet $today
 Day sheet $today" "$(inside grep -E '^(==|To|Subject|Day|Total)' /var/mail/sent)"
 # The back-up of a file that isn't a club fails. A systemd service mails one report of this failure. If the club's configuration has no mail address,
 # the service mails none.
-gives 'a club that is broken' <<'LINES'
+gives 'a broken club' <<'LINES'
 : >/var/mail/sent
 echo broken >/var/lib/clubdesk/broken
 printf 'FILE=/var/lib/clubdesk/broken\nZONE=UTC0\nPORT=8082\nMAIL=cox@example.org\n' >/etc/clubdesk/broken.conf
@@ -216,17 +216,17 @@ LINES
 same 'the reports' 'Subject: broken: clubdesk-back-up@broken.service failed
 Subject: broken: clubdesk-health@broken.service failed' "$(inside grep ^Subject /var/mail/sent | sort)"
 inside cat /var/mail/sent >sent
-grep -q 'the copy is no whole club' sent || fail "the report doesn't say why: $(cat sent)"
-grep -q "the desk at port 8082 isn't well" sent || fail "the report doesn't say why: $(cat sent)"
-same 'copies of what is no club' '' "$(inside find /var/backups/clubdesk/broken -type f)"
-gives 'forgotten again' <<'LINES'
+grep -q "the copy isn't a complete club" sent || fail "the report doesn't say why: $(cat sent)"
+grep -q "the desk on port 8082 doesn't answer as expected" sent || fail "the report doesn't say why: $(cat sent)"
+same "copies of a file that isn't a club" '' "$(inside find /var/backups/clubdesk/broken -type f)"
+gives 'the broken clubs are removed' <<'LINES'
 systemctl reset-failed
 rm -r /etc/clubdesk/broken.conf /etc/clubdesk/silent.conf /var/lib/clubdesk/broken /var/backups/clubdesk/broken /var/backups/clubdesk/silent
 LINES
 
 # ---- A clerk without root uses sudo. A correction doesn't stop the server. A restore stops the server, and systemd starts it again.
 blocks 'The clerks' | gives 'The clerks'
-gives 'a club of hers' <<'LINES'
+gives 'a club for the clerk' <<'LINES'
 useradd --create-home carl
 printf 'FILE=/var/lib/clubdesk/tennis\nZONE=UTC0\nPORT=8083\n' >/etc/clubdesk/tennis.conf
 LINES
@@ -238,7 +238,7 @@ office() {
     inside runuser -u "$user" -- sh -c 'cd "$0" && exec office tennis "$@"' "/home/$user" "$@"
 }
 same 'a new club' 'done' "$(office anna new)"
-holds "its desk's start" inside systemctl enable --now clubdesk@tennis
+holds "the desk's start" inside systemctl enable --now clubdesk@tennis
 answers 8083
 for words in 'add-member eve 5' 'credit eve 1000' 'add-facility court-1 court 4 10 0 24' 'add-key eve-1 eve --to eve-1'; do
     # shellcheck disable=SC2086 # a command's words
@@ -246,16 +246,16 @@ for words in 'add-member eve 5' 'credit eve 1000' 'add-facility court-1 court 4 
 done
 # Requests the account. A server that has replied to a request with a pass has certainly opened the club's file.
 account() { inside sh -c 'curl -sS -H "Authorization: Bearer $(cat /home/anna/eve-1)" http://127.0.0.1:8083/account'; }
-same 'the account before it' '{"member":"eve","balance":1000,"quota":5,"open":0,"spent":0}' "$(account)"
+same 'the account before a correction' '{"member":"eve","balance":1000,"quota":5,"open":0,"spent":0}' "$(account)"
 pid_of() { inside systemctl show --value -p MainPID "$1"; }
 before=$(pid_of clubdesk@tennis)
 holds 'a correction' office anna set-quota eve 7 --yes
 answers 8083
-same 'the server beside a correction' "$before" "$(pid_of clubdesk@tennis)"
-same 'the account after it' '{"member":"eve","balance":1000,"quota":7,"open":0,"spent":0}' "$(account)"
+same 'the server during a correction' "$before" "$(pid_of clubdesk@tennis)"
+same 'the account after a correction' '{"member":"eve","balance":1000,"quota":7,"open":0,"spent":0}' "$(account)"
 office anna log >told
 [ "$(grep -c anna told)" -ge 6 ] || fail "the book: $(cat told)"
-if office carl credit eve 1000 >told 2>&1; then fail 'a credit by somebody who is no clerk'; fi
+if office carl credit eve 1000 >told 2>&1; then fail "a credit by a user who isn't a clerk"; fi
 
 # A new clerk's first week.
 week=$(date -u -d '+3 days' +%F)
@@ -266,7 +266,7 @@ asks() {
 }
 printf '%s\n' 'name,quota,points' 'Amy,5,10000' '"Müller, Bob",2,3000' >"$root/home/anna/members.csv"
 holds 'an import' office anna import members.csv --yes
-same 'who was imported' 'amy,10000,5,0,1,Amy mueller-bob,3000,2,0,1,Müller, Bob' "$(office anna members --csv | grep -E '^(amy|mueller)' | xargs)"
+same 'the imported members' 'amy,10000,5,0,1,Amy mueller-bob,3000,2,0,1,Müller, Bob' "$(office anna members --csv | grep -E '^(amy|mueller)' | xargs)"
 same 'the import again' 'nothing to do' "$(office anna import members.csv --yes | tail -n 1)"
 for booking in 'amy-1 10 1 1' 'amy-1 14 2 0' 'mueller-bob-1 12 1 0'; do
     # shellcheck disable=SC2086 # key, hour, number, guests
@@ -274,7 +274,7 @@ for booking in 'amy-1 10 1 1' 'amy-1 14 2 0' 'mueller-bob-1 12 1 0'; do
     same "a booking of $1" "{\"booking\":\"$1/$3\",\"charge\":$((10 * ($4 + 1))),\"left\":$((3 - $4))}" \
         "$(asks "passes/$1" PUT "slots/court-1/$week/$2/bookings/$3" "{\"guests\":$4}")"
 done
-same 'who booked' "$week,10,court-1,amy,amy-1,1,2,20,Amy $week,12,court-1,mueller-bob,mueller-bob-1,1,1,10,Müller, Bob $week,14,court-1,amy,amy-1,2,1,10,Amy" \
+same 'bookings' "$week,10,court-1,amy,amy-1,1,2,20,Amy $week,12,court-1,mueller-bob,mueller-bob-1,1,1,10,Müller, Bob $week,14,court-1,amy,amy-1,2,1,10,Amy" \
     "$(office anna bookings "$week" --csv | tail -n +2 | xargs)"
 same 'the sheet' 'Total bookings 3, persons 4, charge 40' "$(office anna sheet "$week" | grep Total)"
 holds 'a wrong credit' office anna credit amy 500
@@ -287,12 +287,12 @@ same 'its slot' '{"fault":17,"text":"slot closed"}' "$(asks passes/amy-1 PUT "sl
 same 'rain' "cancels court-1 $week 12:00, 1 person, 10 points back: mueller-bob-1 1, mueller-bob done To tell: Müller, Bob" "$(office anna rain "$week" court-1 12 --yes | xargs)"
 holds 'a lost pass' office anna rotate-key amy-1 2000-01-01T00:00 --to amy-1-new
 same 'the lost pass' '{"fault":9,"text":"not verified"}' "$(asks passes/amy-1 GET account)"
-same 'the new one' '{"member":"amy","balance":9990,"quota":5,"open":1,"spent":10}' "$(asks amy-1-new GET account)"
-holds 'a copy of the night' inside systemctl start clubdesk-back-up@tennis
+same 'the new pass' '{"member":"amy","balance":9990,"quota":5,"open":1,"spent":10}' "$(asks amy-1-new GET account)"
+holds 'a nightly copy' inside systemctl start clubdesk-back-up@tennis
 night=$(office anna copies --csv | grep back-up | tail -n 1 | cut -d , -f 1)
 holds 'a member who leaves' office anna leave mueller-bob --yes
-same 'her pass' '{"fault":9,"text":"not verified"}' "$(asks passes/mueller-bob-1 GET account)"
-same 'who is there' '1,3000,0,0,1, amy,9990,5,1,1,Amy eve,1000,7,0,1,' "$(office anna members --csv | tail -n +2 | xargs)"
+same "the former member's pass" '{"fault":9,"text":"not verified"}' "$(asks passes/mueller-bob-1 GET account)"
+same 'the members' '1,3000,0,0,1, amy,9990,5,1,1,Amy eve,1000,7,0,1,' "$(office anna members --csv | tail -n +2 | xargs)"
 before=$(pid_of clubdesk@tennis)
 office anna restore "$night" --yes >told
 same 'a restore' 'removes the member 1
@@ -301,12 +301,12 @@ removes the key 1-1: its passes are refused
 brings back the key mueller-bob-1 and its passes
 in all: 4 changes
 done' "$(cat told)"
-same 'a pass of before' '{"member":"mueller-bob","balance":3000,"quota":2,"open":0,"spent":0}' "$(asks passes/mueller-bob-1 GET account)"
-[ "$(pid_of clubdesk@tennis)" != "$before" ] || fail 'a restore beside a running desk'
+same 'a pass from before the restore' '{"member":"mueller-bob","balance":3000,"quota":2,"open":0,"spent":0}' "$(asks passes/mueller-bob-1 GET account)"
+[ "$(pid_of clubdesk@tennis)" != "$before" ] || fail "the restore didn't restart the desk"
 same 'the totals of her club' 'the stored totals match the sums of the bookings' "$(office anna check)"
 [ "$(office anna log | grep -c ' anna 0 ')" -ge 20 ] || fail "the book: $(office anna log)"
-same 'what a clerk reads of the clubs' '' "$(inside runuser -u anna -- sh -c 'cat /var/lib/clubdesk/* /var/backups/clubdesk/* 2>/dev/null' || :)"
-same 'what a clerk reads of the sheets' "$today" "$(inside runuser -u anna -- ls /var/spool/clubdesk/rowing)"
+same 'club files that a clerk can read' '' "$(inside runuser -u anna -- sh -c 'cat /var/lib/clubdesk/* /var/backups/clubdesk/* 2>/dev/null' || :)"
+same 'sheets that a clerk can read' "$today" "$(inside runuser -u anna -- ls /var/spool/clubdesk/rowing)"
 
 # ---- Back-ups while the desk runs, and the removal of old back-ups.
 gives 'old copies' <<'LINES'
@@ -317,8 +317,8 @@ chown -R clubdesk:clubdesk /var/backups/clubdesk/club
 LINES
 blocks 'Back up' | gives 'Back up'
 inside ls /var/backups/clubdesk/club >told
-grep -qx keep-me told || fail 'a file of another name is gone'
-! grep -q "^$(date -u -d '-500 days' +%F)" told || fail 'a copy of 500 days ago stays'
+grep -qx keep-me told || fail 'a file with another name is gone'
+! grep -q "^$(date -u -d '-500 days' +%F)" told || fail 'a copy from 500 days ago stays'
 [ "$(grep -c Z$ told)" -le 4 ] || fail "old copies stay: $(cat told)"
 copy=$(grep "^$(date -u +%Y)" told | sort | tail -n 1)
 same 'the copy' "600 clubdesk" "$(inside stat -c '%a %U' "/var/backups/clubdesk/club/$copy")"
@@ -327,8 +327,8 @@ same 'the copy' "600 clubdesk" "$(inside stat -c '%a %U' "/var/backups/clubdesk/
 blocks 'One program at a time' | gives 'One program at a time'
 same 'a booking after the copy' '{"booking":"amy-1/8","charge":1,"left":49} 200' "$(by_tls PUT "slots/court-1/$day/19/bookings/8" '{"guests":0}')"
 blocks Restore | sed "s/2026-05-01T031007Z/$copy/" | gives Restore
-books 'what was before it'
-same 'what came after it' '{"fault":15,"text":"no such booking"} 404' "$(by_tls DELETE "slots/court-1/$day/19/bookings/8")"
+books 'a booking from before the copy'
+same 'a booking from after the copy' '{"fault":15,"text":"no such booking"} 404' "$(by_tls DELETE "slots/court-1/$day/19/bookings/8")"
 
 # ---- The machine boots again, after a shutdown and after a power failure.
 halt
@@ -353,9 +353,9 @@ sleep 1
 same 'both desks' 'active active' "$(inside systemctl is-active clubdesk@club clubdesk@rowing | xargs)"
 same 'a copy before the restart' $((copies + 1)) "$(inside sh -c 'ls /var/backups/clubdesk/club | wc -l')"
 before=$(pid_of clubdesk@club)
-inside apt-get install "/root/clubdesk_$version+2_amd64.deb" >told 2>&1 || fail "an upgrade to a program that opens no club: $(tail told)"
-grep -q 'clubdesk@club.service goes on with the program of before' told || fail "apt says nothing of a desk that goes on: $(tail told)"
-same 'a desk that the new program would not open' "$before active" "$(pid_of clubdesk@club) $(inside systemctl is-active clubdesk@club)"
+inside apt-get install "/root/clubdesk_$version+2_amd64.deb" >told 2>&1 || fail "an upgrade to a program that can't open a club: $(tail told)"
+grep -q 'clubdesk@club.service keeps running its old program' told || fail "apt doesn't report a desk with its old program: $(tail told)"
+same "a desk whose club the new program can't open" "$before active" "$(pid_of clubdesk@club) $(inside systemctl is-active clubdesk@club)"
 holds 'the next upgrade' inside apt-get install "/root/clubdesk_$version+3_amd64.deb"
 sleep 1
 [ "$(pid_of clubdesk@club)" != "$before" ] || fail 'the desk was not restarted by the next upgrade'
@@ -365,24 +365,24 @@ client=
 acknowledged=$(grep -c PUT booked)
 [ "$acknowledged" -gt 50 ] || fail "the client booked little: $(tail booked client.log)"
 inside sh -c 'rm -f /root/looked && /usr/lib/clubdesk/back_up /var/lib/clubdesk/club /root/looked' >told
-same 'what was acknowledged' "$acknowledged" "$(inside sqlite3 /root/looked 'SELECT count(*) FROM bookings WHERE number > 1000 AND cancelled = 1')"
+same 'the acknowledged bookings' "$acknowledged" "$(inside sqlite3 /root/looked 'SELECT count(*) FROM bookings WHERE number > 1000 AND cancelled = 1')"
 same 'the totals' '' "$(unsound "$root/root/looked")"
-grep -q '^tries [1-9]' client.log || fail 'the upgrades interrupted nobody: they restarted nothing'
+grep -q '^tries [1-9]' client.log || fail 'the upgrades interrupted no request: they restarted no desk'
 
 # ---- Removal of the package: the desks end, and their configuration and files stay. When the package is installed again, the desks run again.
 holds 'the removal' inside apt-get remove clubdesk
-same 'desks after it' '' "$(inside systemctl list-units --plain --no-legend --state=active 'clubdesk*')"
-same 'programs after it' '' "$(inside sh -c 'ls -d /usr/bin/clubdesk /usr/bin/passtool /usr/lib/clubdesk /usr/share/clubdesk 2>/dev/null || :')"
-same 'what stays' '/etc/clubdesk/club.conf /etc/clubdesk/rowing.conf /var/lib/clubdesk/club /var/lib/clubdesk/rowing' \
+same 'desks after the removal' '' "$(inside systemctl list-units --plain --no-legend --state=active 'clubdesk*')"
+same 'programs after the removal' '' "$(inside sh -c 'ls -d /usr/bin/clubdesk /usr/bin/passtool /usr/lib/clubdesk /usr/share/clubdesk 2>/dev/null || :')"
+same 'the files that stay' '/etc/clubdesk/club.conf /etc/clubdesk/rowing.conf /var/lib/clubdesk/club /var/lib/clubdesk/rowing' \
     "$(inside ls /etc/clubdesk/club.conf /etc/clubdesk/rowing.conf /var/lib/clubdesk/club /var/lib/clubdesk/rowing | xargs)"
-holds 'the installation after it' inside apt-get install "/root/$deb"
-holds 'a start after it' inside systemctl start clubdesk@club
-books 'the desk after it'
+holds 'the installation after the removal' inside apt-get install "/root/$deb"
+holds 'a start after the second installation' inside systemctl start clubdesk@club
+books 'the desk after the second installation'
 
 # ---- Purge of the package: only the clubs, the back-ups and the system user stay.
 inside apt-get purge clubdesk >told 2>&1 || fail "purge: $(tail told)"
 grep -q '/var/lib/clubdesk stays' told || fail "purge doesn't say what stays: $(tail told)"
-same 'what is left of it' '/var/backups/clubdesk
+same 'the files after the purge' '/var/backups/clubdesk
 /var/lib/clubdesk' "$(inside find / -xdev \( -path /proc -o -path /sys -o -path /root -o -path /var/www \) -prune -o -name '*clubdesk*' -print | grep -vE \
     '^/(var/lib/clubdesk/|var/backups/clubdesk/|var/log/|etc/nginx/|etc/ssl/|var/cache/apt/|tmp/systemd-private|var/tmp/systemd-private)' | sort)"
 same 'the clubs' 'clubdesk clubdesk' "$(inside stat -c %U /var/lib/clubdesk/club /var/lib/clubdesk/rowing | xargs)"
@@ -390,21 +390,21 @@ inside sh -c 'cp /var/lib/clubdesk/club /root/purged; cp /var/lib/clubdesk/club-
 same 'bookings after the purge' $((acknowledged + 1)) "$(inside sqlite3 /root/purged 'SELECT count(*) FROM bookings')"
 
 # ---- The archive for systems without dpkg, with the club that remained after the purge.
-holds 'what unpacks it' inside apt-get install xz-utils
+holds 'the installation of xz-utils' inside apt-get install xz-utils
 blocks Install | grep -vE '^(bin/package|cd packages|apt install)' | sed 's,packages/,/root/,' | gives 'the archive'
 same 'the programs of the archive' "$(cd unpacked/usr/bin && sha256sum clubdesk passtool)" "$(inside sh -c 'cd /usr/local/bin && sha256sum clubdesk passtool')"
-gives 'its desk' <<'LINES'
+gives "the archive's desk" <<'LINES'
 cp /usr/local/share/doc/clubdesk/examples/club.conf /etc/clubdesk/club.conf
 systemctl start clubdesk@club clubdesk-back-up@club clubdesk-sheet@club clubdesk-health@club
 LINES
-books 'its desk'
+books "the archive's desk"
 same 'units that failed' '' "$(inside systemctl --failed --plain --no-legend)"
 halt
 sort -u given >wanted
 cut -f 1 running | sort -u >found
-same 'sections whose lines nobody gave, but those that tests/package/proxy_holds.sh and tests/package/machine_lives.sh give' 'A certificate
+same 'sections whose lines no test runs, except those of tests/package/proxy_holds.sh and tests/package/machine_lives.sh' 'A certificate
 A club by five questions
 Copies elsewhere
 The machine is gone' "$(comm -13 wanted found)"
-echo "$checks checks of the package's life passed; a served club behind TLS after $served seconds of RUNNING, without the downloads;" \
-    "$acknowledged bookings in the course of three upgrades"
+echo "$checks checks of the package's life passed; a club behind TLS $served seconds after the first line of RUNNING, without the downloads;" \
+    "$acknowledged bookings during three upgrades"

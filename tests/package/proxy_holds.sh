@@ -95,8 +95,8 @@ club_json() { /usr/lib/clubdesk/club_json /var/lib/clubdesk/club "$1"; }
 cp /etc/clubdesk/club.conf configured
 sed -i 's/^ZONE=.*/ZONE=GMT0BST,M3.5.0\/1,M10.5.0/' /etc/clubdesk/club.conf
 holds 'the zone of the server' club_json Europe/London
-if club_json Europe/Berlin >told 2>&1; then fail "a zone that isn't the server's is taken"; fi
-same 'why it is refused' 1 "$(grep -c 'one of them is another zone' told)"
+if club_json Europe/Berlin >told 2>&1; then fail "club_json accepts a zone that isn't the server's"; fi
+same 'the reason of the refusal' 1 "$(grep -c 'one of them is another zone' told)"
 cp configured /etc/clubdesk/club.conf
 
 # ---- A certificate, and a site with this certificate.
@@ -125,7 +125,7 @@ soon 10 'the site' is_heard https://127.0.0.1/
 code=0
 curl -s -o told http://127.0.0.1/account || code=$?
 same 'nothing else is answered at port 80' 52 "$code"
-same 'nor a challenge that is none' 404 "$(curl -s -o told -w '%{http_code}' http://127.0.0.1/.well-known/acme-challenge/x)"
+same 'an unknown challenge at port 80' 404 "$(curl -s -o told -w '%{http_code}' http://127.0.0.1/.well-known/acme-challenge/x)"
 served() { openssl s_client -connect 127.0.0.1:443 -servername desk.example.org </dev/null 2>/dev/null | openssl x509 -noout -serial; }
 sleep 1
 old=$(served)
@@ -133,7 +133,7 @@ same 'the site has the certificate' "$(openssl x509 -noout -serial -in "$live/ce
 holds 'certbot renew' certbot renew --force-renewal --no-random-sleep-on-renew
 sleep 1
 [ "$(served)" != "$old" ] || fail 'after the renewal the site has the old certificate'
-same 'the site has the new one' "$(openssl x509 -noout -serial -in "$live/cert.pem")" "$(served)"
+same 'the site has the new certificate' "$(openssl x509 -noout -serial -in "$live/cert.pem")" "$(served)"
 same 'no challenge is left' '' "$(find /var/www/challenge -type f)"
 
 # ---- A second club, with its own public name.
@@ -151,8 +151,8 @@ seen() {
     printf 'Authorization: Bearer %s' "$(cat "$1-pass")" >field
     curl -H @field "https://$2.example.org/$3"
 }
-same 'the court of the first' '"facility":"court-1"' "$(seen club desk slots/court-1/2026-05-01/18 | grep -o '"facility":"[a-z0-9-]*"')"
-same 'the boat of the second' '"facility":"boat-1"' "$(seen rowing rowing slots/boat-1/2026-05-01/18 | grep -o '"facility":"[a-z0-9-]*"')"
+same "the first club's court" '"facility":"court-1"' "$(seen club desk slots/court-1/2026-05-01/18 | grep -o '"facility":"[a-z0-9-]*"')"
+same "the second club's boat" '"facility":"boat-1"' "$(seen rowing rowing slots/boat-1/2026-05-01/18 | grep -o '"facility":"[a-z0-9-]*"')"
 court='{"name":"court-1","title":"Court 1","kind":"court","opens":0,"shuts":24}'
 same "the club's list" "{\"name\":\"Our club\",\"zone\":\"Europe/Berlin\",\"facilities\":[$court]}" "$(curl $site/club.json)"
 for page in book pass; do
@@ -201,22 +201,22 @@ flood() {
     curl --no-progress-meter -Z --parallel-max 40 -o "got.$name.#1" -w '%{http_code}\n' "$@" "$site/club.json?[1-$count]" >"statuses.$name" || :
     limited=$(grep -c '^429' "statuses.$name" || :)
     passed=$(grep -c '^200' "statuses.$name" || :)
-    [ $((passed + limited)) = "$count" ] || fail "of $count at once $passed passed and $limited were limited"
+    [ $((passed + limited)) = "$count" ] || fail "$passed of $count simultaneous requests passed, and $limited were limited"
 }
 sleep 2
 flood pass 3000 -H "Authorization: Bearer $health" &
 flooding=$!
 sleep 0.5
-same 'another pass meanwhile' '200' "$(for _ in $(seq 20); do curl -o told -w '%{http_code}\n' -H "Authorization: Bearer $(cat club-pass)" $site/account; done | sort -u)"
+same 'another pass during the flood' '200' "$(for _ in $(seq 20); do curl -o told -w '%{http_code}\n' -H "Authorization: Bearer $(cat club-pass)" $site/account; done | sort -u)"
 wait "$flooding" || fail 'the flood of a pass'
 sleep 6
 flood pass 3000 -H "Authorization: Bearer $health"
-{ [ "$passed" -ge 1000 ] && [ "$limited" -ge 20 ]; } || fail "of 3000 under a pass $passed passed and $limited were limited"
+{ [ "$passed" -ge 1000 ] && [ "$limited" -ge 20 ]; } || fail "$passed of 3000 requests with one pass passed, and $limited were limited"
 sleep 6
 flood address 6000
-{ [ "$passed" -ge 2000 ] && [ "$limited" -ge 20 ]; } || fail "of 6000 from an address $passed passed and $limited were limited"
+{ [ "$passed" -ge 2000 ] && [ "$limited" -ge 20 ]; } || fail "$passed of 6000 requests from one address passed, and $limited were limited"
 same 'the sentence' 'Too many requests at once. Send this one again in a second.' "$(find . -name 'got.address.*' -exec grep -lF 'Too many' {} + | head -n 1 | xargs cat)"
 same 'as many sentences as refusals' "$limited" "$(find . -name 'got.address.*' -exec grep -lF 'Send this one again in a second.' {} + | wc -l)"
 sleep 1.2
 same 'a second later' 200 "$(curl -o told -w '%{http_code}' -H "Authorization: Bearer $(cat club-pass)" https://desk.example.org/account)"
-echo "$checks checks of the proxy passed: of 6000 requests at once $passed were answered, $limited were not"
+echo "$checks checks of the proxy passed: $passed of 6000 simultaneous requests were answered, $limited were refused"

@@ -23,4 +23,4 @@ families = set(re.findall(r"socket\((AF_[A-Z0-9]+)", trace)) - set(re.findall(r"
 written = [path for path, how in re.findall(r'openat\(\S+, "([^"]*)", (\S+)', trace) if "O_RDONLY" not in how and "/state/" not in path]
 both = re.findall(r"m(?:map|protect)\(.*PROT_WRITE\|PROT_EXEC.*", trace)
 if not made or lacking or families or written or both:
-    sys.exit(f"the unit forbids what the desk does: {lacking} {families} {written} {both}")
+    sys.exit(f"the unit doesn't allow what the desk does: {lacking} {families} {written} {both}")

@@ -8,7 +8,7 @@
 #     mark.wants("curl sqlite3 openssl strace systemd util-linux tzdata")]
 set -eu
 . "$(dirname -- "$0")/../lib/serving.sh"
-[ "$(id -u)" = 0 ] || { echo "$0 wants root, for another user and a small disk" >&2; exit 2; }
+[ "$(id -u)" = 0 ] || { echo "$0 needs root, for another user and a small disk" >&2; exit 2; }
 top=$(CDPATH='' cd -P -- "$here/../.." && pwd)
 PATH=/usr/sbin:/sbin:$PATH
 . "$here/../lib/checks.sh"
@@ -46,7 +46,7 @@ sums() { (cd "$1" && find . -type f -exec sha256sum {} + | sort -k 2); }
 "$top/bin/install" local >told
 for file in clubdesk passtool; do
     cmp "$top/man/$file.1" "local/share/man/man1/$file.1"
-    [ "$(stat -c %a "local/bin/$file")" = 755 ] || fail "local/bin/$file has another mode"
+    [ "$(stat -c %a "local/bin/$file")" = 755 ] || fail "local/bin/$file has the wrong mode"
 done
 version=$("$top/bin/version")
 same 'the installed programs' "clubdesk $version passtool $version" "$(local/bin/clubdesk --version) $(local/bin/passtool --version)"
@@ -56,23 +56,23 @@ refused() {
     what=$1
     shift
     sums local >before
-    if "$@" >told 2>said; then fail "$what: it installs"; fi
+    if "$@" >told 2>said; then fail "$what: the installation succeeds"; fi
     grep -q 'nothing was installed' said || fail "$what: $(cat said)"
-    sums local | cmp - before || fail "$what: it left something else"
+    sums local | cmp - before || fail "$what: the folder changed"
     checks=$((checks + 1))
 }
 echo old >local/bin/clubdesk
 chmod 755 "$work" local
 # The user `nobody` perhaps can't read the repository, so the test copies the script bin/install.
 cp "$top/bin/install" installing
-refused 'no leave to write' runuser -u nobody -- sh "$work/installing" "$work/local"
-refused 'no folder to make' runuser -u nobody -- sh "$work/installing" "$work/other"
+refused 'no permission to write' runuser -u nobody -- sh "$work/installing" "$work/local"
+refused 'no permission to make a folder' runuser -u nobody -- sh "$work/installing" "$work/other"
 [ ! -e other ] || fail 'a refused installation made its folder'
-refused 'files that get too long' sh -c "ulimit -f 1000; '$top/bin/install' local 2>&1 | cat >&2; exit 1"
+refused 'files that become too large' sh -c "ulimit -f 1000; '$top/bin/install' local 2>&1 | cat >&2; exit 1"
 mkdir local/share/man/man1/x && mv local/share/man/man1/passtool.1 local/share/man/man1/x && mv local/share/man/man1/x local/share/man/man1/passtool.1
-refused 'a folder at a name' "$top/bin/install" local
+refused 'a folder in place of a file' "$top/bin/install" local
 rm -r local
-if sh -c "ulimit -f 1000; '$top/bin/install' local" >told 2>&1; then fail 'it installs'; fi
+if sh -c "ulimit -f 1000; '$top/bin/install' local" >told 2>&1; then fail 'the installation succeeds'; fi
 [ ! -e local ] || fail 'a refused installation left its folders'
 "$top/bin/install" local >told
 
@@ -86,7 +86,7 @@ unit=units/clubdesk@.service
 exposure=
 for file in units/*; do
     holds "$file" env SYSTEMD_UNIT_PATH="$PWD/units:" systemd-analyze verify --man=no "$(echo "$file" | sed 's/@/@club/')"
-    same "what is said of $file" '' "$(cat told)"
+    same "the output for $file" '' "$(cat told)"
     case $file in *report@* | *.timer) continue ;; esac
     found=$(systemd-analyze security --offline=yes --no-pager "$file" | sed -n 's/.*exposure level for [^:]*: \([0-9.]*\).*/\1/p')
     awk -v found="$found" 'BEGIN { exit !(found != "" && found < 1.5) }' || fail "the exposure of $file is $found"
@@ -108,9 +108,9 @@ port=${line##*:}
 same 'the unit' '{"fault":4,"text":"no pass"} 401' "$(curl -sS -w ' %{http_code}' "http://127.0.0.1:$port/account")"
 same 'the unit, again' '{"fault":2,"text":"no such path"} 404' "$(curl -sS -w ' %{http_code}' "http://127.0.0.1:$port/")"
 finish
-same 'the lines of its log' 2 "$(grep -cE '^20[0-9-]+T[0-9:]+ GET /[a-z]* 40[14] [0-9]+$' log)"
-same 'the modes of its files' '600 600' "$(stat -c %a state/club state/club-wal | xargs)"
-holds 'its calls' /usr/bin/python3 "$here/running_holds.py" "$unit" state/calls
+same "the lines of the desk's log" 2 "$(grep -cE '^20[0-9-]+T[0-9:]+ GET /[a-z]* 40[14] [0-9]+$' log)"
+same "the modes of the desk's files" '600 600' "$(stat -c %a state/club state/club-wal | xargs)"
+holds "the desk's system calls" /usr/bin/python3 "$here/running_holds.py" "$unit" state/calls
 same "a zone's rule" CET-1CEST,M3.5.0,M10.5.0/3 "$(tail -n 1 /usr/share/zoneinfo/Europe/Berlin)"
 grep -qxF "ZONE=$(tail -n 1 /usr/share/zoneinfo/Europe/Berlin)" club.conf || fail 'the example has another zone'
 
@@ -135,10 +135,10 @@ while [ ! -e answered.all ] && [ "$copies" -lt 500 ]; do
     same "the totals of copy $copies" '' "$(unsound "copy.$copies")"
     sqlite3 "copy.$copies" 'SELECT count(*) FROM bookings' >>counts
 done
-wait "$client" || { kill -0 "$server" || echo 'the server is gone' >&2; cat fault >&2; exit 1; }
+wait "$client" || { kill -0 "$server" || echo 'the server has ended' >&2; cat fault >&2; exit 1; }
 [ "$(grep -c '"refund":1}' answered)" = 900 ] || fail "$(grep -vc '"refund":1}\|"charge":1,' answered) requests were refused"
-[ "$(sort -un counts | wc -l)" -ge 3 ] || fail "the copies were made at one time: $(xargs <counts)"
-same 'a sheet meanwhile' 'Day sheet 2026-05-01' "$("$desk" sheet club 2026-05-01 2>&1 | head -n 1)"
+[ "$(sort -un counts | wc -l)" -ge 3 ] || fail "all copies are from the same time: $(xargs <counts)"
+same 'a sheet during the bookings' 'Day sheet 2026-05-01' "$("$desk" sheet club 2026-05-01 2>&1 | head -n 1)"
 rm copy.*
 
 # ---- After a restore, the desk replies with the same bytes as when the copy was made. Changes made after the copy are gone.
@@ -161,22 +161,22 @@ case "\$*" in
 esac
 CP
 chmod +x path/cp
-same 'a copy that the desk gets between' 'backed up, with 902 bookings' "$(PATH=$PWD/path:$PATH "$top/deploy/back_up" racing raced)"
-[ -s sheet ] || fail 'nothing got between'
+same 'a copy while the desk moves its log' 'backed up, with 902 bookings' "$(PATH=$PWD/path:$PATH "$top/deploy/back_up" racing raced)"
+[ -s sheet ] || fail 'the desk ran no command during the copy'
 mv club lost
 mv club-wal lost-wal
 cp copy club
 serve club 100 2026-04-20T12:00
-same 'what is restored' "$(cat wanted)" "$(shown)"
+same 'the replies after the restore' "$(cat wanted)" "$(shown)"
 same 'a repeat' '{"booking":"amy-1/1001","charge":5,"left":45} 200' "$(asks PUT $first/bookings/1001 '{"guests":4}')"
-same 'what came after' '{"fault":15,"text":"no such booking"} 404' "$(asks DELETE $second/bookings/1002)"
+same 'a booking from after the copy' '{"fault":15,"text":"no such booking"} 404' "$(asks DELETE $second/bookings/1002)"
 stop
 ln club second
 same 'a hard link' 'storage failed' "$("$desk" sheet club 2026-05-01 2>&1 || :)"
 rm second
 mv lost club
 mv lost-wal club-wal
-same 'the file that was put away, with its log' 1 "$("$desk" sheet club 2026-06-01 | grep -c ' 1002 ')"
+same 'the old file with its log' 1 "$("$desk" sheet club 2026-06-01 | grep -c ' 1002 ')"
 printf broken >bad
 if "$top/deploy/back_up" bad copy.bad >told 2>said; then fail 'a broken file is copied'; fi
 [ ! -e copy.bad ] || fail 'a copy of a broken file is left'
@@ -200,11 +200,11 @@ same 'the account' "{\"member\":\"amy\",\"balance\":$((10001 - number)),\"quota\
 same 'a booking' '{"fault":22,"text":"unavailable"} 503' "$(asks PUT slots/court-1/2026-05-04/10/bookings/99 '{"guests":0}')"
 # On a full disk, the script back_up prints one line and doesn't retry.
 begun=$(date +%s)
-if "$top/deploy/back_up" "$disk/club" "$disk/copy" >told 2>said; then fail 'a full disk takes a copy'; fi
+if "$top/deploy/back_up" "$disk/club" "$disk/copy" >told 2>said; then fail 'a full disk accepts a copy'; fi
 same 'the lines of a refused copy' 1 "$(wc -l <said)"
 [ $(($(date +%s) - begun)) -lt 5 ] || fail "a copy to a full disk takes $(($(date +%s) - begun)) s"
-same 'what it leaves' '' "$(find "$disk" -name '.back_up*' -o -name copy)"
+same 'the files that a refused copy leaves' '' "$(find "$disk" -name '.back_up*' -o -name copy)"
 rm "$disk/fill"
-same 'room again' '{"booking":"amy-1/99","charge":1,"left":49} 200' "$(asks PUT slots/court-1/2026-05-04/10/bookings/99 '{"guests":0}')"
+same 'space again' '{"booking":"amy-1/99","charge":1,"left":49} 200' "$(asks PUT slots/court-1/2026-05-04/10/bookings/99 '{"guests":0}')"
 stop
-echo "$checks checks of running the desk passed, $copies copies while it was written to, the units' exposure$exposure"
+echo "$checks checks of running the desk passed, with $copies copies during bookings; exposure of the units:$exposure"

@@ -47,25 +47,25 @@ def everything():
 
 
 def refused():
-    for words, line in ((["--zone", "Nowhere/None"], "there is no zone"), (["--domain", "desk"], "is no address"), (["--clerk", "Anna;"], "is no name of a user"),
-                        (["--mail", "it"], "is no mail address"), (["--title", "a\nb"], "is no title"), (["--club", "../x"], "is no name of a club")):
+    for words, line in ((["--zone", "Nowhere/None"], "there is no zone"), (["--domain", "desk"], "is not an address"), (["--clerk", "Anna;"], "is not a user name"),
+                        (["--mail", "it"], "is not a mail address"), (["--title", "a\nb"], "is not a title"), (["--club", "../x"], "not the name of a club")):
         status, _, errors = set_up(*words)
         same(f"{words}: refused", (status, line in errors), (1, True))
     same("no answer", set_up(line=["clubdesk-setup"])[0], 1)
     same("not root", run_as("anna", "clubdesk-setup")[0], 1)
-    same("nothing is made", (list(CONF.iterdir()), list(HOME.iterdir())), ([], []))
+    same("no file is made", (list(CONF.iterdir()), list(HOME.iterdir())), ([], []))
 
 
 def by_questions():
     """The setup asks five questions at a terminal. After a wrong answer, the setup asks the question again."""
     it = pexpect.spawn("clubdesk-setup", encoding="utf-8", timeout=120, cwd="/")
-    for question, answer in (("name", "TC Übersee"), ("address", "desk"), ("is no address.*address", "desk.example.org"), ("zone", "Europe/Berlin"),
+    for question, answer in (("name", "TC Übersee"), ("address", "desk"), ("is not an address.*address", "desk.example.org"), ("zone", "Europe/Berlin"),
                              ("clerk", "doris"), ("mail address", "it@example.org")):
         it.expect(question)
         it.sendline(answer)
     it.expect(pexpect.EOF)
     it.close()
-    same("by questions", (it.exitstatus, "doris starts with: office tc-uebersee" in it.before), (0, True))
+    same("a setup by questions", (it.exitstatus, "doris starts with: office tc-uebersee" in it.before), (0, True))
 
 
 def made():
@@ -86,7 +86,7 @@ def again_and_again():
     """No run changes an existing file. A run after a stop makes the missing files."""
     before = everything()
     status, out, _ = set_up()
-    same("again", (status, "made" in out, everything() == before), (0, False, True))
+    same("a second run", (status, "made" in out, everything() == before), (0, False, True))
     for gone in (CONF / f"{CLUB}.health", Path(f"/etc/nginx/sites-available/{CLUB}"), CONF / f"{CLUB}.titles"):
         if gone.exists():
             gone.unlink()
@@ -106,8 +106,8 @@ def again_and_again():
     before = everything()
     for name in (f"{CLUB}-orders", f"{CLUB}-wal"):
         status, _, errors = set_up("--club", name)
-        same(f"a club {name} beside it", (status, f"of the club {CLUB} at" in errors), (1, True))
-    same("nothing is made of it", everything(), before)
+        same(f"a club {name} next to it", (status, f"of the club {CLUB} at" in errors), (1, True))
+    same("no file is made for the other club", everything(), before)
 
 
 def first_booking(port):
@@ -125,10 +125,10 @@ def first_booking(port):
         live.mkdir(parents=True)
         subprocess.run(["openssl", "req", "-x509", "-newkey", "rsa:2048", "-nodes", "-days", "2", "-subj", "/CN=desk.example.org", "-keyout", live / "privkey.pem",
                         "-out", live / "fullchain.pem"], check=True, capture_output=True)
-        same("with a certificate the site is put into place", (set_up()[0], os.path.lexists(f"/etc/nginx/sites-enabled/{CLUB}")), (0, True))
+        same("with a certificate the site is enabled", (set_up()[0], os.path.lexists(f"/etc/nginx/sites-enabled/{CLUB}")), (0, True))
         Path("/etc/nginx/sites-enabled/default").unlink(missing_ok=True)
         tried = subprocess.run(["nginx", "-t"], capture_output=True, text=True, check=False)
-        same("nginx takes it", (tried.returncode, tried.stderr if tried.returncode else ""), (0, ""))
+        same("nginx accepts the site", (tried.returncode, tried.stderr if tried.returncode else ""), (0, ""))
     server.stop()
 
 
