@@ -30,7 +30,7 @@ def books_and_cancels(page, passes):
     has(text, "what a booking costs", "Book Court 1", "18:00", "4 places are free", "600 points", "999,399 points", "1 of 99", "Book for 600 points")
     page.press("Book for 600 points")
     page.when("dialogText().includes('Booked.')", "a booking")
-    check("600 points. Number" in page.run("return dialogText()"), "what came of it")
+    check("600 points. Number" in page.run("return dialogText()"), "the result of the booking")
     page.press("Close")
     page.when("cellAt('court-1', 18).button.innerText.includes('Yours, 3 persons')", "my slot")
     same_record(page, "amy-1")
@@ -38,13 +38,13 @@ def books_and_cancels(page, passes):
     card = page.run("return byName('to-come').innerText")
     has(card, "a booking in the list", "Court 1", "Booked", "3 persons", "600 points", "cancelling gives back the whole charge of 600 points")
     page.cancelled_in_the_list("a cancellation", asked="Cancelling now gives back 600 points", words="600 points came back")
-    page.when("byName('to-come').innerText.includes('Cancelled, 600 points came back')", "what is cancelled")
+    page.when("byName('to-come').innerText.includes('Cancelled, 600 points came back')", "the cancelled booking")
     # If a member cancels less than a day before the slot begins, she gets back half of the points.
     page.view("day")
     page.go(day(0))
     hour = now().hour + 2
     entry = page.booked("room-1", hour)
-    page.cancelled_in_the_list("half of it", asked="gives back 300 points", words="300 points came back")
+    page.cancelled_in_the_list("half of the points", asked="gives back 300 points", words="300 points came back")
     check(amounts("amy-1")[entry["number"]][-1] == 300, "the refund in the file")
     same_record(page, "amy-1")
     page.view("account")
@@ -53,12 +53,12 @@ def books_and_cancels(page, passes):
     # The browser stores the pass, so another visit needs no link. The member can remove the pass.
     page.visit("", "isShown('day') && dayIsThere()", "another visit")
     page.view("account")
-    check("The pass is kept in this browser." in page.run("return shownText('account')"), "where the pass is")
+    check("The pass is kept in this browser." in page.run("return shownText('account')"), "the note about the kept pass")
     page.press("Forget the pass", "account")
     page.press("Forget the pass")
     page.when("isShown('welcome')", "a forgotten pass")
     page.visit("", "isShown('welcome')", "a forgotten pass, at the next visit")
-    check("Cancelled" in page.run("return byName('other-part').hidden ? '' : byName('others').textContent"), "its record stays")
+    check("Cancelled" in page.run("return byName('other-part').hidden ? '' : byName('others').textContent"), "the record of a forgotten pass stays")
     # The member pastes a pass, and only this tab stores the pass.
     page.run("byName('given').value = `https://desk.example.org/book.html#${arguments[0]}\\n`; byName('use').click()", passes["amy-1"])
     page.when("isShown('day') && dayIsThere()", "a pasted pass")
@@ -68,7 +68,7 @@ def books_and_cancels(page, passes):
     page.visit("", "isShown('welcome')", "a pass of another tab")
     page.driver.close()
     page.driver.switch_to.window(page.driver.window_handles[0])
-    print("a member who got a link books and cancels, whole and half; the pass is kept, forgotten, pasted")
+    print("a member opens a link, books, and cancels with a full and a half refund; passes are kept, forgotten and pasted")
 
 
 def day_says_what_is(page, passes):
@@ -92,24 +92,24 @@ def day_says_what_is(page, passes):
     check(page.run("return cellAt('court-1', arguments[0]).button.innerText", hour) == "Over", "an hour that has begun")
     check("free" in page.run("return cellAt('court-1', arguments[0]).button.innerText", hour + 1), "the next hour")
     asked = [address for method, address in page.requests() if "/slots/" in address and method == "GET"]
-    check(asked and all(int(address[-2:]) > hour for address in asked), "hours that are over aren't asked for", asked)
+    check(asked and all(int(address[-2:]) > hour for address in asked), "past hours aren't requested", asked)
     check(page.run("return byName('day-before').disabled"), "no day before today")
     page.run("byName('day-field').value = arguments[0]; byName('day-field').dispatchEvent(new Event('change'))", day(1))
-    page.when(f"shownDay() === '{day(1)}' && dayIsThere()", "a day by the field")
+    page.when(f"shownDay() === '{day(1)}' && dayIsThere()", "a day from the field")
     check(page.run("return [byName('day-field').min, byName('day-field').max]") == [day(0), day(60)], "the field's days")
     for button, wanted in [("day-after", 2), ("day-before", 1), ("today", 0)]:
         page.click(button)
-        page.when(f"shownDay() === '{day(wanted)}' && dayIsThere()", "a day by a button", button)
+        page.when(f"shownDay() === '{day(wanted)}' && dayIsThere()", "a day from a button", button)
     page.go(day(60))
     check(page.run("return byName('day-after').disabled"), "no day after the last")
     check(page.run("return cellAt('court-1', arguments[0]).button.innerText", hour) != "Not yet", "60 days ahead")
     check(page.run("return cellAt('court-1', arguments[0]).button.innerText", hour + 1) == "Not yet", "more than 60 days ahead")
     for wanted, words in [(day(61), "You can book from today"), (day(-1), "This day is over")]:
         page.run("showDay(arguments[0])", wanted)
-        page.when("dayIsThere()", "a day out of the 60")
-        check(words in page.run("return shownText('day-fault')"), "a day out of the 60", wanted, page.run("return shownText('day-fault')"))
+        page.when("dayIsThere()", "a day outside the 60 days")
+        check(words in page.run("return shownText('day-fault')"), "a day outside the 60 days", wanted, page.run("return shownText('day-fault')"))
         check(page.run("return [...cells.values()].every((cell) => cell.button.disabled)"), "nothing to press", wanted)
-    print("closed, full, over, not yet; nothing to press out of the 60 days")
+    print("slots are closed, full, over or not bookable yet; no button is enabled outside the 60 days")
 
 
 def says_why_it_is_closed(page, passes, server):
@@ -133,7 +133,7 @@ def says_why_it_is_closed(page, passes, server):
     page.enter(passes["lists-1"], 25)
     found = {hour: page.run("return cellAt('court-3', arguments[0]).button.innerText.split('\\n')", hour) for hour in (9, 10, 12, 14)}
     check(found == {9: ["Yours, 1 person", "Closed"], 10: ["Closed", "Training der Jugend"], 12: ["Closed"], 14: ["2 of 2 free", "300 points"]}, "the day", found)
-    check(page.run("return cellAt('court-3', 12).button.disabled"), "nothing to say of a slot, and nothing to press")
+    check(page.run("return cellAt('court-3', 12).button.disabled"), "a closed slot without a reason can't be pressed")
     page.offer("court-3", 10)
     has(page.run("return dialogText()"), "the slot's detail", "Court 3 (indoor)", "10:00 to 11:00", "The office closed this slot: Training der Jugend", "Questions? Tel. 030 1234")
     page.run("byName('dialog').querySelector('.main').click()")
@@ -142,17 +142,17 @@ def says_why_it_is_closed(page, passes, server):
     has(page.run("return dialogText()"), "her own slot", "The office closed this slot: Training der Jugend", "The office cancelled your booking because the slot is closed.", "Cancel the booking")
     page.press("Back")
     page.view("bookings")
-    page.when("byName('to-come').innerText.includes('The office closed this slot: Training der Jugend')", "beside the booking")
+    page.when("byName('to-come').innerText.includes('The office closed this slot: Training der Jugend')", "the reason next to the booking")
     page.view("day")
     office("close-slot", "court-3", wanted, "14")
     page.book("court-3", 14)
-    page.comes("The office closed this slot: no more. Choose another slot.", "closed between the look and the press")
+    page.comes("The office closed this slot: no more. Choose another slot.", "a slot that was closed before the press")
     pathlib.Path("club-reasons").unlink()
     pathlib.Path("www/club.json").write_text(good)
     page.cancelled(own["number"], "her own")
     back = next(each["cancel"] for each in page.entries() if each["number"] == own["number"])
-    check(back == {"booking": f"lists-1/{own['number']}", "refund": 300}, "what came back", back)
-    print("a closed slot says why, in the day, its detail, beside a booking that was cancelled for it, and where a booking meets it")
+    check(back == {"booking": f"lists-1/{own['number']}", "refund": 300}, "the refund", back)
+    print("a closed slot shows the reason: in the day, in the dialog, next to a cancelled booking, and after a refused booking")
 
 
 def looks_six_at_a_time(page, passes, between):
@@ -167,13 +167,13 @@ def looks_six_at_a_time(page, passes, between):
     page.run("look()")
     page.when(f"!byName('progress').hidden && byName('progress').max === {CELLS} && byName('progress').value > 5", "progress")
     text = page.run("return shownText('looked')")
-    check(re.fullmatch(f"[0-9]+ of {CELLS} loaded", text), "how far it is", text)
+    check(re.fullmatch(f"[0-9]+ of {CELLS} loaded", text), "the progress in words", text)
     page.when("dayIsThere()", "the day")
     check(between.most == 6, "requests at once", between.most)
     asked = [address.split("/slots/")[1].split("/")[0] for method, address in page.requests() if "/slots/" in address]
-    check(len(asked) == CELLS and set(asked[:16]) == {"boat-1"}, "what is shown is asked for first", asked)
+    check(len(asked) == CELLS and set(asked[:16]) == {"boat-1"}, "the shown facility is requested first", asked)
     page.sees(1280, "light")
-    print("six requests at once, of the shown facility first, and progress")
+    print("six requests at a time, the shown facility first, with progress")
 
 
 def swipes(page, passes):
@@ -186,7 +186,7 @@ def swipes(page, passes):
         found = page.run("return [...byName('slots').querySelectorAll('td')].filter((each) => each.offsetParent !== null).map((each) => each.dataset.facility)")
         check(set(found) == {facility}, "the facility on a narrow screen", *what, facility, set(found))
         pressed = page.run("return [...byName('facility-choice').children].filter((each) => each.getAttribute('aria-pressed') === 'true').map((each) => each.dataset.facility)")
-        check(pressed == [facility], "what is marked as chosen", *what, pressed)
+        check(pressed == [facility], "the facility that is marked as chosen", *what, pressed)
         check(not page.run("return isDialogOpen()"), "a swipe presses nothing", *what)
 
     def drag(across, down, fingers=1):
@@ -213,12 +213,12 @@ def swipes(page, passes):
     shows("boat-2", "chosen")
     inside = page.run("const [bar, chip] = ['facility-choice', 0].map((id) => id ? byName(id).getBoundingClientRect() : document.querySelector('.chip[aria-pressed=true]').getBoundingClientRect());"
                       "return chip.left >= bar.left && chip.right <= bar.right")
-    check(inside, "the chosen name is to be seen")
+    check(inside, "the chosen name is visible")
     page.go(day(5))
     shows("boat-2", "another day")
     page.command("Emulation.setTouchEmulationEnabled", enabled=False)
     page.sees(1280, "light")
-    print("on a narrow screen a facility is chosen by its name, or swiped to")
+    print("on a narrow screen, a member chooses a facility by its name or by a swipe")
 
 
 def looks_again(page, passes):
@@ -237,12 +237,12 @@ def looks_again(page, passes):
     curl(page, "PUT", f"/slots/court-3/{day(4)}/14/bookings/{number}", passes["other"], '{"guests":1}')
     page.requests()
     goes_away(1)
-    page.when("seen.length === 2", "a page that was away")
-    check(page.run("return seen") == ["hidden", "visible"], "away, and back", page.run("return seen"))
+    page.when("seen.length === 2", "a hidden page")
+    check(page.run("return seen") == ["hidden", "visible"], "hidden, and visible again", page.run("return seen"))
     time.sleep(1)
-    check(not [address for _, address in page.requests() if "/slots/" in address], "away for a moment")
+    check(not [address for _, address in page.requests() if "/slots/" in address], "hidden for a moment")
     goes_away(16)
-    page.when("seen.length === 4 && dayIsThere() && cellAt('court-3', 14).button.innerText === 'Full'", "what changed while it was away")
+    page.when("seen.length === 4 && dayIsThere() && cellAt('court-3', 14).button.innerText === 'Full'", "a change while the page was hidden")
     asked = Counter(address for _, address in page.requests() if "/slots/" in address)
     check(len(asked) == CELLS and set(asked.values()) == {1}, "each slot once", len(asked), Counter(asked.values()))
     # The page also requests the day again if the member returns to the day from another view.
@@ -250,8 +250,8 @@ def looks_again(page, passes):
     page.view("bookings")
     page.run("lookedAt -= 16000")
     page.view("day")
-    page.when("dayIsThere() && cellAt('court-3', 14).button.innerText.includes('2 of 2 free')", "another view meanwhile")
-    print("a page that is looked at again after a while asks again")
+    page.when("dayIsThere() && cellAt('court-3', 14).button.innerText.includes('2 of 2 free')", "the day after another view")
+    print("a page that becomes visible after a while requests the day again")
 
 
 MOVING = """
@@ -269,23 +269,23 @@ def moves_little(page, passes):
     page.offer("court-1", 10)
     for wanted in ("no-preference", "reduce"):
         page.command("Emulation.setEmulatedMedia", features=[{"name": "prefers-reduced-motion", "value": wanted}])
-        check((page.run(MOVING) > 0) == (wanted == "no-preference"), "what moves", wanted, page.run(MOVING))
+        check((page.run(MOVING) > 0) == (wanted == "no-preference"), "moving elements", wanted, page.run(MOVING))
     page.open(page.address.replace("book.html", "pass.html"))
-    check(page.driver.execute_script(MOVING) == 0, "what moves on the other page")
+    check(page.driver.execute_script(MOVING) == 0, "moving elements on the other page")
     page.command("Emulation.setEmulatedMedia", features=[])
-    print("nothing moves where less motion is asked for")
+    print("nothing moves with reduced motion")
 
 
 def leaves_out_what_the_pass_denies(page, passes):
     whole = passes["amy-1"]
     page.enter(narrowed(whole, "kind = court"))
     heads = page.run("return [...byName('slots').querySelectorAll('th.facility')].map((each) => each.textContent)")
-    check(heads == ["Court 1", "Court 2", "Court 3 (indoor)"], "a pass of courts shows no rooms", heads)
+    check(heads == ["Court 1", "Court 2", "Court 3 (indoor)"], "a pass for courts shows no rooms", heads)
     page.view("account")
-    page.when("byName('account-facts').innerText.includes('Only courts.')", "a pass of courts shows no account")
+    page.when("byName('account-facts').innerText.includes('Only courts.')", "a pass for courts shows no account")
     page.enter(narrowed(whole, "actions = view,book", "hours = 10-12", "guests <= 1"), 4)
     cells = page.run("return [9, 10, 11, 12].map((hour) => cellAt('court-1', hour).button.innerText.split('\\n')[0])")
-    check(cells == ["Not with your pass", "4 of 4 free", "4 of 4 free", "Not with your pass"], "a pass of hours", cells)
+    check(cells == ["Not with your pass", "4 of 4 free", "4 of 4 free", "Not with your pass"], "a pass for some hours", cells)
     page.offer("court-1", 10)
     page.press("One guest more")
     check(page.run("return [...byName('dialog').querySelectorAll('.step-button')][1].disabled"), "no more guests than the pass allows")
@@ -298,12 +298,12 @@ def leaves_out_what_the_pass_denies(page, passes):
     check(limits == ["The holder may only look at slots or book.", "Only slots that begin at 10:00 or later, but before 12:00.", "Only bookings with at most 1 guest."],
           "what a pass allows", limits)
     page.enter(narrowed(whole, "actions = view"))
-    check(page.run("return [...cells.values()].every((cell) => cell.button.disabled)"), "a pass that looks books nothing")
+    check(page.run("return [...cells.values()].every((cell) => cell.button.disabled)"), "a pass for viewing books nothing")
     page.enter(narrowed(whole, "until < 2026-01-01T00:00"))
     text = page.run("return shownText('day-fault')")
-    check("Until the end of Wednesday 31 December 2025." in text, "a pass whose time is over", text)
+    check("Until the end of Wednesday 31 December 2025." in text, "a pass that has ended", text)
     page.enter(narrowed(whole, "actions = book,cancel"), 5)
-    check(page.run("return cellAt('court-1', 15).button.innerText") == "Book", "a pass that doesn't look books")
+    check(page.run("return cellAt('court-1', 15).button.innerText") == "Book", "a pass without viewing can book")
     page.booked("court-1", 15)
     # The page has no button for a request that the pass doesn't allow. If the page can't know whether the pass allows a request, it offers the
     # button, and the desk decides.
@@ -316,13 +316,13 @@ def leaves_out_what_the_pass_denies(page, passes):
     page.book("court-1", 16)
     page.when("dialogText().includes('Not booked.')", "a refusal")
     text = page.run("return dialogText()")
-    check("Your pass doesn't allow this: At most 200 points in all." in text, "why", text)
+    check("Your pass doesn't allow this: At most 200 points in all." in text, "the reason in the refusal", text)
     page.press("Close")
     curl(page, "DELETE", f"/slots/court-2/{day(5)}/16/bookings/{number}", passes["lists-1"])
     check(not page.run("return isDialogOpen()"), "a closed dialog")
     page.enter(passes["amy-1"])
     same_record(page, "amy-1")
-    print("what a pass leaves out isn't shown, and the desk decides")
+    print("the page hides what a pass excludes, and the desk decides")
 
 
 def refusals_say_what_to_do(page, passes, between):
@@ -345,7 +345,7 @@ def refusals_say_what_to_do(page, passes, between):
     office("close-slot", "court-3", day(6), "13")
     page.book("court-3", 13)
     page.comes("The office closed this slot", "fault 17")
-    page.when("cellAt('court-3', 13).button.innerText === 'Closed'", "a slot that was looked at again")
+    page.when("cellAt('court-3', 13).button.innerText === 'Closed'", "a slot that was loaded again")
     # If the key has already used the number that the page picks, the page picks another number.
     used = 123456789
     curl(page, "PUT", f"/slots/court-2/{day(6)}/12/bookings/{used}", passes["amy-1"], '{"guests":1}')
@@ -390,8 +390,8 @@ def refusals_say_what_to_do(page, passes, between):
         page.when(f"dialogText().includes(\"{words}\") && dialogText().includes('The page sends the request again, attempt')", "a booking", status)
         between.fates.clear()
         page.comes("Booked.", "a booking at last")
-        check([place[:3] for place in amounts("amy-1").values()].count(("court-2", day(6), hour)) == 1, "it is booked once", status)
-    print("each of the 22 faults has its own sentence in both languages, and so have 502 and 504; those that a member meets were met")
+        check([place[:3] for place in amounts("amy-1").values()].count(("court-2", day(6), hour)) == 1, "the slot is booked once", status)
+    print("each of the 22 faults has its own sentence in both languages, and so have 502 and 504; the faults that a member can cause occurred")
 
 
 def goes_by_keyboard(page, passes):
@@ -426,7 +426,7 @@ def goes_by_keyboard(page, passes):
     tab_to("at.textContent === 'Book for 400 points'")
     page.keys(Keys.ENTER)
     page.when("dialogText().includes('Booked.')", "a booking by keyboard")
-    page.when("document.activeElement.textContent === 'Close'", "what closes it has the focus")
+    page.when("document.activeElement.textContent === 'Close'", "the button that closes the dialog has the focus")
     page.keys(Keys.ENTER)
     check(page.run("return document.activeElement === cellAt('court-2', 8).button"), "the slot has the focus again")
     page.run("document.body.focus()")
@@ -436,14 +436,14 @@ def goes_by_keyboard(page, passes):
     page.run("showBookings(() => {})")
     check(page.run("return document.activeElement.textContent") == "Cancel", "a list that is shown again leaves the focus where it is")
     page.run("document.activeElement.closest('.card').querySelector('.more').open = true; showBookings(() => {})")
-    check(page.run("return document.activeElement.closest('.card').querySelector('.more').open"), "and what is open stays open")
+    check(page.run("return document.activeElement.closest('.card').querySelector('.more').open"), "open details stay open")
     page.keys(Keys.ENTER)
     tab_to("at.textContent === 'Cancel the booking'")
     page.keys(Keys.ENTER)
     page.when("dialogText().includes('400 points came back')", "a cancellation by keyboard")
     page.keys(Keys.ESCAPE)
     check(not page.run("return isDialogOpen()"), "Escape closes the dialog")
-    print("the whole way by keyboard: pass, day, slot, guests, booking, cancellation")
+    print("all steps by keyboard: pass, day, slot, guests, booking, cancellation")
 
 
 def finds_a_time(page, passes):
@@ -473,11 +473,11 @@ def finds_a_time(page, passes):
     page.when("shownText('find-looked').includes(':')", "its week")
     page.run("byName('find-grid').tBodies[0].rows[0].cells[1].firstChild.click()")
     words = page.run("return [...byName('dialog').querySelectorAll('button')].map((each) => each.innerText.trim())")
-    check(words[1:4] == ["Court 1 4 of 4 free, 200 points", "Court 2 4 of 4 free, 200 points", "Court 3 (indoor) 2 of 2 free, 300 points"], "what is free", words)
+    check(words[1:4] == ["Court 1 4 of 4 free, 200 points", "Court 2 4 of 4 free, 200 points", "Court 3 (indoor) 2 of 2 free, 300 points"], "the free facilities", words)
     page.run("[...byName('dialog').querySelectorAll('button')][2].click()")
     has(page.run("return dialogText()"), "the slot that was found", "Book Court 2", "18:00 to 19:00", "Book for 200 points")
     page.press("Book for 200 points")
-    page.comes("Booked.", "a booking of what was found")
+    page.comes("Booked.", "a booking of the slot that was found")
     page.when("byName('find-grid').tBodies[0].rows[0].cells[1].innerText.includes('Yours')", "her own place is marked")
     entry = page.entries()[-1]
     page.click("to-find")
@@ -488,12 +488,12 @@ def finds_a_time(page, passes):
     check(page.run("return document.querySelector('.chip[aria-pressed=true]').dataset.facility") == "court-2", "the last facility")
     hidden = page.run("return [...byName('slots').tBodies[0].rows].filter((row) => row.hidden).length")
     first = min(opens for *_, opens, _ in FACILITIES)
-    check(hidden == now().hour + 1 - first and page.run("return isShown('earlier')"), "hours that are over are folded away", hidden, now().hour)
+    check(hidden == now().hour + 1 - first and page.run("return isShown('earlier')"), "past hours are hidden", hidden, now().hour)
     page.click("earlier")
-    check(page.run("return [...byName('slots').tBodies[0].rows].filter((row) => row.hidden).length") == 0, "and shown")
+    check(page.run("return [...byName('slots').tBodies[0].rows].filter((row) => row.hidden).length") == 0, "past hours are shown")
     page.click("to-find")
     check(page.run("return [byName('find-from').value, byName('find-to').value]") == ["18", "19"], "the last hours")
     page.click("to-find")
-    page.cancelled(entry["number"], "what was found")
+    page.cancelled(entry["number"], "a cancellation of the slot that was found")
     page.sees(1280, "light")
-    print("a time is found over a week of a kind, and the next free one; the last facility and hours are remembered")
+    print("the search shows a week for a kind, and finds the next free time; the page remembers the last facility and hours")

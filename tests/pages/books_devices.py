@@ -21,7 +21,7 @@ def rotations(passes, front, between):
         page.when("dialogText().includes('The page sends the request again')", "no reply")
         new = office("rotate-key", "amy-son", "99" + ROOT, "2000-01-01T00:00")
         between.fates.clear()
-        page.comes("doesn't know whether", "a pass that is refused meanwhile")
+        page.comes("doesn't know whether", "a pass that is refused in the meantime")
         page.view("bookings")
         check("The page doesn't know whether this slot is booked" in page.run("return byName('to-come').innerText"), "a booking in an unknown state")
         page.visit(f"#{new}", "isShown('day') && state.entries.every((each) => unfinished(each) === null && each.stopped === undefined)", "the new pass")
@@ -39,7 +39,7 @@ def rotations(passes, front, between):
         page.when("shownText('needs-pass').includes('1 request of the pass amy-son has no answer yet')", "a request that needs its pass")
         page.visit(f"#{new}", "isShown('day') && allAnswered()", "its pass again")
         check(same_record(page, "amy-son") == 2, "two bookings")
-    print("a rotated key, and passes of two keys: what had no reply goes on under its own key")
+    print("a rotated key, and passes of two keys: requests without a reply continue under their own keys")
 
 
 def devices(passes, front, server):
@@ -60,7 +60,7 @@ def devices(passes, front, server):
         link = printed("zbarimg", "-q", "--raw", "qr.png").strip()
         check(link.startswith(f"{page.address}#record=amy-phone;"), "the QR code", link)
     by_office = printed(f"{TOP}/deploy/record", "club", "amy-phone")
-    check(len(by_office.splitlines()) >= 4, "what the office prints", by_office)
+    check(len(by_office.splitlines()) >= 4, "the office's list", by_office)
     with BookingPage(front) as page:
         page.enter(passes["amy-phone"])
         page.driver.get(link)
@@ -71,9 +71,9 @@ def devices(passes, front, server):
         page.view("account")
         page.run("byName('import-text').value = arguments[0]; byName('import').requestSubmit()", by_office)
         page.when("shownText('import-news') !== ''", "the office's record")
-        check(same_record(page, "amy-phone") == len(by_office.splitlines()) - 1, "what the office printed is the record")
+        check(same_record(page, "amy-phone") == len(by_office.splitlines()) - 1, "the office's list matches the record")
         page.run("byName('import').requestSubmit()")
-        page.when("shownText('import-news').includes('this browser already has all of the list')", "the same again")
+        page.when("shownText('import-news').includes('this browser already has all of the list')", "a repeated import")
         page.run("byName('import-text').value = 'record of amy-phone\\n12 court-1'; byName('import').requestSubmit()")
         page.when("shownText('import-news').includes(\"Line 2 doesn't belong\")", "an odd record")
         page.cancelled_in_the_list("a cancellation of what another browser booked")
@@ -92,9 +92,9 @@ def devices(passes, front, server):
             page.when(f"shownText('lost-news').includes('{words}')", "a booking by its number")
         check(amounts("amy-phone") == before, "the question changes nothing")
         page.view("bookings")
-        page.when("byName('to-come').innerText.includes('You noted this booking by its number')", "in the list")
+        page.when("byName('to-come').innerText.includes('You noted this booking by its number')", "the noted booking in the list")
         page.cancelled_in_the_list("a cancellation by number and slot")
-        check(amounts("amy-phone")[number][-2] == 1, "it is cancelled")
+        check(amounts("amy-phone")[number][-2] == 1, "the booking is cancelled")
     print("the record goes to other browsers by text, by QR code and from the office; number and slot suffice to cancel")
 
 
@@ -132,7 +132,7 @@ def at_hand(passes, server):
         # Because of the test's own certificate, the browser may report that the page's origin isn't secure. It must report no other fault.
         wrong = [each["errorId"] for each in page.command("Page.getInstallabilityErrors")["installabilityErrors"]]
         check(set(wrong) <= {"not-from-secure-origin"}, "a page for the home screen", wrong)
-        check(kept == sorted(f"{base}/{name}" for name in ("book.html", "pass.html", "club.json", "app.webmanifest")), "what the worker keeps", kept)
+        check(kept == sorted(f"{base}/{name}" for name in ("book.html", "pass.html", "club.json", "app.webmanifest")), "the worker's cached pages", kept)
         stop_proxy(front)
         page.command("Network.enable")
         page.command("Network.emulateNetworkConditions", offline=True, latency=0, downloadThroughput=-1, uploadThroughput=-1)
@@ -150,7 +150,7 @@ def at_hand(passes, server):
         # cache remains.
         whole = pathlib.Path("www/book.html").read_text()
         pathlib.Path("www/book.html").write_text(whole.replace("</body>", "<p id='newer'></p></body>"))
-        page.visit("", "isShown('day') && byName('newer') !== null", "a new page beside an old worker")
+        page.visit("", "isShown('day') && byName('newer') !== null", "a new page with an old worker")
         worker = pathlib.Path("www/worker.js").read_text()
         pathlib.Path("www/worker.js").write_text(re.sub('VERSION = "[0-9a-f]+"', 'VERSION = "another"', worker))
         page.visit("", "isShown('day')", "a new worker")
@@ -164,9 +164,9 @@ def at_hand(passes, server):
               }
               return done(await caches.keys());
             })();""")
-        check(found == ["pages another"], "the new worker's pages alone", found)
+        check(found == ["pages another"], "only the new worker's pages", found)
         pathlib.Path("www/book.html").write_text(whole)
-        page.visit("", "isShown('day') && byName('newer') === null", "the page of before")
+        page.visit("", "isShown('day') && byName('newer') === null", "the earlier page")
         page.cancelled(page.entries()[-1]["number"])
         check(not page.complaints(), "the console says", page.complaints())
     for missing in ("worker.js", "app.webmanifest"):
@@ -178,7 +178,7 @@ def at_hand(passes, server):
             wanted = "needs a network to open" if missing == "worker.js" else "also opens without a network"
             page.when(f"shownText('at-hand').includes('{wanted}')", "a page without", missing)
         pathlib.Path("www", missing).write_text(worker if missing == "worker.js" else kept)
-    print("without a network the page opens with the list; a worker or a manifest that is missing, and an old worker, harm nothing")
+    print("without a network, the page opens with the list; a missing worker, a missing manifest or an old worker does no harm")
 
 
 def tells_what_is_missing(passes, front):
@@ -188,21 +188,21 @@ def tells_what_is_missing(passes, front):
     asks = "globalThis.persistAsked = 0; navigator.storage.persist = async () => { persistAsked += 1; return true; }; navigator.storage.persisted = async () => false;"
     with BookingPage(front, before=asks) as page:
         page.enter(passes[key], 35, "Keep it")
-        check(page.run("return persistAsked") == 0, "nothing is asked of the browser before there is a list")
+        check(page.run("return persistAsked") == 0, "the page asks the browser for nothing before it has a list")
         for place, guests in enumerate((0, 1, 0)):
             page.booked("court-2", 9 + place, guests)
         check(page.run("return persistAsked") == 1, "the browser is asked once to keep the list", page.run("return persistAsked"))
         page.view("bookings")
-        has(page.run("return shownText('list-kept')"), "what it promised", "This browser keeps the list until you clear the browser's data.")
+        has(page.run("return shownText('list-kept')"), "the browser's promise", "This browser keeps the list until you clear the browser's data.")
         first = page.entries()
         page.view("bookings")
         page.when("state.account?.spent === 800", "the account")
-        check(not page.run("return isShown('list-says')"), "a list that is whole")
+        check(not page.run("return isShown('list-says')"), "a complete list")
         page.when("isShown('list-remind') && shownText('list-remind').includes('3 bookings')", "a reminder")
         page.press("Take the list with you", "list-remind")
         page.press("Copy the list", "account")
         page.view("bookings")
-        check(not page.run("return isShown('list-remind')"), "no reminder after the list was taken along")
+        check(not page.run("return isShown('list-remind')"), "no reminder after the list was copied")
         gone = first[1]
         curl(page, "DELETE", f"/slots/court-2/{day(35)}/10/bookings/{gone['number']}", passes[key])
         # The slot has as many free places as before, so only the spent points that the desk counts show the change.
@@ -211,9 +211,9 @@ def tells_what_is_missing(passes, front):
         page.view("bookings")
         page.when("shownText('list-says').includes('This pass spent 400 points less than this list')", "a booking that was cancelled elsewhere")
         cards = page.run("return [...byName('to-come').children].filter((each) => each.innerText.includes('may have been cancelled elsewhere')).map((each) => each.innerText)")
-        check(len(cards) == 1 and f"Number {gone['number']}" in cards[0], "which it can be", cards)
-        page.cancelled(gone["number"], "it is asked for")
-        page.when("!isShown('list-says')", "a list that is whole again")
+        check(len(cards) == 1 and f"Number {gone['number']}" in cards[0], "the booking that may be cancelled", cards)
+        page.cancelled(gone["number"], "a cancellation of that booking")
+        page.when("!isShown('list-says')", "a complete list again")
         curl(page, "PUT", f"/slots/court-2/{day(35)}/15/bookings/6", passes[key], '{"guests":0}')
         page.view("day")
         page.view("bookings")
@@ -222,12 +222,12 @@ def tells_what_is_missing(passes, front):
         page.driver.get(link)
         page.when(f"dialogText().includes('bookings of {key}')", "the office's list by a link")
         page.press("Add to this browser")
-        page.when("!isShown('list-says')", "a list that is whole by the office's")
+        page.when("!isShown('list-says')", "a list completed from the office's list")
         for each in amounts(key):
             slot = amounts(key)[each]
             curl(page, "DELETE", f"/slots/{slot[0]}/{slot[1]}/{slot[2]:02}/bookings/{each}", passes[key])
         curl(page, "DELETE", f"/slots/court-2/{day(35)}/10/bookings/5", passes["other"])
-    print("what the desk counts tells a booking that was cancelled elsewhere, and one that isn't listed; the office's list comes by a link")
+    print("the points that the desk counts show a booking that was cancelled elsewhere, and one that isn't listed; the office's list comes by a link")
 
 
 def does_more_with_bookings(page, passes, between):
@@ -245,17 +245,17 @@ def does_more_with_bookings(page, passes, between):
         URL.createObjectURL = (blob) => { blob.text().then((text) => { saved = text; }); return make.call(URL, blob); };
         Object.defineProperty(navigator, "share", { value: async (it) => { globalThis.sharedIt = it; } });""")
     more("Into the calendar")
-    page.when("saved !== null", "a calendar's file")
+    page.when("saved !== null", "a calendar file")
     begins = datetime.strptime(f"{day(20)}T10", "%Y-%m-%dT%H") - timedelta(hours=AHEAD)
     has(page.run("return saved"), "the calendar's lines", "BEGIN:VALARM", f"DTSTART:{begins:%Y%m%dT%H%M%SZ}", "SUMMARY:Court 2\\, Rowing & tennis")
     more("Invite")
     page.when("dialogText().includes('sent')", "an invitation")
     text = page.run("return sharedIt.text")
-    has(text, "what an invitation says", "Court 2", "10:00 to 11:00", "Rowing & tennis")
-    check(str(entry["number"]) not in text and passes["more-1"] not in text, "and nothing else", text)
+    has(text, "the invitation's text", "Court 2", "10:00 to 11:00", "Rowing & tennis")
+    check(str(entry["number"]) not in text and passes["more-1"] not in text, "no number and no pass in the invitation", text)
     page.press("Close")
     more("Book again next week")
-    page.when("dialogText().includes('Book for 200 points')", "the same a week later")
+    page.when("dialogText().includes('Book for 200 points')", "the same slot a week later")
     has(page.run("return dialogText()"), "a week later", "Book Court 2", page_date(day(27), year=True), "10:00 to 11:00")
     page.press("Book for 200 points")
     page.comes("Booked.", "a week later")
@@ -281,7 +281,7 @@ def does_more_with_bookings(page, passes, between):
     page.press("Look up")
     page.when("dialogText().includes('cancel the old booking')", "a full slot")
     page.press("Book the new slot for 400 points, and cancel the old booking")
-    page.comes("Not changed: you still have the old booking.", "a change that isn't one")
+    page.comes("Not changed: you still have the old booking.", "a failed change")
     check(not amounts("more-1")[moved["number"]][-2], "the old booking stays")
     # If the member can't cancel the old booking any more, she has both bookings, and the page says so.
     between.fates["DELETE"] = ['answer 409 {"fault":21,"text":"slot has begun"}']
@@ -290,20 +290,20 @@ def does_more_with_bookings(page, passes, between):
     page.press("Look up")
     page.when("dialogText().includes('cancel the old booking')", "another hour")
     page.press("Book the new slot for 200 points, and cancel the old booking")
-    page.comes("You have both bookings: the old booking wasn't cancelled.", "a change of which half fails")
+    page.comes("You have both bookings: the old booking wasn't cancelled.", "a change with a failed cancellation")
     both = page.entries()[-1]
-    check([amounts("more-1")[each["number"]][-2] for each in (moved, both)] == [0, 0], "both are in the file")
-    page.cancelled(both["number"], "the new one")
+    check([amounts("more-1")[each["number"]][-2] for each in (moved, both)] == [0, 0], "both bookings are in the file")
+    page.cancelled(both["number"], "the new booking")
     more("Change", moved["number"])
     page.press("Look up")
     check("You already have this booking." in page.run("return dialogText()"), "no change")
     page.press("Close")
     curl(page, "DELETE", f"/slots/court-2/{day(20)}/13/bookings/{number}", passes["other"])
     for each in (moved, later):
-        page.cancelled(each["number"], "all of them")
+        page.cancelled(each["number"], "all bookings")
     page.run("return Promise.all(ownEntries().filter((each) => stateOf(each) === 'refused').map((each) => state.store.remove(each.key, each.number)))")
     same_record(page, "more-1")
-    print("a booking goes into a calendar, an invitation, the next week, to another hour with more guests; what fails leaves the old one")
+    print("a booking goes into a calendar and an invitation, is repeated, and gets another hour and more guests; a failed change keeps the old booking")
 
 
 def letters(passes):
@@ -315,7 +315,7 @@ def letters(passes):
         text = printed("env", f"DESK={address}", "CLUB=Rowing & tennis", f"WORDS={words}", letter, "amy-1", given=passes["amy-1"] + "\n")
         check("Rowing &amp; tennis" in text and text.count(link) == 2, "a letter, and its link", text)
         table = json.loads(pathlib.Path(TOP, f"web/src/words/{words}.json").read_text())
-        has(text, "the page's own words", f": {table['keep-yes']}.")
+        has(text, "the page's own words", f"{table['keep-yes']}{'”' if words == 'en' else '“'}.")
         pathlib.Path("letter.html").write_text(text)
         with Browser() as browser:
             browser.driver.get(pathlib.Path("letter.html").absolute().as_uri())
@@ -349,8 +349,8 @@ def letters(passes):
                                     ("amy-1", passes["amy-1"] + "\nmore", address), ("amy-1", passes["amy-1"], 'https://x"><b>')]:
         refused("^letter: ", letter, key, given=given, DESK=its_address)
     club_json = f"{TOP}/deploy/club_json"
-    for words, fault in [(["club", "Etc/GMT+9" if AHEAD != -9 else "Etc/GMT+8"], "another zone"), (["club", "Nowhere/None"], "no zone"),
-                         (["club", "../passwd"], "no name of a zone"), (["missing", ZONE], "there is no file")]:
+    for words, fault in [(["club", "Etc/GMT+9" if AHEAD != -9 else "Etc/GMT+8"], "one of the two zones is wrong"), (["club", "Nowhere/None"], "no zone"),
+                         (["club", "../passwd"], "not the name of a zone"), (["missing", ZONE], "there is no file")]:
         refused(fault, club_json, *words, RULE=RULE)
     refused("there is no file missing", club_json, "club", ZONE, RULE=RULE, CLUB="Rowing & tennis", TITLES="missing")
     pathlib.Path("odd").write_text("court-9 Nowhere\n")
@@ -363,10 +363,10 @@ def letters(passes):
     pathlib.Path("logo.svg").write_text("<svg xmlns='http://www.w3.org/2000/svg'/>")
     more = {"CONTACT": "Tel. 030 1234", "IMPRINT": "https://club.example/imprint", "PRIVACY": "https://club.example/privacy", "LOGO": "logo.svg"}
     found = json.loads(printed("env", f"RULE={RULE}", *(f"{name}={value}" for name, value in more.items()), club_json, "club", ZONE))
-    check(found["contact"] == more["CONTACT"] and found["imprint"] == more["IMPRINT"] and found["logo"].startswith("data:image/svg+xml;base64,PHN2"), "what is shown besides", found)
-    for name, value, fault in (("IMPRINT", "http://club.example", "IMPRINT is no address"), ("PRIVACY", "javascript:x", "PRIVACY is no address"), ("CONTACT", "x" * 201, "more than 200"),
-                               ("LOGO", "club", "a logo is"), ("LOGO", "missing.svg", "can't be read")):
+    check(found["contact"] == more["CONTACT"] and found["imprint"] == more["IMPRINT"] and found["logo"].startswith("data:image/svg+xml;base64,PHN2"), "the club's contact, imprint and logo", found)
+    for name, value, fault in (("IMPRINT", "http://club.example", "IMPRINT is not an address"), ("PRIVACY", "javascript:x", "PRIVACY is not an address"), ("CONTACT", "x" * 201, "more than 200"),
+                               ("LOGO", "club", "a logo must be"), ("LOGO", "missing.svg", "can't be read")):
         refused(fault, club_json, "club", ZONE, RULE=RULE, **{name: value})
-    for key, fault in [("nobody", "no key nobody"), ("Amy", "no name of a key"), ("a'b", "no name of a key")]:
+    for key, fault in [("nobody", "no key nobody"), ("Amy", "is not the name of a key"), ("a'b", "is not the name of a key")]:
         refused(fault, f"{TOP}/deploy/record", "club", key)
-    print("letters, lists and records of the office, and what they refuse")
+    print("the office's letters, lists and records, and their refusals")

@@ -25,7 +25,7 @@ def survives_failures(page, passes, between):
     for place, failure in enumerate(FAILURES):
         between.fates["PUT"] = [failure]
         entry = page.booked("boat-1", 8 + place)
-        check(not between.fates["PUT"], "a failure that wasn't met", failure)
+        check(not between.fates["PUT"], "a failure that didn't occur", failure)
         between.fates["DELETE"] = [failure]
         page.cancelled(entry["number"], failure)
     between.fates["PUT"] = list(FAILURES)
@@ -42,12 +42,12 @@ def survives_failures(page, passes, between):
     page.run("lookAt(cellAt('boat-2', 10), round)")
     page.when("cellAt('boat-2', 10).button.innerText.includes('No answer')", "a slot without an answer")
     between.fates["GET"] = []
-    check("free" in page.run("return cellAt('boat-2', 11).button.innerText"), "its neighbour")
+    check("free" in page.run("return cellAt('boat-2', 11).button.innerText"), "the neighbouring slot")
     page.offer("boat-2", 10)
-    page.when("cellAt('boat-2', 10).button.innerText.includes('free')", "a slot that is looked at again")
+    page.when("cellAt('boat-2', 10).button.innerText.includes('free')", "a slot that is loaded again")
     count = same_record(page, "fails-1")
     totals_are_sums()
-    print(f"requests lost in {len(FAILURES)} ways: each of {count} bookings once, as the file has it")
+    print(f"requests lost in {len(FAILURES)} ways: the file has each of {count} bookings once")
 
 
 def pages_end(page, passes, between, server):
@@ -67,7 +67,7 @@ def pages_end(page, passes, between, server):
     page.go(day(8))
     page.run("""state.sender.run = async () => {}; return state.sender.book({ facility: "court-2", day: arguments[0], hour: 14 }, 0, false)""", day(8))
     check(len(amounts("ends-1")) == before + 3, "nothing was sent")
-    page.visit("", "allAnswered()", "a booking that was written down and not sent")
+    page.visit("", "allAnswered()", "a booking that was recorded and not sent")
     # At the next visit, the page completes a cancellation too.
     number = page.entries()[-1]["number"]
     between.fates["DELETE"] = ["late 3"]
@@ -76,17 +76,17 @@ def pages_end(page, passes, between, server):
     page.press("Cancel the booking")
     time.sleep(0.3)
     page.visit("", "allAnswered(1)", "a cancellation that the next visit finishes")
-    check(amounts("ends-1")[number][-2] == 1, "it is cancelled")
+    check(amounts("ends-1")[number][-2] == 1, "the booking is cancelled")
     # The desk is down for a while.
     page.go(day(8))
     server.kill()
     page.book("court-2", 16)
-    page.when("dialogText().includes('The page sends the request again')", "a desk that is away")
+    page.when("dialogText().includes('The page sends the request again')", "a desk that is down")
     server.start()
-    page.comes("Booked.", "a desk that is back")
+    page.comes("Booked.", "a desk that is up again")
     same_record(page, "ends-1")
     totals_are_sums()
-    print("pages that end before, in and after a request, and a desk that is away: each booking once")
+    print("pages that end before, during and after a request, and a desk that is down: each booking once")
 
 
 def writes_before_it_sends(passes, front):
@@ -113,7 +113,7 @@ def writes_before_it_sends(passes, front):
         page.when("dialogText().includes('came back')", "a cancellation")
         found = page.run("return order")
         check(found == ["written, strict", "sent, PUT", "written, strict", "written, strict", "sent, DELETE", "written, strict"], "the order", found)
-    print("each request is on the disk before it is sent, and its reply after")
+    print("the page writes each request to the disk before sending it, and each reply afterwards")
 
 
 def lists_what_is_past(passes, front):
@@ -123,20 +123,20 @@ def lists_what_is_past(passes, front):
         page.view("account")
         page.when("shownText('account-facts').includes('of 99')", "the account")
         page.view("account")
-        has(page.run("return shownText('account')"), "what is said where it bites", "Each person needs a separate pass.", "Each device needs a separate pass.",
+        has(page.run("return shownText('account')"), "the advice in the account", "Each person needs a separate pass.", "Each device needs a separate pass.",
             "as amy-phone, keeps its own list", "Lost your phone?", "Forget the pass")
         page.run("byName('import-text').value = arguments[0]; byName('import').requestSubmit()", "record of amy-phone\n"
                  f"5 court-1 {day(-3)} 10 guests 1 charge 400 left 2\n6 boat-1 {day(-2)} 09 guests 0 charge 150 left 1 refund 75\n")
         page.when("shownText('import-news').includes('2 bookings')", "a record of past bookings")
         page.view("bookings")
-        check(page.run("return byName('to-come').children.length") == 0 and page.run("return byName('bookings-count').textContent") == "", "nothing to come")
+        check(page.run("return byName('to-come').children.length") == 0 and page.run("return byName('bookings-count').textContent") == "", "no future bookings")
         page.run("byName('past-part').open = true")
         cards = page.run("return [...byName('past').children].map((each) => each.innerText)")
         check(len(cards) == 2 and "Double scull" in cards[0] and "According to an imported list: cancelled, 75 points came back" in cards[0] and "Court 1" in cards[1]
               and "According to an imported list: booked" in cards[1] and "2 persons" in cards[1] and "400 points" in cards[1], "past bookings", cards)
         words = page.run("return [...byName('past').querySelectorAll('button')].map((each) => each.textContent)")
-        check(words == ["Remove from the list"] * 2, "nothing can be done about them but that", words)
-    print("past bookings are listed apart; the traps are named where they bite")
+        check(words == ["Remove from the list"] * 2, "past bookings can only be removed", words)
+    print("past bookings are listed separately; the account has the advice about passes and devices")
 
 
 def tabs_send_nothing_twice(page, passes, between, server):
@@ -152,11 +152,11 @@ def tabs_send_nothing_twice(page, passes, between, server):
     page.driver.switch_to.window(first)
     page.when("cellAt('court-1', 9).button.innerText === 'Being sent' && cellAt('court-1', 9).button.disabled", "the slot in another tab")
     second_entry = page.run("return state.sender.book({ facility: 'court-1', day: arguments[0], hour: 9 }, 0, false)", day(9))
-    check("second" in second_entry, "a second booking of the slot isn't made by another tab", second_entry)
+    check("second" in second_entry, "another tab makes no second booking of the slot", second_entry)
     page.booked("court-1", 10)
     page.driver.switch_to.window(second)
     page.comes("Booked.", "the first tab's booking")
-    page.when("cellAt('court-1', 10).button.innerText.includes('Yours')", "what the other tab booked")
+    page.when("cellAt('court-1', 10).button.innerText.includes('Yours')", "the other tab's booking")
     # Two tabs try to send the same three requests, and only one tab at a time may send.
     between.fates["PUT"] = ["silent"] * 6
     page.run("return Promise.all([11, 12, 13].map((hour) => state.sender.book({ facility: 'court-1', day: arguments[0], hour }, 0, false)))", day(9))
@@ -181,7 +181,7 @@ def tabs_send_nothing_twice(page, passes, between, server):
     page.driver.close()
     page.driver.switch_to.window(first)
     same_record(page, "tabs-1")
-    print("two tabs and a double press send nothing twice; a second booking is asked for")
+    print("two tabs and a double press send nothing twice; the page asks before a second booking")
 
 
 def survives_kills(passes, front, server):
@@ -223,7 +223,7 @@ def survives_kills(passes, front, server):
         count = same_record(page, "kill-1")
         check(count == BOOKINGS, "bookings", count)
     totals_are_sums()
-    print(f"{count} bookings, most of them cancelled, while the server was killed {kills} times: the record is the table of bookings, and the "
+    print(f"{count} bookings, most of them cancelled, while the server was killed {kills} times: the record matches the table of bookings, and the "
           "totals are its sums")
 
 
@@ -246,10 +246,10 @@ def browser_ends(passes, front, between):
         name.unlink()
     between.fates.clear()
     with BookingPage(front, words=[f"user-data-dir={folder}"]) as page:
-        page.visit("", "isShown('day') && state.entries.length === 1 && allAnswered()", "a browser that is there again")
+        page.visit("", "isShown('day') && state.entries.length === 1 && allAnswered()", "a browser that runs again")
         check(same_record(page, "browser-1") == 1, "its booking")
     shutil.rmtree(folder)
-    print("a browser that was killed in a booking finishes it when it is there again")
+    print("a browser that was killed during a booking completes the booking when it runs again")
 
 
 BROKEN = {
@@ -268,8 +268,8 @@ def broken_browsers(passes, front, server):
             page.when("isShown('notices')", what)
             check(words in page.run("return shownText('notices')"), what, page.run("return shownText('notices')"))
             page.go(day(11))
-            check("free" in page.run("return cellAt('court-1', 9).button.innerText"), what, "it looks")
-            check(page.run("return [...cells.values()].every((cell) => cell.button.disabled)"), what, "it books nothing")
+            check("free" in page.run("return cellAt('court-1', 9).button.innerText"), what, "slots are shown")
+            check(page.run("return [...cells.values()].every((cell) => cell.button.disabled)"), what, "no slot can be booked")
     full = "IDBObjectStore.prototype.put = function () { throw new DOMException('full', 'QuotaExceededError'); };"
     with BookingPage(front, before=full) as page:
         asked = server.asked().total()
@@ -287,7 +287,7 @@ def broken_browsers(passes, front, server):
         page.run(later)
         page.book("court-1", 10)
         page.when("dialogText().includes('Booked.')", "a storage that gets full")
-        check("couldn't save the desk's answer" in page.run("return dialogText()"), "it says so")
+        check("couldn't save the desk's answer" in page.run("return dialogText()"), "the page says so")
         page.driver.refresh()
         page.when("isShown('day') && state.entries.length === 1 && allAnswered()", "the reply again")
         number = page.entries()[0]["number"]
@@ -298,7 +298,7 @@ def broken_browsers(passes, front, server):
         page.enter(passes["full-1"])
         page.press("Keep it", "notices")
         page.when("shownText('notices').includes(\"This browser can't keep the pass\")", "a pass that can't be kept")
-    print(f"{len(BROKEN) + 3} browsers that keep nothing, too little or only at first: nothing is sent that can't be written down, and each says so")
+    print(f"{len(BROKEN) + 3} browsers that store nothing, too little or only at first: no page sends a request that it can't record, and each page says so")
 
 
 def clocks(passes, front):
@@ -306,12 +306,12 @@ def clocks(passes, front):
     with BookingPage(front, before=ahead, zone="Pacific/Auckland") as page:
         page.enter(passes["amy-1"])
         page.when("shownText('notices').includes('differs from the club')", "a clock that is wrong")
-        check("182 minutes" in page.run("return shownText('notices')"), "by how much", page.run("return shownText('notices')"))
+        check("182 minutes" in page.run("return shownText('notices')"), "the difference between the clocks", page.run("return shownText('notices')"))
         hour = now().hour
         check("free" in page.run("return cellAt('court-1', arguments[0]).button.innerText", hour + 1), "the next hour can be booked")
-        check(page.run("return cellAt('court-1', arguments[0]).button.innerText", hour) == "Over", "this hour can't")
-        check(page.run("return shownDay()") == day(0), "today is the club's")
-    print("a clock three hours ahead in a zone of the other side of the world: the club's day and hours")
+        check(page.run("return cellAt('court-1', arguments[0]).button.innerText", hour) == "Over", "this hour can't be booked")
+        check(page.run("return shownDay()") == day(0), "today is the club's day")
+    print("with a clock three hours ahead, in a zone on the other side of the world, the page shows the club's day and hours")
 
 
 def offline(page, passes):
@@ -324,7 +324,7 @@ def offline(page, passes):
     check("Court" in page.run("return byName('to-come').innerText + byName('past').innerText"), "the record, offline")
     page.command("Network.emulateNetworkConditions", offline=False, latency=0, downloadThroughput=-1, uploadThroughput=-1)
     page.when("!shownText('notices').includes('You are offline')", "online again")
-    print("offline it says so, and shows the record")
+    print("offline, the page says so and shows the record")
 
 
 # REQUESTS_ALONE measures the milliseconds for the requests of a day. A_DAY measures the milliseconds until the page shows a day.
@@ -372,7 +372,7 @@ def days_at_once(passes, server):
             page.run("showDay(arguments[0])", day(ahead))
             time.sleep(0.25)
         page.when(f"shownDay() === '{day(10)}' && dayIsThere()", "the tenth day")
-        check(page.run("return [...cells.values()].every((cell) => cell.view !== null)"), "a whole day")
+        check(page.run("return [...cells.values()].every((cell) => cell.view !== null)"), "a complete day")
         check(limited() == before, "ten days at four a second are limited", limited() - before)
         # The test uses the shortest time of several runs, because other work on the machine can slow down a run.
         for ahead in range(11, 31):
@@ -407,11 +407,11 @@ def days_at_once(passes, server):
     is_flooding = flood.poll() is None
     flooded = Counter(flood.communicate()[0].split())
     check(flooded["429"] > 500, "a flood that isn't limited", flooded)
-    check(all(set(statuses) == {"200"} for statuses, _ in beside), "another pass beside it", beside)
-    check(min(seconds for _, seconds in beside) < max(most, 3 * alone), "how long its day takes", beside, alone, is_flooding, os.getloadavg())
-    judged = "" if max(min(took), slowest) < MOST_SECONDS else f"; not judged by {MOST_SECONDS} s, as the machine has a load of {os.getloadavg()[0]:.0f}"
-    print(f"a day in {min(took):.2f} to {max(took):.2f} s{judged}, ten members' at one address in {slowest:.2f}, none limited; beside a flood of a pass, of which {flooded['429']} are, "
-          f"another's in {min(seconds for _, seconds in beside):.2f}")
+    check(all(set(statuses) == {"200"} for statuses, _ in beside), "another pass in a flood", beside)
+    check(min(seconds for _, seconds in beside) < max(most, 3 * alone), "a day of another pass during a flood", beside, alone, is_flooding, os.getloadavg())
+    judged = "" if max(min(took), slowest) < MOST_SECONDS else f"; not limited to {MOST_SECONDS} s, because the machine has a load of {os.getloadavg()[0]:.0f}"
+    print(f"a day in {min(took):.2f} to {max(took):.2f} s{judged}; for ten members at one address in {slowest:.2f} s, none limited; "
+          f"for another pass during a flood with {flooded['429']} limited requests in {min(seconds for _, seconds in beside):.2f} s")
 
 
 def is_quick_and_small(passes, front):
@@ -420,12 +420,12 @@ def is_quick_and_small(passes, front):
     for name in ("book.html", "pass.html", "demo.html"):
         size, version = fetched(front, f"/{name}", "-o", name, "-D", "head", *zipped, "-w", "%{size_download} %{http_version}").split()
         sizes[name] = int(size)
-        check(sizes[name] < 75000 and version == "2", "as it is sent", name, size, version)
+        check(sizes[name] < 75000 and version == "2", "a page as nginx sends it", name, size, version)
         head = pathlib.Path("head").read_text()
         has(head.lower(), f"a field of {name}", "content-encoding: gzip", "cache-control: no-cache", "strict-transport-security: max-age=",
             "frame-ancestors 'none'", "referrer-policy: no-referrer", "x-content-type-options: nosniff", "content-type: text/html; charset=utf-8")
         status = fetched(front, f"/{name}", "-o", "none", "-H", f"If-None-Match: {re.search('etag: (.*)', head)[1].strip()}", *zipped, "-w", "%{http_code}")
-        check(status == "304", "a page that is the same", name, status)
+        check(status == "304", "an unchanged page", name, status)
     head = fetched(front, "/club.json", "-o", "none", "-D", "-", *zipped).lower()
     has(head, "a field of club.json", "content-encoding: gzip", "cache-control: no-cache", "x-content-type-options: nosniff", "content-type: application/json")
     to = fetched(front, "/", "-o", "none", "-w", "%{http_code} %{redirect_url}")
@@ -440,7 +440,7 @@ def is_quick_and_small(passes, front):
             time.sleep(2)
             bare.append(page.driver.execute_async_script(REQUESTS_ALONE, day(ahead)))
             took.append(page.driver.execute_async_script(A_DAY, day(ahead)))
-        check(page.run("return cells.size") == CELLS and page.run("return [...cells.values()].every((cell) => cell.view !== null)"), "a whole day")
+        check(page.run("return cells.size") == CELLS and page.run("return [...cells.values()].every((cell) => cell.view !== null)"), "a complete day")
         for _ in range(3):
             page.enter(passes["amy-1"])
             paints.append(page.run("""const paint = performance.getEntriesByType("paint").at(-1).startTime;
@@ -451,8 +451,8 @@ def is_quick_and_small(passes, front):
     bare.sort()
     # If even the requests alone are slow, other work keeps the machine busy. In this case, loading a day may take longer.
     check(took[2] < max(500, 2.5 * bare[2]), "a day of six facilities", took, bare)
-    print(f"a day of {CELLS} slots in {took[0]:.0f} to {took[-1]:.0f} ms, of which the requests alone take {bare[0]:.0f} to {bare[-1]:.0f}; first paint after {min(each for each, _ in paints):.0f} ms; as they are "
-          f"sent book.html has {sizes['book.html']:,} bytes, pass.html {sizes['pass.html']:,}")
+    print(f"a day of {CELLS} slots in {took[0]:.0f} to {took[-1]:.0f} ms, the requests alone in {bare[0]:.0f} to {bare[-1]:.0f} ms; first paint after {min(each for each, _ in paints):.0f} ms; "
+          f"as nginx sends them, book.html has {sizes['book.html']:,} bytes, pass.html {sizes['pass.html']:,}")
 
 
 def waits_as_the_proxy_wants(passes, front):
@@ -463,9 +463,9 @@ def waits_as_the_proxy_wants(passes, front):
         for ahead in range(20, 24):
             page.run("showDay(arguments[0])", day(ahead))
             time.sleep(0.2)
-        page.when("dayIsThere()", "a day after many")
+        page.when("dayIsThere()", "the last of several days")
         met = pathlib.Path("error.log").read_text().count("limiting requests")
-        check(met > 0, "a limit that was met", met)
+        check(met > 0, "requests that exceeded the limit", met)
         check(page.run("return [...cells.values()].every((cell) => cell.view !== null)"), "a slot without an answer")
         page.booked("court-3", 9)
-    print(f"{met} requests that the proxy wanted to come later came later, and none was given up")
+    print(f"the page repeated {met} requests that exceeded the proxy's limit, and gave up none")

@@ -34,32 +34,32 @@ def lists_send_nothing(page, passes, server):
             page.go(day(ahead))
         page.view("bookings")
         time.sleep(1.5)
-        check(not unasked(server, before), "what a list sent by itself", unasked(server, before))
-    page.when("byName('to-come').innerText.includes('fewer persons than the list shows')", "what the list names is looked up")
+        check(not unasked(server, before), "requests that a list sent by itself", unasked(server, before))
+    page.when("byName('to-come').innerText.includes('fewer persons than the list shows')", "the listed slots are looked up")
     text = page.run("return byName('to-come').innerText")
-    has(text, "what a list says", "According to an imported list: booking requested, but no answer yet", "According to an imported list: cancellation requested", "According to an imported list: cancelled, 601 points came back",
+    has(text, "the claims of a list", "According to an imported list: booking requested, but no answer yet", "According to an imported list: cancellation requested", "According to an imported list: cancelled, 601 points came back",
         "An imported list shows this booking as cancelled.")
     own_card = page.run("return [...byName('to-come').children].find((each) => each.innerText.includes(arguments[0])).innerText", f"Number {own['number']}")
     check("Booked" in own_card and "According to an imported list" not in own_card and "may have" not in own_card, "a list can't show a standing booking as cancelled", own_card)
     page.view("day")
-    check("Yours, 1 person" in page.run("return cellAt('court-1', 9).button.innerText"), "its slot is hers")
+    check("Yours, 1 person" in page.run("return cellAt('court-1', 9).button.innerText"), "the slot of her own booking")
     check("4 of 4 free" in page.run("return cellAt('court-1', 10).button.innerText"), "a slot that only a list names")
     # When the member presses the button, the page sends the listed booking once.
     page.view("bookings")
     page.run("""[...byName('to-come').children].find((each) => /Number 10(?![0-9])/.test(each.innerText)).querySelector('button').click()""")
     page.when("dialogText().includes('Book for 300 points')", "the press")
-    has(page.run("return dialogText()"), "what the press names", "Book Double scull", "10:00 to 11:00", "300 points", "the desk confirms it")
+    has(page.run("return dialogText()"), "the dialog after the press", "Book Double scull", "10:00 to 11:00", "300 points", "the desk confirms it")
     check(not unasked(server, before), "sent before the press", unasked(server, before))
     page.press("Book for 300 points")
-    page.comes("Booked.", "what a list named")
-    check(unasked(server, before) == {("PUT", f"/slots/boat-1/{day(ahead)}/10/bookings/10"): 1}, "what was sent", unasked(server, before))
+    page.comes("Booked.", "the listed booking")
+    check(unasked(server, before) == {("PUT", f"/slots/boat-1/{day(ahead)}/10/bookings/10"): 1}, "the sent request", unasked(server, before))
     page.run("[...byName('to-come').children].find((each) => /Number 8(?![0-9])/.test(each.innerText)).querySelectorAll('button')[2].click()")
-    page.when("state.entries.length === 7", "what is taken off the list")
+    page.when("state.entries.length === 7", "a booking removed from the list")
     page.run("offerCancellation(ownEntries().find((each) => each.number === arguments[0]), () => {})", own["number"])
-    check("Cancelling now gives back 200 points" in page.run("return dialogText()"), "the points of her own", page.run("return dialogText()"))
+    check("Cancelling now gives back 200 points" in page.run("return dialogText()"), "the refund of her own booking", page.run("return dialogText()"))
     page.press("Cancel the booking")
     page.comes("200 points came back", "her own booking, in spite of the list")
-    print("lists that were linked or pasted send nothing, hide nothing; a press that names slot and points does")
+    print("lists from links and pasted lists send nothing and hide nothing; a press in a dialog with the slot and the points sends a booking")
 
 
 KEPT = """
@@ -102,11 +102,11 @@ def nothing_by_itself(page, passes, between, server):
     own = page.booked("court-1", 9)
     page.visit("", "isShown('day') && dayIsThere() && allAnswered(1)", "a member's page")
     before, kept = server.asked(), page.driver.execute_async_script(KEPT)
-    check('"passes"' in kept and f'"number":{own["number"]}' in kept, "what is kept", kept)
+    check('"passes"' in kept and f'"number":{own["number"]}' in kept, "the stored data", kept)
 
     def unchanged(*what):
         found = page.driver.execute_async_script(KEPT)
-        check(found == kept, "what is kept changed", *what, kept, found)
+        check(found == kept, "changed stored data", *what, kept, found)
         check(not unasked(server, before), "sent without a press", *what, unasked(server, before))
 
     fragments = odd_fragments(passes, own)
@@ -122,7 +122,7 @@ def nothing_by_itself(page, passes, between, server):
             time.sleep(0.02)
     time.sleep(1)
     unchanged("a fragment in an open page")
-    page.visit("", "isShown('day') && dayIsThere() && state.key === 'lists-1'", "her own pass is still the one that is used")
+    page.visit("", "isShown('day') && dayIsThere() && state.key === 'lists-1'", "her own pass is still in use")
     # The page receives messages and events.
     page.run("""for (const each of ["changed", null, { book: 1 }, { key: "lists-1", number: 8 }, "cancel", "run", 7]) {
           new BroadcastChannel("desk").postMessage(each);
@@ -174,7 +174,7 @@ def nothing_by_itself(page, passes, between, server):
     page.run("return Promise.all(arguments[0].map((number) => state.store.remove('lists-1', number)))", [each["number"] for each in odd])
     page.visit("", "isShown('day') && dayIsThere()", "her own page at last")
     page.cancelled(own["number"], "her own booking")
-    print(f"{len(set(fragments))} odd fragments, messages, replies and kept values: nothing is sent, and nothing that is kept changes, without a press")
+    print(f"{len(set(fragments))} odd fragments, messages, replies and stored values: without a press, the page sends nothing and changes no stored data")
 
 
 def keeps_each_pass(page, passes):
@@ -184,7 +184,7 @@ def keeps_each_pass(page, passes):
     page.enter(passes["amy-1"], keeps="Keep it")
     page.enter(narrowed(passes["bob-1"], "kind = court"))
     check(page.run(f"return {texts}") == [passes["amy-1"]], "a link keeps nothing", page.run(f"return {texts}"))
-    has(page.run("return shownText('notices')"), "what is said", "You are using the pass “bob-1”", "Keep the pass in this browser")
+    has(page.run("return shownText('notices')"), "the notices", "You are using the pass “bob-1”", "Keep the pass in this browser")
     page.driver.refresh()
     page.when("isShown('day') && dayIsThere() && state.key === 'bob-1'", "the page is loaded again with the link's pass")
     page.visit("", "isShown('day') && state.key === 'amy-1'", "another page has the kept pass")
@@ -193,38 +193,38 @@ def keeps_each_pass(page, passes):
     page.view("account")
     page.run("byName('pass-name').value = '  Max   of  ours '; byName('pass-name').dispatchEvent(new Event('change'))")
     check(page.run("return [...byName('who').options].map((each) => each.textContent)") == ["Max of ours", "amy-1"], "names", page.run("return shownText('who-part')"))
-    page.visit("", "isShown('day') && state.key === 'bob-1'", "the one that was used last")
+    page.visit("", "isShown('day') && state.key === 'bob-1'", "the pass that was used last")
     page.run("byName('who').value = arguments[0]; byName('who').dispatchEvent(new Event('change'))", passes["amy-1"])
-    page.when("isShown('day') && dayIsThere() && state.key === 'amy-1'", "another one is chosen")
-    page.visit("", "isShown('day') && state.key === 'amy-1'", "which is then the last")
+    page.when("isShown('day') && dayIsThere() && state.key === 'amy-1'", "another pass is chosen")
+    page.visit("", "isShown('day') && state.key === 'amy-1'", "the chosen pass is then the last")
     # The hall's screen stores its own pass.
     screen = narrowed(passes["hall-screen"], "actions = view")
     kept = page.run("return JSON.stringify({ ...localStorage })")
     page.visit(f"#screen={screen}", "document.querySelectorAll('#screen td.free').length > 50", "the screen")
-    check("for the hall's screen" in page.run("return shownText('notices')"), "it asks", page.run("return shownText('notices')"))
+    check("for the hall's screen" in page.run("return shownText('notices')"), "the screen asks", page.run("return shownText('notices')"))
     check(page.run("return JSON.stringify({ ...localStorage })") == kept, "nothing is kept before the press", page.run("return JSON.stringify({ ...localStorage })"))
     page.press("Keep it", "notices")
-    check(page.run(f"return [localStorage.screen, {texts}.length]") == [screen, 2], "the screen has a name of its own")
+    check(page.run(f"return [localStorage.screen, {texts}.length]") == [screen, 2], "the screen's pass is stored separately")
     page.visit("#screen", "document.querySelectorAll('#screen td.free').length > 50", "the screen again")
-    check(page.run("return shownText('notices')") == "", "it asks once", page.run("return shownText('notices')"))
+    check(page.run("return shownText('notices')") == "", "the screen asks once", page.run("return shownText('notices')"))
     page.visit("", "isShown('day') && state.key === 'amy-1'", "her own pass is still there")
     # If the desk refuses a pass, the member can enter another pass.
     page.visit(f"#{printed(TOOL, 'mint', '--root', ROOT, '--id', 'key:amy-1').strip()}", "shownText('day-fault').includes(\"doesn't know this pass\")", "a refused pass")
     page.press("Enter another pass", "day-fault")
-    page.when("isShown('welcome') && document.activeElement === byName('given')", "another one is entered")
+    page.when("isShown('welcome') && document.activeElement === byName('given')", "another pass can be entered")
     page.press("Back", "welcome")
     page.when("isShown('day')", "back")
     page.press("Enter another pass", "day-fault")
     page.run("byName('given').value = arguments[0]; byName('keep').checked = true; byName('use').click()", passes["carol-1"])
     page.when("isShown('day') && dayIsThere() && state.key === 'carol-1'", "an entered pass")
-    check(len(page.run(f"return {texts}")) == 3, "three are kept")
+    check(len(page.run(f"return {texts}")) == 3, "three passes are kept")
     for left in (2, 1, 0):
         page.view("account")
         page.press("Forget the pass", "account")
         page.press("Forget the pass")
         page.when(f"{texts}.length === {left} && isShown('{'day' if left else 'welcome'}')", "a forgotten pass", left)
-    check(page.run("return localStorage.screen") == screen, "the screen's stays")
-    print("links replace no kept pass; passes have names and are chosen, one is forgotten at a time; a screen asks, and has its own")
+    check(page.run("return localStorage.screen") == screen, "the screen's pass stays")
+    print("links replace no stored pass; passes have names, can be chosen, and are forgotten one at a time; the screen asks, and stores its own pass")
 
 
 def odd_passes(page, passes):
@@ -235,7 +235,7 @@ def odd_passes(page, passes):
     for text, words in rows_of[1:]:
         page.run("byName('given').value = arguments[0]; byName('use').click()", text)
         page.when(f"shownText('given-fault').includes(\"{words}\")", "an odd pass", text)
-        check(page.run("return document.activeElement === byName('given') && byName('given').getAttribute('aria-invalid') === 'true'"), "where it is")
+        check(page.run("return document.activeElement === byName('given') && byName('given').getAttribute('aria-invalid') === 'true'"), "a marked field")
         page.visit(f"#{text}", f"shownText('given-fault').includes(\"{words}\")", "an odd pass in a link", text)
         check("#" not in page.driver.current_url, "its address is cleaned")
     # The page accepts passes in V1, V2 and JSON.
@@ -248,7 +248,7 @@ def odd_passes(page, passes):
     for identifier in ("key:amy-1", "amy"):
         text = printed(TOOL, "mint", "--root", ROOT, "--id", identifier).strip()
         page.visit(f"#{text}", "shownText('day-fault').includes(\"doesn't know this pass\")", "a pass that the desk refuses", text)
-    print(f"{len(rows_of) - 1} odd passes, entered and in links, have their sentences; passes of each form are taken")
+    print(f"{len(rows_of) - 1} odd passes, entered and in links, get their sentences; the page accepts passes of each form")
 
 
 def odd_clubs(page, passes):
@@ -266,4 +266,4 @@ def odd_clubs(page, passes):
     page.view("day")
     page.press("Try again", "notices")
     page.when("isShown('day') && dayIsThere()", "the list is there again")
-    print("a missing or odd club.json is said, and looked for again; the rest goes on")
+    print("the page reports a missing or odd club.json, and looks for it again; the rest of the page works")

@@ -29,7 +29,7 @@ def lends(passes, front, between):
         page.run("byName('lend-made').hidden = true")
         page.click("lend-make")
         page.when("isShown('lend-made')", "a link", page.run("return shownText('lend-news')"))
-        check(page.run("return shownText('lend-made-says')") == says, "the same beside the link")
+        check(page.run("return shownText('lend-made-says')") == says, "the same sentence next to the link")
         return page.run("return byName('lend-address').value")
 
     def lines_in(page, address):
@@ -60,9 +60,9 @@ def lends(passes, front, between):
         page.run("Object.defineProperty(navigator, 'share', { value: async (it) => { globalThis.sharedIt = it; } })")
         page.run("byName('lend-share').hidden = false; byName('lend-share').click()")
         page.when("shownText('lend-made-news') === 'The link is sent.'", "a shared link")
-        check(page.run("return sharedIt") == {"title": "Rowing & tennis", "text": says, "url": address}, "what is shared", page.run("return sharedIt"))
+        check(page.run("return sharedIt") == {"title": "Rowing & tennis", "text": says, "url": address}, "the shared loan", page.run("return sharedIt"))
         second = made(page, f"Max may look at everything until the end of {page_date(day(0))}, but may not book.", "all", day(0), how="look")
-        check(lines_in(page, second) == ["amy-1", "actions = view", f"until < {day(1)}T00:00"], "to look takes no spare pass", lines_in(page, second))
+        check(lines_in(page, second) == ["amy-1", "actions = view", f"until < {day(1)}T00:00"], "a loan for viewing uses no spare pass", lines_in(page, second))
         page.run("byName('lend-facility').value = 'boat-1'")
         third = made(page, f"Max may book Double scull until the end of {friday}.", "one", points="none")
         check(lines_in(page, third) == ["amy-lend-2", "facility = boat-1", "actions = view,book,cancel", f"until < {day(5)}T00:00"], "the second spare pass", lines_in(page, third))
@@ -77,13 +77,13 @@ def lends(passes, front, between):
         between.fates["GET"] = ["silent"] * 50
         choose(page, "lend-points", "600")
         page.click("lend-make")
-        page.when("shownText('lend-news').includes(\"isn't available just now (502)\")", "a desk that is away", limit=60)
+        page.when("shownText('lend-news').includes(\"isn't available just now (502)\")", "a desk that is down", limit=60)
         between.fates.clear()
     with BookingPage(front) as page:
         page.sees(360, "light", 740)
         page.visit(address[len(page.address):], "isShown('day') && dayIsThere()", "the holder's page")
-        has(page.run("return shownText('pass-says')"), "what the pass opens", "Only courts.", f"Until the end of {page_date(day(4), year=True)}.", "0 of 600 points spent in this browser.")
-        check(page.run("return [...cells.keys()].every((name) => name.startsWith('court-'))"), "courts alone")
+        has(page.run("return shownText('pass-says')"), "what the pass allows", "Only courts.", f"Until the end of {page_date(day(4), year=True)}.", "0 of 600 points spent in this browser.")
+        check(page.run("return [...cells.keys()].every((name) => name.startsWith('court-'))"), "only courts")
         page.press("Keep it", "notices")
         page.go(day(6))
         page.offer("court-1", 10)
@@ -92,28 +92,28 @@ def lends(passes, front, between):
         page.press("Close")
         page.go(day(2))
         page.offer("court-1", 10)
-        check("Your pass ends" not in page.run("return dialogText()"), "a slot before it")
+        check("Your pass ends" not in page.run("return dialogText()"), "a slot before the pass's end")
         for _ in range(2):
             page.press("One guest more")
         check(page.run("return byName('dialog').querySelectorAll('.step-button')[1].disabled"), "no more guests than its points allow")
         page.press("One guest fewer")
         page.press("Book for 400 points")
         page.comes("Booked.", "the holder's booking")
-        page.when("shownText('pass-says').includes('400 of 600 points spent in this browser.')", "what is left", page.run("return shownText('pass-says')"))
+        page.when("shownText('pass-says').includes('400 of 600 points spent in this browser.')", "the points left", page.run("return shownText('pass-says')"))
         page.when("cellAt('court-3', 10).button.disabled && cellAt('court-3', 10).button.textContent.includes('Too many points for your pass')", "300 points are too many")
         page.booked("court-1", 11)
-        page.when("[...cells.values()].every((cell) => cell.button.disabled || cell.button.className.includes('mine'))", "nothing to press that the desk would refuse")
+        page.when("[...cells.values()].every((cell) => cell.button.disabled || cell.button.className.includes('mine'))", "no button that the desk would refuse")
         page.offer("court-1", 11)
-        check("Book a second time" not in page.run("return dialogText()"), "nor in the dialog", page.run("return dialogText()"))
+        check("Book a second time" not in page.run("return dialogText()"), "no second booking in the dialog", page.run("return dialogText()"))
         page.press("Back")
         reply = curl(page, "DELETE", f"/slots/court-2/{day(4)}/20/bookings/{own['number']}", address.split("#")[1])
         check(reply == '{"fault":15,"text":"no such booking"} 404', "the holder can't cancel the member's booking", reply)
         page.view("account")
-        page.when("byName('account-facts').innerText.includes(\"doesn't show the account\")", "nor see her account")
+        page.when("byName('account-facts').innerText.includes(\"doesn't show the account\")", "the holder can't see her account")
         page.cancelled_in_the_list("the holder cancels a booking of their own")
         page.when("!shownText('pass-says').includes('600 of 600')", "points that came back")
         for each in [each for each in page.entries() if "cancel" not in each]:
-            page.cancelled(each["number"], "and the other")
+            page.cancelled(each["number"], "a cancellation of the other booking")
     with BookingPage(front) as page:  # the limit of a second loan includes the points that the spare pass has already spent
         page.enter(passes["amy-1"], keeps="Keep it")
         page.visit(f"#spare={passes['amy-lend-1']}", "dialogText().includes('amy-lend-1')", "a spare pass")
@@ -131,8 +131,8 @@ def lends(passes, front, between):
         for length, words in ((20, "scan this code"), (900, "The code is dense"), (3000, "too long for a QR code")):
             page.run("byName('to-lend').click(); showMade('A'.repeat(arguments[0]), 'x')", length)
             check(words in page.run("return shownText('lend-qr-words')"), "a QR code of a long link", length, page.run("return shownText('lend-qr-words')"))
-        page.visit("#spare=AgEJ;x", "dialogText().includes(\"isn't complete\")", "a link of spare passes that isn't whole")
-    print("a part is lent by a spare pass in a sentence, a link, a QR code; who has it books within it, and is shown no button that it refuses")
+        page.visit("#spare=AgEJ;x", "dialogText().includes(\"isn't complete\")", "an incomplete link of spare passes")
+    print("a member lends a part of a spare pass by a link and a QR code; the holder books within the loan, and sees no button that the loan refuses")
 
 
 def tries_the_club(address):
@@ -166,7 +166,7 @@ def tries_the_club(address):
             of_the_card("Change")
             engine.run("document.getElementById('change-hour').value = '10'")
             engine.press("Look up", "dialog")
-            engine.when("shown('dialog').includes('If the cancellation fails')", "what happens if one of both fails")
+            engine.when("shown('dialog').includes('If the cancellation fails')", "what happens if one of the two requests fails")
             engine.press("Book the new slot for 200 points, and cancel the old booking", "dialog")
             engine.when("shown('dialog').includes('Changed. 200 points came back')", "a change")
             engine.press("Close", "dialog")
@@ -180,18 +180,18 @@ def tries_the_club(address):
             engine.when("/(copied|sent|Will you come)/.test(shown('dialog'))", "an invitation")
             engine.press("Close", "dialog")
             of_the_card("Into the calendar")
-            engine.when("shown('list-remind').includes(\"3 bookings are saved only\") && shown('list-says') === ''", "a reminder, and a list that is whole")
+            engine.when("shown('list-remind').includes(\"3 bookings are saved only\") && shown('list-says') === ''", "a reminder, and a complete list")
             engine.open(f"{address}#record=anna-1;77+court-2+{ahead[21]}+09+guests+0+charge+200+left+3")
             engine.when("shown('dialog').includes('1 booking of anna-1')", "a list by a link")
             engine.press("Add to this browser", "dialog")
             engine.tap("//button[@id='to-bookings']")
-            engine.when("shown('list-says').includes('This pass spent 200 points less') && shown('to-come').includes('Perhaps this slot')", "what was cancelled elsewhere")
+            engine.when("shown('list-says').includes('This pass spent 200 points less') && shown('to-come').includes('Perhaps this slot')", "a booking that was cancelled elsewhere")
             engine.tap("//button[@id='to-lend']")
             engine.tap("//input[@name='lend-points'][@value='200']/..")
             engine.tap("//button[@id='lend-make']")
             engine.when("document.getElementById('lend-made').offsetParent !== null", "a link")
             lent = engine.run("return document.getElementById('lend-address').value")
-            check(engine.code("lend-qr") == lent, engine.name, "its code", lent)
+            check(engine.code("lend-qr") == lent, engine.name, "its QR code", lent)
             engine.open(lent)
             engine.when(f"{DAY_THERE} && shown('pass-says').includes('0 of 200 points spent in this browser.')", "the holder's page")
             goes_to(engine, ahead[20])
@@ -202,7 +202,7 @@ def tries_the_club(address):
             engine.press("Close", "dialog")
             engine.when("[...document.querySelectorAll('#slots button:not(:disabled)')].every((each) => each.className.includes('mine'))", "no button that the pass refuses")
             keep(f"{engine.name}-holder.png", base64.b64encode(engine.picture()))
-            print(f"{engine.name} {engine.version} tries the club from a folder: changes, books again, invites, compares and adds a list, lends, and books what was lent")
+            print(f"{engine.name} {engine.version} tries the trial club from a folder: changes, repeats and shares a booking, compares and adds a list, lends, and books under the loan")
 
 
 # Returns the key and the caveats of the lent pass, the page's sentence about the loan, and the number of loans that the page knows.
@@ -242,7 +242,7 @@ def lends_what_the_pass_opens(address):
         page.helpers = HELPERS
         opens(page)
         key, _, says, count = made(page)
-        check(key == "anna-lend-1" and "limits of your own pass" not in says and count == 1, "one loan of two presses", key, says, count)
+        check(key == "anna-lend-1" and "limits of your own pass" not in says and count == 1, "one loan after two presses", key, says, count)
         # Stores a spare pass that the office has replaced, and a spare pass of another member.
         renewed = text_of(page, "return writePass({ ...readPass(await passToTry('anna-lend-1')), signature: new Uint8Array(32) })")
         theirs = text_of(page, "return passToTry('others')")
@@ -250,15 +250,15 @@ def lends_what_the_pass_opens(address):
             page.run("localStorage.removeItem('demo loans'); localStorage['demo spares'] = JSON.stringify(arguments[0])", spares)
             opens(page)
             which = page.run("return shownText('lend-which')")
-            check((wanted is None) == ("None of your spare passes can be used." in which and "can cancel your bookings" in which), "which spare pass is taken", wanted, which)
-            check(made(page)[0] == (wanted or "anna-1"), "the pass that is lent", wanted)
+            check((wanted is None) == ("None of your spare passes can be used." in which and "can cancel your bookings" in which), "which spare pass is used", wanted, which)
+            check(made(page)[0] == (wanted or "anna-1"), "the lent pass", wanted)
         # Stores the spare pass that the office has replaced. Now the page learns only after the press that the desk refuses this pass.
         page.run("localStorage.removeItem('demo loans'); localStorage['demo spares'] = JSON.stringify([arguments[0]])", renewed)
         opens(page)
         page.run("unfit.clear(); showChosen()")
-        check(page.run("return shownText('lend-which')") == "", "nothing is known yet")
+        check(page.run("return shownText('lend-which')") == "", "no note yet")
         check("The link isn't made yet" in made(page) and page.run("return keptLoans().length") == 0, "no loan of her own pass before she is told")
-        check("None of your spare passes" in page.run("return shownText('lend-which')") and made(page)[0] == "anna-1", "and one once she presses again")
+        check("None of your spare passes" in page.run("return shownText('lend-which')") and made(page)[0] == "anna-1", "a loan of her own pass")
         # The member's own pass has limits.
         last = page.run("return daysLater(clubMoment().slice(0, 10), 1)")
         for lines, how, points in [(["actions = view"], ["look"], None), (["kind = court", "actions = view,book,cancel", f"until < {last}T00:00", "spend <= 200"], ["book", "look"], ["200", "other", "none"])]:
@@ -266,7 +266,7 @@ def lends_what_the_pass_opens(address):
             page.run("localStorage.removeItem('demo loans')")
             opens(page, f"#{given}")
             values = page.run("return ['lend-how', 'lend-until', 'lend-points'].map((id) => [...byName(id).querySelectorAll('input')].map((each) => each.value))")
-            check(values[0] == how and (points is None or len(values[1]) == 2 and values[2] == points), "what it offers", lines, values)
+            check(values[0] == how and (points is None or len(values[1]) == 2 and values[2] == points), "the offered choices", lines, values)
             key, found, says, _ = made(page)
             check(key == "anna-1" and found[:len(lines)] == lines and says.endswith("The limits of your own pass apply too."), "a part of that pass", key, found, says)
         # Shows the week under three passes: a pass that only allows viewing, a pass with too few points, and a pass with enough points. Then shows a day
@@ -297,7 +297,7 @@ def lends_what_the_pass_opens(address):
         page.run("state.club = null; byName('to-bookings').click()")
         check(page.run(buttons) == ["Cancel", "Invite"], "a booking without the club's list", page.run(buttons))
         check(not page.driver.get_log("browser"), "the console", page.driver.get_log("browser"))
-    print("a loan takes a spare pass that the desk takes, offers no more than the pass opens, and is made once")
+    print("a loan uses a spare pass that the desk accepts, offers no more than the pass allows, and is made once")
 
 
 # The browser's storage is full.
@@ -314,10 +314,10 @@ def says_what_it_keeps(address):
         for key, words in [("anna-lend-1", "may lend it again"), ("anna-lend-2", "may lend it again"), ("anna-1", "until you reload or close the page.")]:
             found = made(page)
             check(found[0] == key and page.run("return shownText('lend-news')").endswith(words) == (key == "anna-1"), "no spare pass twice", key, found)
-            check(words in page.run("return shownText('lend-news')"), "what isn't kept", key, page.run("return shownText('lend-news')"))
+            check(words in page.run("return shownText('lend-news')"), "the note that the loan isn't kept", key, page.run("return shownText('lend-news')"))
         check(page.run("return byName('loans').children.length") == 3, "three loans are listed", page.run("return shownText('loans')"))
         opens_lend(page, address)
-        check(made(page)[0] == "anna-lend-1" and page.run("return byName('loans').children.length") == 1, "after a reload, as it said")
+        check(made(page)[0] == "anna-lend-1" and page.run("return byName('loans').children.length") == 1, "after a reload, as the note says")
         # The page shows the points that the desk counts if the pass allows viewing the account. Otherwise, it shows the points spent in this browser.
         page.run("byName('to-day').click(); showDay(daysLater(clubMoment().slice(0, 10), 20))")
         time.sleep(1)
@@ -326,18 +326,18 @@ def says_what_it_keeps(address):
         page.driver.execute_async_script("const [done] = arguments; Promise.all(state.entries.map((each) => state.store.remove(each.key, each.number))).then(() => done())")
         for lines, words in [(["spend <= 600"], "200 of 600 points spent, according to the desk."), (["actions = view,book,cancel", "spend <= 600"], "0 of 600 points spent in this browser.")]:
             opens_lend(page, f"{address}#" + text_of(page, f"return writePass(await narrowed(readPass(await passToTry('anna-1')), {json.dumps(lines)}))"))
-            check(page.run("return shownText('pass-says')") == words, "whose number it is", lines, page.run("return shownText('pass-says')"))
+            check(page.run("return shownText('pass-says')") == words, "the note about the spent points", lines, page.run("return shownText('pass-says')"))
         # The pass has ended.
         opens_lend(page, f"{address}#" + text_of(page, "return writePass(await narrowed(readPass(await passToTry('anna-1')), ['until < 2026-01-02T18:00']))"))
         page.run("byName('to-day').click(); byName('to-find').click()")
         for place in ("find-looked", "lend-trouble"):
             has(page.run(f"return byName('{place}').textContent"), f"a pass that has ended: {place}", "This pass has ended.", "January 2", "ask the office or the person who gave you this pass", "Enter another pass")
-        check(page.run("return byName('find-grid').rows.length") == 0, "no grid without a word", page.run("return shownText('find-part')"))
+        check(page.run("return byName('find-grid').rows.length") == 0, "no grid under an ended pass", page.run("return shownText('find-part')"))
         page.click("find-next")
-        check(page.run("return shownText('find-news')") == "This pass has ended.", "the next free time of it", page.run("return shownText('find-news')"))
+        check(page.run("return shownText('find-news')") == "This pass has ended.", "the search under an ended pass", page.run("return shownText('find-news')"))
         check(not page.driver.get_log("browser"), "the console", page.driver.get_log("browser"))
     keeps_so_many(address)
-    print("a full store, so many passes, and whose number the holder's points are: the page says it")
+    print("the page reports a full storage, too many passes, and who counted the holder's points")
 
 
 # Passes of the trial club that differ only in one limit.
@@ -361,21 +361,21 @@ def keeps_so_many(address):
         page.run("byName('who').value = arguments[0]; byName('who').dispatchEvent(new Event('change')); byName('to-account').click(); pressIn(byName('pass-buttons'), 'Forget the pass')", passes[7])
         page.run("pressIn(byName('dialog'), 'Forget the pass')")
         time.sleep(0.5)
-        check(page.run("return state.given") == last and page.run("return keptPasses().length") == 19, "the one that is to be kept", page.run("return state.name"))
+        check(page.run("return state.given") == last and page.run("return keptPasses().length") == 19, "the pass to keep", page.run("return state.name"))
         page.run("byName('to-account').click(); pressIn(byName('pass-buttons'), 'Keep the pass in this browser')")
-        check(page.run("return shownText('pass-news')") == "The pass is kept in this browser.", "there is room", page.run("return shownText('pass-news')"))
-        check(page.run("return keptPasses().map((each) => each.text)") == [last, *passes[:7], *passes[8:]], "the others are as before")
+        check(page.run("return shownText('pass-news')") == "The pass is kept in this browser.", "there is space", page.run("return shownText('pass-news')"))
+        check(page.run("return keptPasses().map((each) => each.text)") == [last, *passes[:7], *passes[8:]], "the other passes are unchanged")
         # The browser has 20 spare passes, and the first of them is lent.
         page.run("localStorage.removeItem('demo passes'); localStorage['demo spares'] = JSON.stringify(arguments[0])", passes)
         page.run("localStorage['demo loans'] = JSON.stringify([{ given: arguments[0], says: 'lent', spare: arguments[0] }])", passes[0])
         opens_lend(page, f"{address}#spare={first};{last}")
         has(page.run("return dialogText()"), "a 21st spare pass", "To keep these spare passes, remove 2 spare passes that you no longer need: a browser keeps at most 20.")
-        check(page.run("return byName('dialog').querySelectorAll('li').length") == 19, "one that is lent isn't removed", page.run("return dialogText()"))
+        check(page.run("return byName('dialog').querySelectorAll('li').length") == 19, "a lent spare pass can't be removed", page.run("return dialogText()"))
         keep("spares-full.png", page.driver.get_screenshot_as_base64())
         for count in (0, 1):
             check("There is space now." not in page.run("return dialogText()") and page.run("return keptSpares()") == passes[:1] + passes[1 + count:], "removed", count)
             page.run("byName('dialog').querySelector('li button').click()")
-        has(page.run("return dialogText()"), "two are removed", "anna-1 is removed.", "There is space now.")
+        has(page.run("return dialogText()"), "two spare passes are removed", "anna-1 is removed.", "There is space now.")
         page.run("pressIn(byName('dialog'), 'Go on')")
         time.sleep(0.5)
         page.run("pressIn(byName('dialog'), 'Keep it')")
@@ -384,9 +384,9 @@ def keeps_so_many(address):
         page.run("pressIn(byName('dialog'), 'Close')")
         page.run(FULL)
         page.run("offerSpares([arguments[0]]); pressIn(byName('dialog'), 'Remove anna-1')", passes[1])
-        check("anna-1 is removed" not in page.run("return dialogText()"), "nothing is removed from a store that takes nothing", page.run("return dialogText()"))
+        check("anna-1 is removed" not in page.run("return dialogText()"), "nothing is removed if the storage accepts nothing", page.run("return dialogText()"))
         page.run("byName('dialog').querySelector('.main').click()")
-        check(page.run("return keptSpares().length") == 20 and not page.run("return dialogText()"), "its spare passes stay", page.run("return dialogText()"))
+        check(page.run("return keptSpares().length") == 20 and not page.run("return dialogText()"), "the spare passes stay", page.run("return dialogText()"))
         check(not page.driver.get_log("browser"), "the console", page.driver.get_log("browser"))
 
 
@@ -404,14 +404,14 @@ def club_to_try():
         page.run("cellAt('court-1', 20).button.click()")
         page.run("byName('dialog').querySelector('.main').click()")
         time.sleep(1)
-        check("Booked. 200 points" in page.run("return dialogText()"), "a booking at the club to try", page.run("return document.body.innerText"))
+        check("Booked. 200 points" in page.run("return dialogText()"), "a booking at the trial club", page.run("return document.body.innerText"))
         page.run("pressIn(byName('dialog'), 'Close'); byName('to-bookings').click(); byName('to-come').querySelector('.booked button').click(); pressIn(byName('dialog'), 'Cancel the booking')")
         time.sleep(1)
-        check("200 points came back" in page.run("return dialogText()"), "a cancellation there", page.run("return dialogText()"))
+        check("200 points came back" in page.run("return dialogText()"), "a cancellation at the trial club", page.run("return dialogText()"))
         page.run("pressIn(byName('dialog'), 'Close'); byName('to-lend').click(); byName('lend-make').click()")
         time.sleep(1)
         check(page.run("return byName('lend-address').value").startswith(f"{address}#"), "a link", page.run("return byName('lend-address').value"))
-        check(page.run("return Object.keys(localStorage).every((name) => name.startsWith('demo ') || name === 'club to try')"), "names of its own")
+        check(page.run("return Object.keys(localStorage).every((name) => name.startsWith('demo ') || name === 'club to try')"), "separate names in the storage")
         page.sent_nothing(address)
     lends_what_the_pass_opens(address)
     says_what_it_keeps(address)
@@ -424,8 +424,8 @@ def club_to_try():
         has(page.run("return document.getElementById('notices').innerText"), "a page from a folder", "You opened this page from a folder.", "A club to try")
         page.driver.find_element("link text", "A club to try").click()
         page.driver.switch_to.window(page.driver.window_handles[-1])
-        check(page.driver.current_url.endswith("/demo.html"), "where it leads", page.driver.current_url)
-    print("the club to try books, cancels and lends, and loads and sends nothing; a page from a folder leads there")
+        check(page.driver.current_url.endswith("/demo.html"), "the link to the trial club", page.driver.current_url)
+    print("the trial club books, cancels and lends, and loads and sends nothing; a page from a folder links to it")
 
 
 def lends_in_a_minute(passes, server):
@@ -460,7 +460,7 @@ def lends_in_a_minute(passes, server):
             member.open(links[1])
             member.when(f"shown('dialog').includes('{spare}')", "her spare pass")
             press(member, button_in("dialog", "Keep it"))
-            member.when("shown('dialog').includes('The spare passes are kept.')", "it is kept")
+            member.when("shown('dialog').includes('The spare passes are kept.')", "the spare pass is kept")
             press(member, button_in("dialog", "Close"))
             press(member, "//button[@id='to-lend']")
             friday = next(it for it in range(7) if datetime.strptime(day(it), "%Y-%m-%d").weekday() == 4)
@@ -468,7 +468,7 @@ def lends_in_a_minute(passes, server):
             press(member, "//button[@id='lend-make']")
             member.when("document.getElementById('lend-made').offsetParent !== null", "a link")
             says = f"Anyone with the link may book courts until the end of {page_date(day(friday))}, up to 600 points."
-            check(member.get("return shown('lend-made-says')") == says, "what she lends", member.get("return shown('lend-made-says')"))
+            check(member.get("return shown('lend-made-says')") == says, "the loan in a sentence for the receiver", member.get("return shown('lend-made-says')"))
             press(member, "//button[@id='lend-copy']")
             sent = member.run("return document.getElementById('lend-address').value").replace(member.host, son.host)
             keep(f"lent-in-{member.name}.png", base64.b64encode(member.picture()))
@@ -481,5 +481,5 @@ def lends_in_a_minute(passes, server):
             took = time.monotonic() - begun
             keep(f"booked-in-{son.name}.png", base64.b64encode(son.picture()))
             check([rest[0] for rest in amounts(spare).values()] == ["court-1"] and not amounts(key), "the file", amounts(spare), amounts(key))
-            check(hers_took < 60, "her minute", hers_took)
+            check(hers_took < 60, "less than a minute", hers_took)
             print(f"lent in {member.name} and booked in {son.name}: {presses} presses, {hers_took:.0f} s until she has the link, {took:.0f} s in all")

@@ -55,7 +55,7 @@ def looks_right(passes, front):
                 page.when("byName('to-day').textContent === 'Book'", "the language is kept")
             page.run("for (const entry of ownEntries().filter(isLive)) state.sender.cancel(entry.key, entry.number)")
             page.driver.refresh()
-            page.when("isShown('day') && allAnswered()", "all is cancelled")
+            page.when("isShown('day') && allAnswered()", "all bookings are cancelled")
             check(not page.complaints(), "the console says", page.complaints())
     print(f"{texts} texts with a contrast of at least 4.5, targets of 44 pixels, names for screen readers, no sideways scrolling from 320 to 1920 "
           "pixels, in both languages and schemes")
@@ -119,16 +119,16 @@ def hall_screen(passes, front, server):
         check(page.driver.current_url.endswith("/book.html#screen"), "the address is cleaned", page.driver.current_url)
         page.press("Not here", "notices")
         check(page.run("return [...document.querySelectorAll('button, input, select, textarea')].every((each) => each.offsetParent === null)"), "no buttons")
-        check(page.run("return document.documentElement.scrollHeight <= innerHeight && document.documentElement.scrollWidth <= innerWidth"), "one sight")
+        check(page.run("return document.documentElement.scrollHeight <= innerHeight && document.documentElement.scrollWidth <= innerWidth"), "no scrolling")
         keep("screen-1920-dark.png", page.command("Page.captureScreenshot")["data"])
         first = {path: count - asked[method, path] for (method, path), count in server.asked().items() if count > asked[method, path]}
-        check(set(first.values()) == {1}, "one request a slot", Counter(first.values()))
+        check(set(first.values()) == {1}, "one request per slot", Counter(first.values()))
         hours = {(path.split("/")[3], int(path.split("/")[4])) for path in first}
-        check(all(each_day == day(1) or (each_day == day(0) and hour > now().hour) for each_day, hour in hours), "only hours to come", hours)
+        check(all(each_day == day(1) or (each_day == day(0) and hour > now().hour) for each_day, hour in hours), "only future hours", hours)
         number = draw.randrange(1, 10**9)
         curl(page, "PUT", f"/slots/room-1/{day(1)}/20/bookings/{number}", passes["other"], '{"guests":0}')
         full = page.run("performance.setResourceTimingBufferSize(5000); return document.querySelectorAll('#screen td.full').length")
-        page.when(f"document.querySelectorAll('#screen td.full').length === {full + 1}", "it is renewed each minute")
+        page.when(f"document.querySelectorAll('#screen td.full').length === {full + 1}", "the screen is updated each minute")
         gaps = page.run("""const times = new Map();
             for (const { name, startTime } of performance.getEntriesByType("resource").filter((each) => each.name.includes("/slots/"))) {
               times.set(name, [...(times.get(name) ?? []), startTime]);
@@ -143,7 +143,7 @@ def hall_screen(passes, front, server):
         check(not page.complaints(), "the console says", page.complaints())
     with BookingPage(front) as page:
         page.visit("#screen", "shownText('screen').includes('needs a pass')", "a screen without a pass")
-    print("the hall's screen: one request a slot and minute, for hours to come; it is renewed")
+    print("the hall's screen: one request per slot and minute, for future hours; the screen is updated")
 
 
 def shows_the_club(page, passes):
@@ -174,7 +174,7 @@ def shows_the_club(page, passes):
         has(other.run("return document.body.innerText"), "the club on the wall", "Rowing & tennis", "Questions? Tel. 030 1234", "Imprint: club.example/imprint", "Clay. Flat soles, please.")
         check(other.run("return isShown('club-logo')"), "its logo on the wall")
         other.press("Not here", "notices")
-        check(other.run("return document.documentElement.scrollHeight <= innerHeight && document.documentElement.scrollWidth <= innerWidth"), "one sight with sentences")
+        check(other.run("return document.documentElement.scrollHeight <= innerHeight && document.documentElement.scrollWidth <= innerWidth"), "no scrolling with sentences")
         keep("screen-club.png", other.command("Page.captureScreenshot")["data"])
     with BookingPage(page.front) as other:
         other.open(other.address.replace("book.html", f"pass.html#{passes['amy-1']}"))
@@ -183,15 +183,15 @@ def shows_the_club(page, passes):
                 break
             time.sleep(0.1)
         has(other.driver.execute_script("return document.body.innerText"), "the club on the page that narrows", "Questions? Tel. 030 1234", "Imprint", "Court 1", "Clay. Flat soles, please.")
-        check(other.driver.execute_script("return !document.getElementById('club-logo').hidden"), "its logo there")
+        check(other.driver.execute_script("return !document.getElementById('club-logo').hidden"), "the logo on the page that narrows")
         asked = [other.driver.execute_script("return fetch(arguments[0], { method: arguments[1] }).then((response) => response.status, () => 'refused')", *words)
                  for words in [("club.json", "GET"), ("account", "GET"), ("slots/court-1/2026-05-01/18", "GET"), ("book.html", "GET"), ("https://club.example/", "GET")]]
-        check(asked == [200, "refused", "refused", "refused", "refused"], "what the page that narrows can ask for", asked)
+        check(asked == [200, "refused", "refused", "refused", "refused"], "what the page that narrows can request", asked)
     pathlib.Path("www/club.json").write_text(json.dumps({**json.loads(good), "contact": 5, "imprint": "http://x", "logo": "https://x/y.png"}))
     page.enter(passes["amy-1"])
-    check(page.run("return document.querySelector('footer').innerText").count("Questions?") == 0 and not page.run("return isShown('club-logo')"), "odd ones count as missing")
+    check(page.run("return document.querySelector('footer').innerText").count("Questions?") == 0 and not page.run("return isShown('club-logo')"), "odd values count as missing")
     pathlib.Path("www/club.json").write_text(good)
-    print("whom to ask, links, logo and sentences of the club are shown on each page; an ended pass says when it ended")
+    print("each page shows the club's contact, links, logo and sentences; under an ended pass, the page says when the pass ended")
 
 
 def large_letters(passes, front):
@@ -209,11 +209,11 @@ def large_letters(passes, front):
                 time.sleep(0.4)
                 page.cuts_nothing_off(360, name, language)
                 wide = page.run(TOO_WIDE)
-                check(not wide, "slots that are wider than their place", name, language, wide)
+                check(not wide, "slots that are wider than their cells", name, language, wide)
                 page.breaks_no_word(name, language)
                 page.is_audited(name, language)
                 keep(f"large-{name}-{language[:2]}.png", page.command("Page.captureScreenshot")["data"])
-    print("with twice the letters at 360 pixels nothing is cut off and no word is broken; an audit finds nothing")
+    print("with doubled letter size at 360 pixels, nothing is cut off and no word is broken; an audit finds nothing")
 
 
 # Finds elements that are too wide. Only the table of the search for a free time may scroll sideways.
@@ -242,7 +242,7 @@ def other_engines(passes, server):
         keep(f"{engine.name}-day.png", base64.b64encode(engine.picture()))
         check([rest[:4] for rest in amounts(key).values()] == [("court-1", wanted, 10, 1)], engine.name, "the file", amounts(key))
         others = engine.run("return performance.getEntriesByType('resource').map((each) => each.name).filter((each) => !each.startsWith(location.origin) && !each.startsWith('data:'))")
-        check(not others, engine.name, "the page asks for", others)
+        check(not others, engine.name, "the page requests", others)
         # The member searches a week for a free boat.
         engine.tap("//button[@id='to-find']")
         engine.when("shown('find-looked').includes(':')", "a week")
@@ -257,7 +257,7 @@ def other_engines(passes, server):
         engine.when("shown('dialog').includes('The spare passes are kept.')", "a kept spare pass")
         engine.press("Close", "dialog")
         engine.tap("//button[@id='to-lend']")
-        check(engine.get("return shown('lend-which')") == "", engine.name, "a spare pass is there", engine.get("return shown('lend-which')"))
+        check(engine.get("return shown('lend-which')") == "", engine.name, "a spare pass is available", engine.get("return shown('lend-which')"))
         engine.tap("//button[@id='lend-make']")
         engine.when("document.getElementById('lend-made').offsetParent !== null", "a link")
         lent = engine.run("return document.getElementById('lend-address').value")
@@ -280,16 +280,16 @@ def other_engines(passes, server):
         engine.press("Close", "dialog")
         # The holder of the loan also has another pass in the same browser.
         engine.open(lent)
-        engine.when(f"{DAY_THERE} && shown('pass-says').includes('0 of 600 points')", "what was lent")
+        engine.when(f"{DAY_THERE} && shown('pass-says').includes('0 of 600 points')", "the loan")
         engine.press("Keep it", "notices")
         engine.when("document.getElementById('who').options.length === 2", "two passes to choose from")
         goes_to(engine, day(51))
-        check(engine.run("return [...document.querySelectorAll('#facility-choice button')].every((each) => each.textContent.startsWith('Court'))"), engine.name, "courts alone")
+        check(engine.run("return [...document.querySelectorAll('#facility-choice button')].every((each) => each.textContent.startsWith('Court'))"), engine.name, "only courts")
         engine.run("const who = document.getElementById('who'); who.value = arguments[0]; who.dispatchEvent(new Event('change'))", passes[key])
         engine.when("document.querySelectorAll('#facility-choice button').length === 6", "her own pass again")
         # The member uses a pass that only allows viewing, and then a pass that has ended.
         engine.open(f"{address}#{narrowed(passes[key], 'actions = view')}")
-        engine.when(f"{DAY_THERE} && [...document.querySelectorAll('#slots button')].every((each) => each.disabled)", "a pass that looks")
+        engine.when(f"{DAY_THERE} && [...document.querySelectorAll('#slots button')].every((each) => each.disabled)", "a pass for viewing")
         engine.open(f"{address}#{narrowed(passes[key], f'until < {day(0)}T00:00')}")
         engine.when("shown('day-fault').includes('This pass has ended.')", "an ended pass")
         engine.run("document.getElementById('language').value = 'de'; document.getElementById('language').dispatchEvent(new Event('change'))")

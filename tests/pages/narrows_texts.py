@@ -24,11 +24,11 @@ def narrows_as_passtool(page):
         wanted = kinds.text(it, *lines, form=form)
         by_tool = narrowed_by_tool(text, lines)
         check(by_tool == wanted, "passtool and the formats differ", text, lines, by_tool, wanted)
-        check(answer.get("text") == wanted, "the page narrows otherwise", text, lines, answer, wanted)
+        check(answer.get("text") == wanted, "the page narrows differently", text, lines, answer, wanted)
         check([limit["isNew"] for limit in answer["limits"]] == [False] * len(it.caveats) + [True] * len(lines), "new limits", text)
     counts = Counter(form for form, _, _ in drawn)
     print(f"{len(drawn)} passes narrowed by one to five choices, {counts['v1']} in V1, {counts['v2']} in V2 and {counts['json']} in JSON: "
-          "each is what passtool makes")
+          "each is the pass that passtool makes")
 
 
 def refuses_to_write_as_passtool(page):
@@ -40,11 +40,11 @@ def refuses_to_write_as_passtool(page):
         fault = narrowed_by_tool(text, lines)
         answer = page.narrow(text, *fields_of(*lines))
         check(fault == ("fault 1: too long" if words == "bytes" else "fault 4: too many caveats"), "passtool", lines, fault)
-        check("can't be narrowed with these limits" in answer.get("fault", ""), "a pass that grows too much", lines, answer)
-        check(words in answer["fault"], "how much it grows", lines, answer)
+        check("can't be narrowed with these limits" in answer.get("fault", ""), "a pass that becomes too large", lines, answer)
+        check(words in answer["fault"], "the size in the answer", lines, answer)
     at_most = page.narrow(nearly, ("kind", ["court"]), ("guests", "1"))
     check(at_most.get("text") == narrowed_by_tool(nearly, ["kind = court", "guests <= 1"]), "64 limits", at_most)
-    print(f"{len(rows)} passes that would grow too much are refused, as by passtool")
+    print(f"{len(rows)} passes that would become too large are refused, as passtool does")
 
 
 README_PASS = Pass(b"http://mybank/", b"we used our secret key", [b"test = caveat"],
@@ -145,10 +145,10 @@ def compare_reading(text, answer):
     wanted = 1 if len(cut.encode()) > 8192 else reading_by_tool(cut)
     if isinstance(wanted, int):
         check(answer["fault"] and FAULTS[answer["fault"][0]] == wanted and not answer["shown"], "a faulty text", text, wanted, answer)
-        check(len(answer["fault"]) == 3 and all(answer["fault"]), "an answer without words", text, answer)
+        check(len(answer["fault"]) == 3 and all(answer["fault"]), "an answer without an explanation", text, answer)
         return wanted
     facts, caveats = wanted
-    check(not answer["fault"] and answer["facts"] == facts, "a pass that is read otherwise", text, wanted, answer)
+    check(not answer["fault"] and answer["facts"] == facts, "a pass that is read differently", text, wanted, answer)
     check([limit["text"] for limit in answer["limits"]] == caveats, "other limits", text, wanted, answer)
     return 0
 
@@ -164,13 +164,13 @@ def answers_faulty_texts(page):
         whole = written(form, it)
         cuts = [whole[:length] for length in range(1, len(whole))]
         for text, answer in zip(cuts, page.each("read", cuts)):
-            check(compare_reading(text, answer) == 2, "a text that is cut", text, answer)
+            check(compare_reading(text, answer) == 2, "a truncated text", text, answer)
     empty = page.each("read", ["", " \n"])
     check(all(not answer["fault"] and not answer["shown"] for answer in empty), "an empty text", empty)
     texts = readable_texts()
     for text, answer in zip(texts, page.each("read", texts)):
         check(compare_reading(text, answer) == 0, "a pass that isn't read", text, answer)
-    print(f"{len(rows)} faulty texts have their own answers, as have known passes that are cut anywhere; {len(texts)} odd ones are read")
+    print(f"{len(rows)} faulty texts get the right answers, and so do known passes truncated at any length; {len(texts)} odd texts are read")
 
 
 def changed(text, what, letters):
@@ -224,7 +224,7 @@ def spoiled_bytes(text):
 def reads_spoiled_texts(page):
     texts = [spoiled(written(draw.choice(FORMS), drawn_pass())) for _ in range(SPOILED)]
     counts = Counter(compare_reading(text, answer) for text, answer in zip(texts, page.each("read", texts)))
-    print(f"{len(texts)} spoiled passes are read as by passtool: {counts[0]} are passes still, {counts[2]} malformed, "
+    print(f"{len(texts)} damaged passes are read as passtool does: {counts[0]} are still passes, {counts[2]} malformed, "
           f"{counts[3]} have third-party caveats")
 
 
@@ -271,12 +271,12 @@ def understands_as_passtool(page):
     for text, limit in zip(texts, limits):
         # A program's argument can't contain a zero byte, so the test doesn't pass such a text to passtool.
         wanted = "\0" not in text and is_understood_by_tool(text)
-        check(limit["understood"] == wanted, "understood otherwise", repr(text), wanted, limit)
+        check(limit["understood"] == wanted, "understood differently", repr(text), wanted, limit)
         check(wanted or "doesn't understand this limit" in limit["words"], "a limit that isn't understood", limit)
         understood += wanted
     check(understood < len(texts) < understood * 5, "texts of both kinds", understood)
     # Bytes that aren't text.
     odd = [b"\xff", b"kind = court\xa0", b"kind = caf\xe9", b"\xef\xbb\xbfkind = court"]
     for limit in page.each("read", [amys("v2", *odd)])[0]["limits"]:
-        check(not limit["understood"], "bytes that are no text", limit)
-    print(f"{len(texts)} texts of caveats: the page understands the {understood} that passtool does")
+        check(not limit["understood"], "bytes that aren't text", limit)
+    print(f"{len(texts)} texts of caveats: the page understands the same {understood} as passtool")

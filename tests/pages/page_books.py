@@ -82,7 +82,7 @@ def main():
                 if wanted(step):
                     step(page, *words)
             others = [address for _, address in page.requests() if not address.startswith((page.address.rsplit("/", 1)[0], "about:", "data:", "blob:"))]
-            check(not others, "the page asks for", others)
+            check(not others, "the page requests", others)
             complaints = page.complaints()
             check(not complaints, "the console says", complaints)
 

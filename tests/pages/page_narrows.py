@@ -95,16 +95,16 @@ def choices_say_what_they_add(page):
     for line, fields in CHOSEN:
         answer = page.narrow(AMY, *fields)
         made, wrong, marked = page.run("return shownOf(arguments[0])", line.split()[0])
-        check(not wrong and not marked and made.split("\n")[-1] == line, "what a choice says", fields, made, wrong)
+        check(not wrong and not marked and made.split("\n")[-1] == line, "the caveat that a choice shows", fields, made, wrong)
         sentence = page.run("return sentenceOf(bytesOf(arguments[0]))", line)
         check(made.split("\n")[0] == sentence, "the sentence of a choice", fields, made)
-        check(answer.get("text") == narrowed_by_tool(AMY, [line]), "what a choice adds", fields, answer)
+        check(answer.get("text") == narrowed_by_tool(AMY, [line]), "the caveat that a choice adds", fields, answer)
     for names, value in ((names.split(), it) for names, its in WRONG.items() for it in its):
         fields, choice = list(zip(names, value.split() if names[1:] else [value])), names[0].partition("-")[0]
         answer = page.narrow(AMY, *fields)
         made, wrong, marked = page.run("return shownOf(arguments[0])", choice)
         check("One of your choices is wrong" in answer.get("fault", ""), "a wrong choice", fields, answer)
-        check(wrong and marked and not made, "a wrong choice and its words", fields, made, wrong, marked)
+        check(wrong and marked and not made, "the explanation of a wrong choice", fields, made, wrong, marked)
         # The message disappears as soon as the field is empty again.
         page.run("for (const name of arguments[0]) choose(name, '');", names)
         _, wrong, marked = page.run("return shownOf(arguments[0])", choice)
@@ -113,7 +113,7 @@ def choices_say_what_they_add(page):
     check(nothing.get("fault") == "Choose at least one limit.", "no choice", nothing)
     nothing = page.narrow("", ("guests", "1"))
     check("First enter a pass in the field above" in nothing.get("fault", ""), "no pass", nothing)
-    print(f"{len(SENTENCES)} sentences, and {len(CHOSEN) + sum(map(len, WRONG.values()))} choices that say and add their lines, or what they want")
+    print(f"{len(SENTENCES)} sentences, and {len(CHOSEN) + sum(map(len, WRONG.values()))} choices that add their caveats or explain the required form")
 
 
 def half_a_date_is_no_date(page):
@@ -137,15 +137,15 @@ NOTES = [
 def notes_say_what_matters(page):
     for lines, titles in NOTES:
         answer = page.narrow(amys("v2", *lines), ("guests", "3"))
-        check(answer["notes"] == titles, "what a person should know of a pass", lines, titles, answer["notes"])
+        check(answer["notes"] == titles, "the notes about a pass", lines, titles, answer["notes"])
     stranger = page.each("read", [written("v2", README_PASS)])[0]
     check("name that the desk can look up" in stranger["shown"], "a stranger's pass", stranger)
-    check(stranger["facts"]["Identifier"] == "we used our secret key", "whose a stranger's pass is", stranger)
+    check(stranger["facts"]["Identifier"] == "we used our secret key", "the identifier of a stranger's pass", stranger)
     text = page.run("return document.body.innerText")
     for words in ["Every booking ever made with your pass, or with a pass narrowed from it", "narrow a spare pass or another pass from the office",
                   "can also cancel bookings made with your pass", "Days and times are in the club's time zone"]:
         check(words in re.sub(r"\s+", " ", text), "the page doesn't say", words)
-    print(f"{len(NOTES)} passes come with what matters of them")
+    print(f"{len(NOTES)} passes come with the right notes")
 
 
 # One line for each choice.
@@ -164,7 +164,7 @@ def goes_by_keyboard(page):
 
     def enter(stop, *keys):
         """Checks that the field `stop` has the focus, and types the keys. Then presses Tab until the focus leaves the field."""
-        check(page.focused() == stop, "a stop", stop, page.focused())
+        check(page.focused() == stop, "the focused field", stop, page.focused())
         page.press(*keys, Keys.TAB)
         while page.focused() == stop:
             page.press(Keys.TAB)
@@ -185,7 +185,7 @@ def goes_by_keyboard(page):
     check(page.focused() == "narrow", "the button", page.focused())
     page.press(Keys.ENTER)
     page.run("return outcome()")
-    check(page.focused() == "result-title", "where the result begins", page.focused())
+    check(page.focused() == "result-title", "the focus at the result", page.focused())
     wanted = narrowed_by_tool(AMY, NINE_LINES)
     got = page.run("return byId('narrowed').value")
     check(got == wanted, "a pass narrowed by keyboard", got, wanted)
@@ -196,7 +196,7 @@ def goes_by_keyboard(page):
     page.pause()
     check(page.run("return byId('narrowed-message').textContent") == "The pass is copied.", "copying by keyboard")
     pasted(page, wanted)
-    print("the whole way by keyboard, with nine choices, to a copied pass")
+    print("all steps by keyboard, with nine choices, up to a copied pass")
 
 
 def pasted(page, wanted):
@@ -204,7 +204,7 @@ def pasted(page, wanted):
     page.run("byId('given').value = ''; byId('given').focus();")
     ActionChains(page.driver).key_down(Keys.CONTROL).send_keys("v").key_up(Keys.CONTROL).perform()
     value = page.run("return byId('given').value")
-    check(value == wanted, "what was copied", value, wanted)
+    check(value == wanted, "the copied text", value, wanted)
 
 
 def hands_on(page):
@@ -226,15 +226,15 @@ def hands_on(page):
     # If the fragment of the address changes, the page reads the new pass.
     page.run("location.hash = '#' + arguments[0]", AMY)
     page.pause()
-    check(page.run("return byId('given').value") == AMY, "another pass behind #")
+    check(page.run("return byId('given').value") == AMY, "another pass after #")
     # If the user changes a choice or the pass, the page removes the old result.
     for then, word in (("choose('guests', arguments[0])", "2"), ("enter(arguments[0])", AMY[:-1])):
         page.narrow(AMY, ("guests", "1"))
         page.run(then, word)
-        check(page.run("return byId('result').hidden"), "a result of other choices, or of another pass", then)
+        check(page.run("return byId('result').hidden"), "a result for other choices, or for another pass", then)
     page.run("""enter(arguments[0]); byId("choices").requestSubmit(); enter(arguments[0].slice(1));
         return new Promise((done) => setTimeout(done, 300));""", AMY)
-    check(page.run("return byId('result').hidden"), "a result of a pass that was replaced while it was signed")
+    check(page.run("return byId('result').hidden"), "a result for a pass that was replaced during signing")
     check(page.run("return byId('share').hidden"), "a browser that doesn't share")
 
 
@@ -245,12 +245,12 @@ def shares():
         page.visit()
         text = page.narrow(AMY, ("kind", ["court"]))["text"]
         page.click("share")
-        check(page.run("return globalThis.shared") == {"text": text, "url": page.run("return byId('book-address').value")}, "what is shared")
+        check(page.run("return globalThis.shared") == {"text": text, "url": page.run("return byId('book-address').value")}, "the shared pass")
         check(page.run("return byId('book-address').value").endswith(f"/book.html#{text}"), "the address to book with")
         page.click("copy")
         check("is selected" in page.run("return byId('narrowed-message').textContent"), "a clipboard that refuses")
-        check(page.run("return String(getSelection())") == text, "what is selected")
-    print("addresses, copying and sharing hand on the pass")
+        check(page.run("return String(getSelection())") == text, "the selected text")
+    print("addresses, copying and sharing give the narrowed pass")
 
 
 class Folder(http.server.SimpleHTTPRequestHandler):
@@ -295,7 +295,7 @@ def of_a_club(engine, address):
     found = engine.get("return [byId('facility-names').value, byId('facility-made').textContent]")
     check(found == ["room-1", "Only room-1.facility = room-1"], engine.name, "a pressed facility", found)
     pressed = engine.run("return [...document.querySelectorAll('#club-facilities button')].map((each) => each.getAttribute('aria-pressed'))")
-    check(pressed == ["false", "true"], engine.name, "what is pressed", pressed)
+    check(pressed == ["false", "true"], engine.name, "the pressed button", pressed)
 
 
 def narrows_and_hands_on(engine, address):
@@ -310,7 +310,7 @@ def narrows_and_hands_on(engine, address):
         engine.get("byId('choices').reset(); enter(arguments[0]); for (const [name, value] of arguments[1]) choose(name, value); byId('choices').requestSubmit()", text, fields_of(*lines))
         engine.when("!byId('result').hidden || byId('narrow-fault').textContent !== ''", "a result", text, lines)
         found = engine.get("return byId('narrowed').value")
-        check(found == narrowed_by_tool(text, lines), engine.name, "it narrows otherwise", text, lines, found)
+        check(found == narrowed_by_tool(text, lines), engine.name, "the page narrows differently", text, lines, found)
     # Enters a pass, makes one choice, and presses the button.
     engine.open(f"{address}#{AMY}")
     engine.tap("//button[@id='narrow']")
@@ -321,13 +321,13 @@ def narrows_and_hands_on(engine, address):
     engine.when("!byId('result').hidden", "a narrowed pass")
     wanted = narrowed_by_tool(AMY, ["kind = court", "spend <= 600"])
     found = engine.get("return ['narrowed', 'address', 'book-address'].map((id) => byId(id).value)")
-    check(found == [wanted, f"{address}#{wanted}", f"{base}/book.html#{wanted}"], engine.name, "what is handed on", found)
+    check(found == [wanted, f"{address}#{wanted}", f"{base}/book.html#{wanted}"], engine.name, "the narrowed pass and its addresses", found)
     read = engine.code("book-qr")
     check(read == found[2], engine.name, "its QR code", read)
     keep(f"{engine.name}-pass.png", base64.b64encode(engine.picture()))
     check("scan this code" in engine.get("return byId('book-qr-words').innerText"), engine.name, "the words of the QR code")
     engine.tap("//button[@id='copy-book-address']")
-    engine.when("/^The link is (copied|selected)/.test(byId('book-address-message').textContent)", "what is said of copying")
+    engine.when("/^The link is (copied|selected)/.test(byId('book-address-message').textContent)", "the message after copying")
     engine.get("byId('language').value = 'de'; byId('language').dispatchEvent(new Event('change'))")
     engine.when("document.documentElement.lang === 'de' && document.querySelector('h1').innerText !== 'Narrow a pass'", "German")
 
@@ -345,8 +345,8 @@ def other_engines():
             of_a_club(engine, address)
             narrows_and_hands_on(engine, address)
             asked = {line.split()[1].split("?")[0] for line in Folder.asked}
-            check(asked == {"/pass.html", "/club.json"}, engine.name, "what the server was asked", Folder.asked)
-            print(f"{engine.name} {engine.version} reads and narrows passes as passtool does, hands on link and QR code, says what it wants, and shows the club")
+            check(asked == {"/pass.html", "/club.json"}, engine.name, "the requests to the server", Folder.asked)
+            print(f"{engine.name} {engine.version} reads and narrows passes as passtool does, makes a link and a QR code, explains a missing choice, and shows the club")
 
 
 def only_shows_where_it_cannot_sign():
@@ -355,15 +355,15 @@ def only_shows_where_it_cannot_sign():
     with served(PAGE.parent) as port, NarrowingPage(rules="MAP club.example 127.0.0.1, MAP * ~NOTFOUND") as page:
         address = f"http://club.example:{port}/pass.html"
         page.open(f"{address}#{AMY}")
-        check(page.run("return window.isSecureContext") is False, "a page over http is no secure context")
+        check(page.run("return window.isSecureContext") is False, "a page over http isn't a secure context")
         check("can't sign a pass" in page.run("return byId('unsigned').textContent"), "a page that can't sign says so")
         check(page.run("return byId('narrow').disabled"), "a page that can't sign doesn't narrow")
         check(page.run("return factsOf(byId('given-pass')).Name") == "amy-1", "a page that can't sign shows a pass")
         answer = page.narrow(AMY, ("guests", "1"))
-        check("can't sign a pass" in answer.get("fault", ""), "a page that can't sign doesn't narrow, asked by whatever way", answer)
+        check("can't sign a pass" in answer.get("fault", ""), "a page that can't sign doesn't narrow, even if the form is submitted", answer)
         page.sent_nothing(address)
-    check(Folder.asked == ["GET /pass.html HTTP/1.1"], "what the server was asked", Folder.asked)
-    print("a page that can't sign shows a pass and narrows none; of its server one thing was asked, the page")
+    check(Folder.asked == ["GET /pass.html HTTP/1.1"], "the requests to the server", Folder.asked)
+    print("a page that can't sign shows a pass and narrows none; the browser requested only the page")
 
 
 def named_for_screen_readers(page):
@@ -415,13 +415,13 @@ def large_letters():
                 page.breaks_no_word(name, language)
                 page.is_audited(name, language)
                 keep(f"pass-large-{name}-{language[:2]}.png", page.picture())
-    print("with twice the letters at 360 pixels nothing is cut off; an audit finds nothing")
+    print("with doubled letter size at 360 pixels, nothing is cut off; an audit finds nothing")
 
 
 def main():
     policy_holds(PAGE, {"connect-src": "'self'"}, "localStorage|sendBeacon")
     asks = re.findall(r"fetch\(([^,)]*)", PAGE.read_text(encoding="utf-8"))
-    check(asks == ['"club.json"'], "the page asks for the club's list alone", asks)
+    check(asks == ['"club.json"'], "the page requests only the club's list", asks)
     with NarrowingPage() as page:
         page.visit()
         check(page.run("return window.isSecureContext && crypto.subtle !== undefined"), "a browser that signs in a page from a folder")

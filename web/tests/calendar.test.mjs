@@ -3,7 +3,7 @@ import assert from "node:assert/strict";
 import { test } from "node:test";
 import { calendarText, instantOf } from "../src/calendar.mjs";
 
-test("the instant of a club's moment, also where a clock is put forward or back", () => {
+test("the instant of a club's moment, also when a clock goes forward or back", () => {
   const rows = [
     ["Europe/Berlin", "2026-05-01T18:00", "2026-05-01T16:00:00.000Z"], ["Europe/Berlin", "2026-12-01T18:00", "2026-12-01T17:00:00.000Z"],
     ["Etc/GMT", "2026-05-01T18:00", "2026-05-01T18:00:00.000Z"], ["Pacific/Auckland", "2026-05-01T08:00", "2026-04-30T20:00:00.000Z"],

@@ -3,7 +3,7 @@ import assert from "node:assert/strict";
 import { test } from "node:test";
 import { isScreen, readFragment } from "../src/fragment.mjs";
 
-test("a fragment is nothing, a screen with a pass or without, a list, or else a pass", () => {
+test("a fragment is empty, a screen with or without a pass, a list, or otherwise a pass", () => {
   const rows = [
     ["", "none", ""], ["#", "none", ""], ["#screen", "screen", ""], ["#screen=", "screen", ""], ["#screen=AgEJ", "screen", "AgEJ"],
     ["#AgEJ", "pass", "AgEJ"], ["#%7B%22v%22%3A2%7D", "pass", '{"v":2}'], ["#%", "pass", "%"], ["#screens", "pass", "screens"], ["#Record=x", "pass", "Record=x"],

@@ -35,7 +35,7 @@ beforeEach(() => {
 const free = () => freeSpares(SPARES, keptLoans(), "2026-12-01T00:00").map(({ text }) => text);
 const loanOf = async (spare, number) => ({ given: writePass(await narrowed(AMY, ["until < 2026-12-05T00:00", `spend <= ${number}`])), says: `loan ${number}`, spare });
 
-test("a spare pass is lent once while the page is open, though the store is full", async () => {
+test("a spare pass is lent once while the page is open, even if the storage is full", async () => {
   localStorage.isFull = true;
   const first = await loanOf(SPARES[0], 1);
   assert.equal(keepLoan(first), false);
@@ -48,7 +48,7 @@ test("a spare pass is lent once while the page is open, though the store is full
   assert.deepEqual([free(), keptLoans()], [SPARES, []]);
 });
 
-test("no loan of before is dropped for a new one", async () => {
+test("a new loan replaces no earlier loan", async () => {
   const first = await loanOf(SPARES[0], 1);
   assert.equal(keepLoan(first), true);
   for (let number = 2; number <= 50; number += 1) assert.equal(keepLoan(await loanOf("", number)), true);
@@ -60,13 +60,13 @@ test("no loan of before is dropped for a new one", async () => {
 
 const TWENTY = Array.from({ length: 20 }, (_, count) => `pass ${count + 1}`);
 
-test("twenty passes are kept, and no more", () => {
+test("at most twenty passes are kept", () => {
   for (const text of TWENTY) assert.deepEqual([isPassTooMany(text), keepPass(text, text)], [false, true]);
   assert.deepEqual([isPassTooMany("another"), keepPass("another", "another"), keptPasses().length], [true, false, 20]);
   assert.deepEqual([isPassTooMany("pass 1"), keepPass("pass 1", "Anna"), keptPasses()[0]], [false, true, { text: "pass 1", name: "Anna" }]);
 });
 
-test("twenty spare passes are kept, all that came or none", () => {
+test("at most twenty spare passes are kept; of several new ones, all or none are kept", () => {
   assert.deepEqual([sparesTooMany(TWENTY), keepSpares(TWENTY.slice(0, 19)), keptSpares()], [0, true, TWENTY.slice(0, 19)]);
   assert.deepEqual([sparesTooMany(["pass 1", "a"]), sparesTooMany(["a", "b"]), keepSpares(["a", "b"]), keptSpares().length], [0, 1, false, 19]);
   dropSpare("pass 1");

@@ -17,7 +17,7 @@ test("the lines of a loan", () => {
   assert.deepEqual(linesOf({ ...friday, spent: 999999900 }).at(-1), "spend <= 999999999");
 });
 
-test("the end of a pass, its points, and the facilities that it leaves in", async () => {
+test("the end of a pass, its points, and the facilities that it allows", async () => {
   assert.deepEqual([endOf(AMY), limitOf(AMY), allowsFacility(AMY, { name: "court-1", kind: "court" })], [null, null, true]);
   const lent = await part("until < 2026-12-05T00:00", "spend <= 600", "until < 2026-12-04T18:00", "spend <= 700", "kind = court", "facility = court-1,boat-1");
   assert.deepEqual([endOf(lent), limitOf(lent)], ["2026-12-04T18:00", 600]);
@@ -25,7 +25,7 @@ test("the end of a pass, its points, and the facilities that it leaves in", asyn
   assert.deepEqual([["court-1", "court"], ["court-2", "court"], ["boat-1", "boat"]].map(([name, kind]) => allowsFacility(lent, { name, kind })), [true, false, false]);
 });
 
-test("a spare pass is free until a loan of it, and again after its end", async () => {
+test("a spare pass is free before a loan, and again after the loan's end", async () => {
   const spare = writePass(AMY);
   const loans = [{ text: writePass(await part("until < 2026-12-05T00:00")), spare }, { text: "odd", spare }, { text: spare, spare: "" }];
   assert.deepEqual(freeSpares([spare, "odd"], loans, "2026-12-04T23:59"), []);
@@ -35,7 +35,7 @@ test("a spare pass is free until a loan of it, and again after its end", async (
   assert.deepEqual(freeSpares([spare, renewed], loans, "2026-12-04T23:59").map(({ text }) => text), [renewed]);
 });
 
-test("what a pass's key spent before goes beside it, and is no part of it", () => {
+test("the points that a pass's key spent before are next to the pass, and not a part of it", () => {
   const rows = [["AgEJ", 0, "AgEJ"], ["AgEJ", 450, "AgEJ;spent=450"]];
   for (const [text, spent, given] of rows) {
     assert.equal(withSpent(text, spent), given);

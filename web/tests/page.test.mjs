@@ -49,7 +49,7 @@ test("dates of the club", () => {
   assert.equal(minutesOf("2026-05-02T00:00") - minutesOf("2026-05-01T23:59"), 1);
 });
 
-test("the club's wall clock, whatever the browser's zone", () => {
+test("the club's wall clock, in any time zone of the browser", () => {
   assert.equal(momentIn("Europe/Berlin", Date.parse("2026-03-29T00:59:00Z")), "2026-03-29T01:59");
   assert.equal(momentIn("Europe/Berlin", Date.parse("2026-03-29T01:00:00Z")), "2026-03-29T03:00");
   assert.equal(momentIn("Europe/Berlin", Date.parse("2026-10-25T01:30:00Z")), "2026-10-25T02:30");

@@ -46,8 +46,8 @@ for (const { what, text, form } of VECTORS["also read as the third pass"]) {
 }
 
 for (const { what, text, fault } of VECTORS["not passes"]) {
-  test(`no pass: ${what}`, () => {
-    if (text !== text.trim()) return; // which copying brings: the page leaves it out
+  test(`not a pass: ${what}`, () => {
+    if (text !== text.trim()) return; // The page ignores spaces from copying.
     assert.throws(() => readPass(text), (thrown) => {
       assert.ok(thrown instanceof Fault);
       assert.equal(NUMBERS[thrown.kind], Number(fault[6]));
@@ -60,7 +60,7 @@ for (const { what, text, fault } of VECTORS["not passes"]) {
   });
 }
 
-test("a pass as it is pasted", () => {
+test("a pasted pass", () => {
   assert.equal(pastedText("AgE\n"), "AgE");
   assert.equal(pastedText("https://desk.example.org/book.html#AgE"), "AgE");
   assert.equal(pastedText('https://desk.example.org/book.html#%7B%22a%22%7D'), '{"a"}');
@@ -88,13 +88,13 @@ for (const { caveat, ...verdicts } of VECTORS.caveats) {
 }
 
 for (const text of VECTORS["not understood"]) {
-  test(`no caveat: ${JSON.stringify(text).slice(0, 60)}`, () => {
+  test(`not a caveat: ${JSON.stringify(text).slice(0, 60)}`, () => {
     assert.equal(readCaveat(bytesOf(text)), null);
     assert.equal(firstDenial({ caveats: [bytesOf("guests <= 1"), bytesOf(text)] }, { action: "view", moment: "2026-05-01T10:00" }), 2);
   });
 }
 
-test("every line has a sentence in each language", () => {
+test("every caveat has a sentence in each language", () => {
   const lines = ["facility = a", "facility = a,b,c", "kind = court", "kind = boat", "kind = room", "hours = 08-10", "days = 2026-05-01..2026-05-01",
     "days = 2026-05-01..2026-05-02", "weekday = mon,tue,wed,thu,fri,sat,sun", "until < 2026-05-01T18:00", "guests <= 0", "guests <= 1", "guests <= 2",
     "spend <= 0", "spend <= 1", "spend <= 1000", `actions = ${ACTIONS.join()}`];

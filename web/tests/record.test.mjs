@@ -10,7 +10,7 @@ const SLOT = { facility: "court-1", day: "2026-05-01", hour: 18 };
 const ASKED = newBooking("amy-1", 7, SLOT, 2, 1000);
 const BOOKED = answered(ASKED, "book", { booking: "amy-1/7", charge: 601, left: 1 });
 
-test("numbers are drawn from all of them, and none twice", () => {
+test("numbers are drawn from the whole range, and none twice", () => {
   const draws = [4294967295, 4294967293, 999999998, 0, 5];
   const next = (array) => { array[0] = draws.shift(); };
   const random = (array) => { next(array); return array; };
@@ -34,7 +34,7 @@ test("a booking from its request to its cancellation", () => {
   assert.equal(unfinished(withCancellation(ASKED)), "book");
 });
 
-test("a refusal decides, but one of the pass after a request that may have been served", () => {
+test("a refusal is final, except a refusal of the pass after a request that the desk may have carried out", () => {
   const full = answered({ ...ASKED, unsure: true }, "book", { fault: 18, text: "no places" });
   assert.equal(stateOf(full), "refused");
   const first = answered(ASKED, "book", { fault: 9, text: "not verified" });
@@ -46,18 +46,18 @@ test("a refusal decides, but one of the pass after a request that may have been 
   assert.ok(wantsOtherNumber(answered(ASKED, "book", { fault: 13, text: "number used" })));
 });
 
-test("what a cancellation gives back", () => {
+test("the refund of a cancellation", () => {
   const rows = [["2026-04-30T18:00", 601], ["2026-04-30T18:01", 300], ["2026-05-01T17:59", 300], ["2026-05-01T18:00", null]];
   for (const [moment, refund] of rows) assert.equal(refundAt(BOOKED, moment), refund, moment);
   assert.equal(refundAt({ ...BOOKED, book: {} }, "2026-04-30T18:00"), null);
 });
 
-test("when a slot begins, and how far ahead it may be", () => {
+test("the beginning of a slot, and how far ahead it may be", () => {
   assert.deepEqual([hasBegun(SLOT, "2026-05-01T17:59"), hasBegun(SLOT, "2026-05-01T18:00")], [false, true]);
   assert.deepEqual([isTooFarAhead(SLOT, "2026-03-02T18:00"), isTooFarAhead(SLOT, "2026-03-02T17:59")], [false, true]);
 });
 
-test("the record as a text, there and back", () => {
+test("a round trip of the record as a text", () => {
   const entries = [
     BOOKED, { ...ASKED, number: 8 }, { ...BOOKED, number: 9, cancel: null }, { ...BOOKED, number: 10, cancel: { booking: "amy-1/10", refund: 300 } },
     { ...ASKED, number: 11, guests: null, book: {} }, { ...ASKED, number: 12, book: { fault: 18 } }, { ...BOOKED, key: "bob-1" },
@@ -82,7 +82,7 @@ test("the record as a text, there and back", () => {
   assert.equal(readRecord(text.replaceAll("\n", "\r\n\r\n"), 5).entries.length, 5);
 });
 
-test("a text that is no record says which line", () => {
+test("for a text that isn't a record, the reader returns the wrong line", () => {
   const lines = ["7 court-1 2026-05-01 18 guests 2 charge 601", "0 court-1 2026-05-01 18", "1000000000 court-1 2026-05-01 18", "7 court-1 2026-02-30 18",
     "7 court-1 2026-05-01 24", "7 Court 2026-05-01 18", "7 court-1 2026-05-01 18 guests 50", "7 court-1 2026-05-01 18 guests 2 guests 2",
     "7 court-1 2026-05-01 18 left", "7 court-1 2026-05-01 18 tip 5", "7 court-1 2026-05-01 18 guests 02", "7", "record of amy-1"];
@@ -90,7 +90,7 @@ test("a text that is no record says which line", () => {
   for (const text of ["", "record of Amy", "record", "7 court-1 2026-05-01 18"]) assert.deepEqual(readRecord(text, 5), { wrong: 1 }, text);
 });
 
-test("what the desk said stays beside what a list says, and of two lists it is what knows more", () => {
+test("the desk's answers stay next to a list's claims, and of two lists the one that knows more counts", () => {
   const cancelled = { ...BOOKED, cancel: { booking: "amy-1/7", refund: 0 } };
   const [known, asked, booked, gone] = readRecord(`record of amy-1\n${["", " guests 2", " guests 2 charge 601 left 1", " guests 2 charge 601 left 1 refund 0"]
     .map((end) => `7 court-1 2026-05-01 18${end}`).join("\n")}\n`, 5).entries;
@@ -112,7 +112,7 @@ test("what the desk said stays beside what a list says, and of two lists it is w
   assert.equal(costOf(rows[1][0]), 0);
 });
 
-test("what the desk counts beside the list says what is missing, and what may be gone", () => {
+test("the points that the desk counts show which bookings are missing or may be gone", () => {
   const moment = "2026-04-01T12:00";
   const at = (number, charge, more = {}) => ({ ...BOOKED, number, book: { booking: `amy-1/${number}`, charge, left: 1 }, ...more });
   const list = [at(1, 400), at(2, 200), at(3, 601, { cancel: { booking: "amy-1/3", refund: 300 } }), { ...ASKED, number: 4, book: { fault: 18 } }];

@@ -8,7 +8,7 @@ import { VECTORS } from "./kit.mjs";
 const SLOT = { facility: "court-1", day: "2026-05-01", hour: 8 };
 const BOOKING = { ...SLOT, key: "amy-1", number: 7, guests: 2 };
 
-test("requests are as the desk wants them", () => {
+test("requests have the form that the desk expects", () => {
   assert.deepEqual(REQUESTS.view(SLOT), ["GET", "/slots/court-1/2026-05-01/08"]);
   assert.deepEqual(REQUESTS.book(BOOKING), ["PUT", "/slots/court-1/2026-05-01/08/bookings/7", '{"guests":2}']);
   assert.deepEqual(REQUESTS.cancel(BOOKING), ["DELETE", "/slots/court-1/2026-05-01/08/bookings/7"]);
@@ -35,7 +35,7 @@ test("the replies of the vectors", () => {
   assert.ok(count > 40, `${count} replies`);
 });
 
-test("what is no reply of the desk", () => {
+test("responses that aren't replies of the desk", () => {
   const rows = [
     [502, "<html>bad gateway</html>"], [504, ""], [200, "<html>a page</html>"], [200, ""], [200, "[]"], [200, "null"], [200, "7"], [200, '"done"'],
     [500, '{"error":"proxy"}'], [503, '{"fault":22,"text":"unavailable"}'], [200, '{"fault":22,"text":"unavailable"}'],
@@ -49,7 +49,7 @@ test("what is no reply of the desk", () => {
   assert.throws(() => readReply("view", SLOT, 200, '{"facility":"court-2","day":"2026-05-01","hour":8,"price":1,"places":1,"taken":0,"closed":false}'), NoReply);
 });
 
-test("which refusals are of the pass", () => {
+test("refusals of the pass", () => {
   for (let fault = 1; fault <= 22; fault += 1) assert.equal(isOfPass({ fault }), fault <= 12);
 });
 
@@ -58,7 +58,7 @@ test("pauses double up to five seconds", () => {
   assert.equal(pauseBefore(4, () => 0), 0);
 });
 
-test("a proxy that wants requests to come later says when", () => {
+test("a proxy that refuses too many requests says when to retry", () => {
   for (const [field, wait] of [["1", 1000], ["7", 7000], [null, 1000], ["soon", 1000]]) {
     assert.throws(() => refuseTooMany(429, field), (fault) => fault instanceof NoReply && fault.wait === wait && fault.status === 429);
   }

@@ -82,7 +82,7 @@ function senderOf(store, desk, more = {}) {
   return sender;
 }
 
-test("a booking is written down before it is sent, and its reply after", async () => {
+test("a booking is recorded before it is sent, and its reply afterwards", async () => {
   const [store, desk] = [new MemoryStore(), new Desk()];
   desk.fate = () => { assert.deepEqual(store.log, ["put 41 asked"]); return "reply"; };
   const sender = senderOf(store, desk);
@@ -94,7 +94,7 @@ test("a booking is written down before it is sent, and its reply after", async (
   assert.equal(entry.number, 41);
 });
 
-test("what came in a reply's place is known until a reply comes", async () => {
+test("the status of a response that isn't a reply is known until a reply comes", async () => {
   const [store, desk] = [new MemoryStore(), new Desk()];
   const found = [];
   const sender = senderOf(store, {
@@ -110,7 +110,7 @@ test("what came in a reply's place is known until a reply comes", async () => {
 });
 
 for (const fate of ["lost before", "lost after"]) {
-  test(`a request is sent again, ${fate} the desk`, async () => {
+  test(`a request is sent again if it is ${fate} reaching the desk`, async () => {
     const store = new MemoryStore();
     const desk = new Desk((count) => count <= 3 ? fate : "reply");
     const sender = senderOf(store, desk);
@@ -122,7 +122,7 @@ for (const fate of ["lost before", "lost after"]) {
   });
 }
 
-test("a second booking of the slot is asked for", async () => {
+test("the sender asks before a second booking of the slot", async () => {
   const [store, desk] = [new MemoryStore(), new Desk()];
   const sender = senderOf(store, desk);
   await Promise.all([sender.book(SLOT, 2, false), sender.book(SLOT, 2, false)]).then(([first, second]) => {
@@ -144,7 +144,7 @@ test("two tabs send nothing twice", async () => {
   assert.deepEqual(desk.log.sort(), ["book 41", "book 42"]);
 });
 
-test("a used number is drawn anew, in one change of the record", async () => {
+test("a used number is replaced in one change of the record", async () => {
   const [store, desk] = [new MemoryStore(), new Desk()];
   desk.bookings.set("amy-1/41", { guests: 9, cancelled: false });
   const sender = senderOf(store, desk);
@@ -157,7 +157,7 @@ test("a used number is drawn anew, in one change of the record", async () => {
   assert.equal(stateOf(store.rows.get("amy-1/41")), "refused");
 });
 
-test("nothing is sent where the record can't be written", async () => {
+test("nothing is sent if the record can't be written", async () => {
   const [store, desk] = [new MemoryStore(), new Desk()];
   const sender = senderOf(store, desk);
   store.failing = 1;
@@ -166,7 +166,7 @@ test("nothing is sent where the record can't be written", async () => {
   assert.deepEqual(desk.log, []);
 });
 
-test("a reply that can't be written is asked for again at the next visit, and not before", async () => {
+test("a reply that can't be recorded is requested again at the next visit, and not before", async () => {
   const [store, desk] = [new MemoryStore(), new Desk()];
   const sender = senderOf(store, desk);
   await sender.book(SLOT, 2, false);
@@ -181,7 +181,7 @@ test("a reply that can't be written is asked for again at the next visit, and no
   assert.equal(stateOf(store.rows.get("amy-1/41")), "booked");
 });
 
-test("a pass that is refused stops a request that may have been served, until another pass comes", async () => {
+test("a refused pass stops a request that the desk may have carried out, until another pass comes", async () => {
   const store = new MemoryStore();
   const desk = new Desk((count, pass) => count === 1 ? "lost after" : pass === "PASS" ? { fault: 9, text: "not verified" } : "reply");
   const sender = senderOf(store, desk);
@@ -195,7 +195,7 @@ test("a pass that is refused stops a request that may have been served, until an
   assert.equal(desk.bookings.size, 1);
 });
 
-test("a pass that is refused at once books nothing, and is not asked again", async () => {
+test("a pass that is refused at once books nothing, and the request isn't sent again", async () => {
   const store = new MemoryStore();
   const desk = new Desk(() => ({ fault: 12, text: "caveat denies", caveat: 1 }));
   const sender = senderOf(store, desk);
@@ -205,7 +205,7 @@ test("a pass that is refused at once books nothing, and is not asked again", asy
   assert.equal(desk.log.length, 1);
 });
 
-test("a cancellation goes after the booking that has no reply", async () => {
+test("a cancellation is sent after the booking that has no reply", async () => {
   const store = new MemoryStore();
   const desk = new Desk((count) => count <= 2 ? "lost after" : "reply");
   const sender = senderOf(store, desk);
@@ -230,7 +230,7 @@ test("bookings of another key wait for its pass", async () => {
   assert.deepEqual(desk.log, ["book 41"]);
 });
 
-test("200 bookings and cancellations, with requests lost at every place and tabs that end: the record is the desk's", async () => {
+test("200 bookings and cancellations, with requests lost at every place and tabs that end: the record matches the desk", async () => {
   let seed = 20260501;
   const random = () => { seed = (seed * 1103515245 + 12345) % 2147483648; return seed / 2147483648; };
   const store = new MemoryStore();
@@ -266,7 +266,7 @@ test("200 bookings and cancellations, with requests lost at every place and tabs
     [...desk.bookings].map(([name, { guests, cancelled }]) => [Number(name.split("/")[1]), guests, cancelled]).sort());
 });
 
-test("what a list names is never sent by itself, and once it is asked for only under its number", async () => {
+test("a listed booking is never sent by itself, and on request only under its number", async () => {
   const store = new MemoryStore();
   const desk = new Desk();
   const { entries } = readRecord("record of amy-1\n7 court-1 2026-05-01 18 guests 1\n8 court-1 2026-05-01 19 guests 0 charge 200 left 3 cancel\n"
@@ -294,7 +294,7 @@ test("what a list names is never sent by itself, and once it is asked for only u
   assert.deepEqual([stateOf(await store.get("amy-1", 9)), (await sender.entries()).length], ["refused", 3]);
 });
 
-test("what no page wrote is neither listed nor sent", async () => {
+test("stored values that no page wrote are neither listed nor sent", async () => {
   const store = new MemoryStore();
   const desk = new Desk();
   const good = { key: "amy-1", number: 7, ...SLOT, guests: 0, book: null, unsure: true, asked: 1 };

@@ -13,7 +13,7 @@ function lost(taken, ...entries) {
   return entries.filter(isLost).map(({ number }) => number);
 }
 
-test("a list puts no booking of the desk's in doubt, and is itself where its persons aren't there", () => {
+test("a list casts no doubt on the desk's bookings, and is itself in doubt if its persons aren't there", () => {
   const rows = [[2, [OWN], []], [1, [OWN], [7]], [2, [OWN, LISTED], [8]], [5, [OWN, LISTED], [8]], [6, [OWN, LISTED], []], [1, [OWN, LISTED], [7, 8]], [4, [LISTED], []], [3, [LISTED], [8]],
     [2, [OWN, GONE], []]];
   for (const [taken, entries, numbers] of rows) assert.deepEqual(lost(taken, ...entries), numbers, `${taken} of ${entries.length}`);
@@ -21,7 +21,7 @@ test("a list puts no booking of the desk's in doubt, and is itself where its per
   assert.equal(spentOfKey(), 400);
 });
 
-test("the bookings at a slot are a list's, too, where there are as many persons", () => {
+test("the bookings at a slot include a list's bookings, if the slot has enough persons", () => {
   lost(2, OWN, LISTED, GONE);
   for (const [view, numbers] of [[null, [7, 8]], [{ taken: 6 }, [7, 8]], [{ taken: 5 }, [7]], [{ taken: 1 }, [7]]]) {
     assert.deepEqual(ownAt(SLOT, view).map(({ number }) => number), numbers, `${view?.taken} there`);
