@@ -308,7 +308,7 @@ class Audit:
         page = subprocess.run(["rt", "doc"], capture_output=True, text=True, check=False).stdout if shutil.which("rt") else ""
         kit = Path(page.strip() or "/none").parent / "rattle"
         if not kit.is_dir():
-            raise Fault("no toolchain: its libraries say which calls are theirs")
+            raise Fault("no toolchain: the page lists calls of its libraries")
         below = {promise.number: self.libraries_below(promise) for promise in self.promises}
         found, promises = defaultdict(set), defaultdict(set)
         for file in self.book.code.values():
@@ -485,7 +485,7 @@ class Audit:
         else:
             found = [it for file in self.book.specs.values() for it in file.definitions.values() if it.name == name and it.kind in OF_SPECS]
             if len(found) != 1:
-                raise Fault(f"{len(found)} definitions {name}")
+                raise Fault(f"{len(found)} definitions are named {name}")
             listed = [it for it in closure(found) if it.kind in OF_SPECS]
         files = in_reading_order(self.book, [self.book.specs[module] for module in {it.module for it in listed}])
         for file in files:

@@ -16,10 +16,10 @@ from desk import Reply
 
 
 def pytest_addoption(parser):
-    parser.addoption("--no-commands", action="store_const", const="not built", dest="markexpr", help="what needs no program of ours")
+    parser.addoption("--no-commands", action="store_const", const="not built", dest="markexpr", help="runs only the checks that need no built program")
     parser.addoption("--scripts", metavar="NAME,..", help="runs these programs of tests/, each as one test; 'all' for all")
-    parser.addoption("--planted", action="store_true", help="the same with a fault for each, on which it has to fail")
-    parser.addoption("--built", action="store_true", help="skips a program whose needs aren't built")
+    parser.addoption("--planted", action="store_true", help="plants a fault for each program of --scripts, which must then fail")
+    parser.addoption("--built", action="store_true", help="skips a program if a program that it needs isn't built")
 
 
 def pytest_configure(config):
@@ -52,7 +52,7 @@ class Script(pytest.Item):
         try:
             found = scripts.run(self.test, options.built, self.config.pluginmanager.hasplugin("timeout"))
         except pytest.fail.Exception:
-            found = {"result": "failed", "status": scripts.TOOK_TOO_LONG, "seconds": self.test.seconds, "last": "ended by pytest-timeout"}
+            found = {"result": "failed", "status": scripts.TOOK_TOO_LONG, "seconds": self.test.seconds, "last": "killed by pytest-timeout"}
         self.user_properties.append(("found", found))
         if found["result"] != "passed":
             {"failed": pytest.fail, "skipped": pytest.skip}[found["result"]](found["last"])

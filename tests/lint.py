@@ -44,12 +44,12 @@ ROOT = Path(__file__).resolve().parent.parent
 os.chdir(ROOT)
 # Names that two modules in specs/ may define, each with the reason.
 TWINS = {
-    "◌>>=◌": "the bind of `do`, which each kind of result has",
-    "Entry table_of": "points in a reply and tables of SQL, and a row of a program's table of commands",
-    "header_at caveat_at optional_at wide_at": "the readings of V1 and V2 say the same of two layouts",
-    "Answers": "what rows of tables answer, and what a call returns for what arguments ask",
-    "ReadsArguments of_arguments": "what both programs make of their arguments",
-    "is_key_of": "whether a name is that of a member's key, by a club and by the reference's lists",
+    "◌>>=◌": "the bind of `do`, which each kind of result defines",
+    "Entry table_of": "points in a reply, or a row in a program's table of commands; a table of SQL, or of commands",
+    "header_at caveat_at optional_at wide_at": "the readings of V1 and V2 state the same about two layouts",
+    "Answers": "the answers in rows of tables, and the results of calls with arguments",
+    "ReadsArguments of_arguments": "how both programs read their arguments",
+    "is_key_of": "whether a member's key has a name, in a club and in the reference's lists",
     "EndsWith exit_status fault_line fault_output fault_status": "the faults of both programs, their lines and statuses",
 }
 UNITS = re.compile("byte|bit|character|letter|digit|column|line|caveat|pass|place|person|guest|booking|point|day|hour|minute|second|moment|year|name|fault"
@@ -84,7 +84,7 @@ def twice_defined(crates):
     for name, files in sorted(homes.items()):
         if len(files) > 1 and name not in twins and {it.parts[1] for it in files} & set(crates):
             yield f"defined twice: {name} in {' '.join(map(str, files))}"
-    yield from (f"no twin any more: {name}" for name in twins if len(homes[name]) < 2)
+    yield from (f"unused twin: {name}" for name in twins if len(homes[name]) < 2)
 
 
 def too_long(crate):
@@ -93,7 +93,7 @@ def too_long(crate):
         for most, but in [(100, rf" *ghost use|{LITERAL}| *#\["), (160, LITERAL)] if is_code else [(160, LITERAL)]:
             found = [n for n, line in enumerate(text.splitlines(), 1) if len(line) > most and not re.match(but, line)]
             if found and file.parts[1] == crate:
-                yield f"past {most} columns: {file}:{found[0]}: {len(found)} lines"
+                yield f"longer than {most} columns: {file}:{found[0]}: {len(found)} lines"
 
 
 def too_large(crate):
@@ -141,11 +141,11 @@ def unused_modules(crate, part):
         if not listed or file.name == "Lib.antt":
             continue
         if file.stem not in listed:
-            yield f"not in {above}: {file}"
+            yield f"not listed in {above}: {file}"
         path = r"(\.|::)".join([part, *file.relative_to(top).with_suffix("").parts])
         cited = re.compile(rf"({crate}\.|crate::){path}([^A-Za-z0-9_]|$)", re.MULTILINE)
         if not MOD.search(text) and not any(cited.search(spelled_out(it)) for other, it in FILES.items() if file.stem in it and other != file):
-            yield f"imported nowhere: {file}"
+            yield f"never imported: {file}"
 
 
 def unused_names(crate):
@@ -154,21 +154,21 @@ def unused_names(crate):
     taken = "".join(names + ", " for text in of_crate(crate, "proofs", ".antt").values()
                     for names in re.findall(rf"^use Rattle\.{crate}\.proofs\.Common\.\{{(.*)\}}$", spelled_out(text), re.MULTILINE))
     for names in re.findall(r"^(?:unfoldable )?pub use .*\.\{(.*)\}$", spelled_out(FILES.get(common, "")), re.MULTILINE):
-        yield from (f"nothing takes {name} from {common}" for name in names.split(", ") if name not in taken.split(", "))
+        yield from (f"no proof imports {name} from {common}" for name in names.split(", ") if name not in taken.split(", "))
 
 
 def unused_code(crate):
     for file in of_crate(crate, "src", ".rt"):
         above = [file.parent.with_suffix(".rt"), file.parent / "lib.rt", file.parent / "main.rt"]
         if file.stem not in ("lib", "main") and not any(re.search(rf"^ *(pub(\([a-z]+\))? )?mod {file.stem};", FILES.get(it, ""), re.MULTILINE) for it in above):
-            yield f"no mod names: {file}"
+            yield f"no mod line for: {file}"
 
 
 def stale_edits(crate):
     names = set()
     for edit in more_edits.edits_of(Path("crates", crate)):
         if edit.name in names:
-            yield f"two edits of one name: {crate} {edit.name}"
+            yield f"two edits with one name: {crate} {edit.name}"
         names.add(edit.name)
         try:
             if not more_edits.edited_texts(Path("crates", crate), edit):
@@ -188,14 +188,14 @@ def other_versions():
     version = subprocess.run(["bin/version"], capture_output=True, text=True, check=True).stdout.strip()
     found = re.search("^## ([^ ,]*), 20[0-9-]*$", Path("CHANGELOG.md").read_text(encoding="utf-8"), re.MULTILINE)
     if not found or found[1] != version:
-        yield f"another version than {version}: CHANGELOG.md: {found and found[1]}"
+        yield f"differs from version {version}: CHANGELOG.md: {found and found[1]}"
 
 
 def unnamed_scripts():
     pages = "".join(it.read_text(encoding="utf-8") for it in (Path("README.md"), Path("CONTRIBUTING.md"), *Path("docs").glob("*.md")))
     for script in sorted([*Path("tests").rglob("*.sh"), *Path("bin").iterdir(), *Path("deploy").iterdir()]):
         if str(script) not in pages:
-            yield f"no page names: {script}"
+            yield f"no page mentions: {script}"
 
 
 def install_aspell():

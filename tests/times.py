@@ -99,7 +99,7 @@ def main(names):
         status, spent = run_gate(work, names)
         wall = (time.monotonic() - begun) / 60
         minutes = show(re.findall(r"^(\w+)[ :]", (work / "clone" / "crates.txt").read_text(encoding="utf-8"), re.MULTILINE), spent)
-        print(f"{minutes:.1f} minutes of processor, {wall:.1f} of wall time, {os.cpu_count()} processors")
+        print(f"{minutes:.1f} minutes of processor time, {wall:.1f} minutes of elapsed time, {os.cpu_count()} processors")
         print(*(work / "log").read_text(encoding="utf-8", errors="replace").splitlines()[-20 if status else -1:], sep="\n")
     return status if status >= 0 else 1
 

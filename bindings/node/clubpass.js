@@ -35,7 +35,7 @@ const told = (answer) => {
   if (typeof answer === "number") throw new PassError(answer);
   return answer;
 };
-// Returns an object in memory of its own. The object is aligned, since it is at the beginning of this memory.
+// Returns an object in its own ArrayBuffer. The object is aligned, because it is at the beginning of the ArrayBuffer.
 const object = () => Buffer.from(new ArrayBuffer(library.size));
 
 // No method changes a pass. A text is a string or a Buffer, and a root is a Buffer.

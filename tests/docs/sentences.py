@@ -7,8 +7,8 @@ manual pages, and the texts of the office and of web/. In the same tree, the sam
     tests/docs/sentences.py                         forty sentences, seed 1
     tests/docs/sentences.py --seed 7 --count 12     twelve with another seed
     tests/docs/sentences.py --below docs/TOUR.md    of one file, or of the files below a folder; may be given several times
-    tests/docs/sentences.py --slips                 also prints what tests/lib/prose.py finds in each
-    tests/docs/sentences.py --context               also prints the lines around each: of a table, the titles and the row
+    tests/docs/sentences.py --slips                 also prints what tests/lib/prose.py finds in each sentence
+    tests/docs/sentences.py --context               also prints the lines around each sentence; in a table, the line of titles and the row
 """
 
 import argparse

@@ -68,7 +68,7 @@ def test_texts_by_pymacaroons(vector):
     """pymacaroons can write only passes in ASCII with an identifier, and in V2 only passes with a location."""
     texts = texts_of(vector)
     if texts is None or not all(it.isascii() for it in texts) or not texts[1]:
-        pytest.skip("pymacaroons counts letters, and wants an identifier")
+        pytest.skip("pymacaroons counts characters instead of bytes, and needs an identifier")
     location, identifier, *caveats = texts
     for version in (1, 2) if location else (1,):
         macaroon = Macaroon(location=location, identifier=identifier, key=bytes.fromhex(vector["root"]), version=version)

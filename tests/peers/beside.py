@@ -212,7 +212,7 @@ def show(title, found):
 
 def show_ratios(size, found, big, new):
     """Prints the ratios that have an upper limit, for the file that was measured last."""
-    rows = [(f"booking under a slack limit, {BIG_ROWS} own over none", big["booking"][OURS], new["booking"][OURS], 1.2)]
+    rows = [(f"booking under a slack limit, {BIG_ROWS} own bookings over none", big["booking"][OURS], new["booking"][OURS], 1.2)]
     if "c" in found["repeat"]:
         rows.append(("repeat, clubdesk over C", found["repeat"][OURS], found["repeat"]["c"], 1.0))
         rows.append((f"booking at {size}, clubdesk over C", found["booking"][OURS], found["booking"]["c"], 1.35))
@@ -230,14 +230,14 @@ def calls(clubdesk, requests):
 
 def show_calls(clubdesk, path, asker):
     desk.copy(path, "traced")
-    print("calls of the system for a request")
+    print("system calls per request")
     asked = asker.round(101)
     of_one = calls(clubdesk, asked["account"][:1])
     for kind in KINDS[:3]:
         each = {name: (count - of_one[name]) / 100 for name, count in calls(clubdesk, asked[kind]).items()}
         reads, writes = (sum(each.get(it, 0) for it in names) for names in (("read", "recvfrom", "recvmsg", "readv"), ("write", "sendto", "sendmsg", "writev")))
         often = "".join(f" {name} {count:.1f}" for name, count in each.items() if count >= 0.1)
-        print(f"{kind:12} reads {reads:.2f}, writes {writes:.2f}, of all {sum(each.values()):.1f}:{often}")
+        print(f"{kind:12} reads {reads:.2f}, writes {writes:.2f}, all calls {sum(each.values()):.1f}:{often}")
 
 
 def arguments():

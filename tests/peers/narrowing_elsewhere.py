@@ -97,7 +97,7 @@ def main():
                     each.compare(program, form, text)
                 compared[program, form] += len(suiting)
     for program, _, its_forms in PROGRAMS:
-        print(f"{program}: as passtool narrows them, " + ", ".join(f"{compared[program, form]} passes in {form}" for form in its_forms))
+        print(f"{program} narrows as passtool does: " + ", ".join(f"{compared[program, form]} passes in {form}" for form in its_forms))
 
 
 with ROOM:

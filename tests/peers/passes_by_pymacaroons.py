@@ -142,7 +142,7 @@ def main(folder):
         row = {fault: n for (*its, fault), n in sorted(counted.items()) if its == [maker, form]}
         refused = ", ".join(f"{fault}: {n}" for fault, n in row.items() if fault)
         print(f"{sum(row.values())} in {form} by {maker}: {row.get(0, 0)} served; refused as {refused}")
-    print(f"{sum(counted.values())} replies are those of the rules")
+    print(f"{sum(counted.values())} replies match the rules")
 
 
 with tempfile.TemporaryDirectory() as room:

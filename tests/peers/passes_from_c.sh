@@ -33,12 +33,12 @@ holds 'static is built' gcc -std=c11 $warnings -I "$here/../../include" -o stati
 printf '#include <clubpass.h>\nint main() { clubpass pass = CLUBPASS_INIT; return (int)clubpass_caveat_count(&pass); }\n' >plain.cc
 for standard in c++11 c++17; do
     # shellcheck disable=SC2046
-    holds "the header is $standard" g++ -std="$standard" -Wall -Wextra -Werror -pedantic -o plain plain.cc $(pkg-config --cflags --libs clubpass)
+    holds "the header compiles as $standard" g++ -std="$standard" -Wall -Wextra -Werror -pedantic -o plain plain.cc $(pkg-config --cflags --libs clubpass)
     holds "a program in $standard" ./plain
 done
 cp plain.cc plain.c
 # shellcheck disable=SC2046
-holds 'the header is C99' gcc -std=c99 -Wall -Wextra -Werror -pedantic -o plain plain.c $(pkg-config --cflags --libs clubpass) -Wno-strict-prototypes
+holds 'the header compiles as C99' gcc -std=c99 -Wall -Wextra -Werror -pedantic -o plain plain.c $(pkg-config --cflags --libs clubpass) -Wno-strict-prototypes
 
 for program in shared by_clang static checked; do
     holds "$program" "./$program"
@@ -56,7 +56,7 @@ same 'names of the static library' "$(nm -D --defined-only library/lib/libclubpa
 # ---- In each run, another allocation fails. If the program itself needs this allocation to read a line of input, the program prints fewer lines.
 # Such a run doesn't count.
 holds 'tell is built' gcc -g -O1 -o tell "$here/passes_from_c/tell.c" -I "$here/../../include" library/lib/libclubpass.a
-holds 'what refuses is built' gcc -shared -fPIC -O1 -o refused_memory "$here/../lib/refused_memory.c" -ldl
+holds 'refused_memory is built' gcc -shared -fPIC -O1 -o refused_memory "$here/../lib/refused_memory.c" -ldl
 cat >lines <<'LINES'
 pass 00112233445566778899aabbccddeeff 41674545
 pass 00112233445566778899aabbccddeeff 7b2263223a5b7b2269223a226b696e64203d20636f757274227d5d2c2269223a226b65793a616d792d31222c226c223a22636c75622d6465736b222c22733634223a224a42414930385158564d5f73444d4d73363944725962374e6d2d4567545674516667304b4d5a6a5176764d222c2276223a327d
@@ -70,5 +70,5 @@ for number in $(seq 1 "$(cat counted)"); do
     checks=$((checks + 1))
     cmp -s whole told || { grep -Eq '^fault 5$| fault-5 ' told && met=$((met + 1)); } || fail "allocation $number is refused: $(cat told)"
 done
-[ "$met" -gt 5 ] || fail "a refused allocation was met $met times"
+[ "$met" -gt 5 ] || fail "only $met refused allocations caused a fault"
 echo "$checks checks hold; memory was refused $met times"

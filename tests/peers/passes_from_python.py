@@ -200,7 +200,7 @@ def main():
             told.update(pool.map(lambda case: compare(clubpass, tool, case), cases))
     print(f"{given.count} texts, seed {given.seed}: {dict(sorted(told.items()))}")
     faults = {name for name in told if " 3 " in name}
-    expect("faults that were met", {name.split()[-1] for name in faults}, {f"{number}:" for number in NUMBERS.values()})
+    expect("faults that occurred", {name.split()[-1] for name in faults}, {f"{number}:" for number in NUMBERS.values()})
 
 
 if __name__ == "__main__":

@@ -110,7 +110,7 @@ def desks(folder):
                        env={**os.environ, "GO111MODULE": "off", "GOPATH": "/usr/share/gocode", "GOCACHE": str(Path(folder, "cache"))})
         yield "Go", [str(in_go)], False
     else:
-        print("no Go here: its desk isn't played")
+        print("Go isn't installed: the desk in Go is skipped")
 
 
 def main():
@@ -125,7 +125,7 @@ def main():
                     player.play(it, "v2")
                 except Difference as fault:
                     faults.append(f"{name}: {fault}")
-            print(f"the desk in {name}: {count} requests that it knows")
+            print(f"the desk in {name}: {count} requests that it supports")
     return status_of(faults)
 
 

@@ -113,7 +113,7 @@ def _load() -> ctypes.PyDLL:
 
 
 _library = _load()
-# clubpass_read and clubpass_is_signed declare no argument types, since ctypes would test the types at each call. Callers pass bytes, the
+# clubpass_read and clubpass_is_signed declare no argument types, because ctypes would test the types at each call. Callers pass bytes, the
 # `_length` of the bytes, and a `byref`.
 _read: Callable[..., int] = _library.clubpass_read
 _is_signed: Callable[..., bool] = _library.clubpass_is_signed

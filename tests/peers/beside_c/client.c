@@ -33,7 +33,7 @@ int main(int count, char **words) {
     static char request[20000], reply[4096];
     for (size_t len; fscanf(requests, "%zu", &len) == 1;) {
         fgetc(requests);
-        if (len > sizeof request || fread(request, 1, len, requests) != len) return fprintf(stderr, "requests cut\n"), 1;
+        if (len > sizeof request || fread(request, 1, len, requests) != len) return fprintf(stderr, "requests truncated\n"), 1;
         double start = micros_now();
         size_t taken = ask(&address, request, len, reply, sizeof reply);
         printf("%.1f\n", micros_now() - start);
