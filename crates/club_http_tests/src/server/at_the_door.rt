@@ -130,7 +130,7 @@ fn waits_for_a_silent_sender<C: Clock>(
 fn a_command_has_a_fifth_of_a_second(rt: HostRuntime) -> Result<(), Fail> {
     let waited = waits_for_a_silent_sender(&rt, &rt, desk_at_noon(&rt))?;
     expect_eq(&rt, &(waited >= Duration::from_millis(190)), &true);
-    let clock = HandSet::new(0, 200_000);
+    let clock = HandSet::new(0, 40_000);
     let waited = waits_for_a_silent_sender(&rt, &clock, desk_at_noon(&rt))?;
     expect_eq(&rt, &(waited < Duration::from_millis(700)), &true);
     Ok(())
