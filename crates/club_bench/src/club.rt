@@ -11,8 +11,8 @@ use pass_forms::{Form, FormFault, Pass, narrow};
 use pass_json::write_any;
 use std::alloc::Global;
 
-/// The number of members. Each member has one key. The desk's cache has room for the derived keys
-/// of all these keys.
+/// The number of members. Each member has one key. The desk's cache of derived keys has room for
+/// all of these keys.
 pub(crate) const KEYS: u16 = 50;
 
 pub(crate) const COURT: &[u8] = b"court-1";
@@ -42,7 +42,8 @@ pub(crate) fn run_in_memory(rt: &HostRuntime, benchmark: &impl Benchmark) -> Res
     run_over(rt, first, second, benchmark)
 }
 
-// Runs the benchmark with two desks. The desks use these tables, which must be empty.
+// Runs the benchmark with two desks. The desks use the stores `first` and `second`, which must be
+// empty.
 fn run_over<S: ClubStore + Drop>(
     rt: &HostRuntime,
     first: S,
@@ -112,7 +113,7 @@ fn root() -> Option<Root> {
     Root::new(b"0123456789abcdef")
 }
 
-/// Returns the name of a member, which consists of two digits. The member's key has the same name.
+/// Returns a member's name, which consists of two digits. The member's key has the same name.
 fn name_of(index: u16) -> Option<Name> {
     Name::read(&[digit(index / 10), digit(index)])
 }

@@ -44,7 +44,7 @@ pub(crate) fn compare(rt: &HostRuntime, count: u16) -> Result<()> {
 }
 
 /// A line of the output. The line shows how many requests of each kind the desk answers per second.
-/// The requests use these passes.
+/// The requests use the passes in `passes`.
 #[derive(Clone, Copy)]
 struct Row<'a> {
     passes: &'a [String],

@@ -20,7 +20,7 @@ use std::rt::Clock;
 use std::time::Duration;
 
 /// The number of times that the benchmark measures decoding the requests and parsing their heads.
-/// The benchmark prints the shortest time of each.
+/// The benchmark prints the shortest decoding time and the shortest parsing time.
 const ROUNDS: u8 = 5;
 
 const HEAD: &str = "asked for  a second | ns whole    words httparse     desk    reply";
@@ -87,9 +87,8 @@ impl<S: ClubStore + Drop> Bench<S> {
         )
     }
 
-    // Returns the time in which the desk answers all requests, and the time of writing the texts of
-    // the replies. Fails if the last text doesn't begin with `last`, the last reply of the whole
-    // exchanges.
+    // Returns the time in which the desk answers all requests, and the time of writing the replies'
+    // texts. Fails if the last text doesn't begin with `last`, the last reply of the desk `whole`.
     fn decided_and_written(
         &mut self,
         rt: &(impl Clock + AllocGlobal),
@@ -109,7 +108,7 @@ impl<S: ClubStore + Drop> Bench<S> {
     }
 }
 
-// Prints the times for `count` requests. The first time is the time of the whole exchanges.
+// Prints the times for `count` requests. `times[0]` is the time of the whole exchanges.
 fn print_times(rt: &impl Print, name: &str, count: usize, times: &[Duration; 5]) -> Result<()> {
     print!(rt; "{name:>9} {:>9} |", rate(count, times[0]))?;
     for time in times {

@@ -3,7 +3,7 @@ use Rattle.std.specs.Prelude.{◌≡◌, ℕ, Option, Some}
 use Rattle.jiff_core.specs.declared.timestamp.Timestamp.{Timestamp}
 use Rattle.club_clock.specs.{Zone.ShowsIn, declared.clock.Clock.{Clock, TheVariants.{Fixed, InZone}}}
 
--- A relation `GivesMoment` describes a call of a clock by three terms: the clock before the call,
+-- A relation `GivesMoment` describes a call to a clock by three terms: the clock before the call,
 -- the returned moment, and the clock after the call.
 abbrev pub GivesMoment : Type 0 → Type 1
 GivesMoment Clock = Clock → Option ℕ → Clock → Type 0

@@ -12,8 +12,8 @@ use Rattle.club_core.specs.declared.{refusal.Refusal.TheVariants.{CaveatNotUnder
 use Rattle.club_core.specs.declared.view.View.{View}
 use Rattle.club_core.specs.declared.request.Request.TheVariants as asked
 
--- The points that the request would charge. Only a booking with an unused number at a known
--- facility charges points.
+-- The points that the request would charge. Only a booking of a known facility, with an unused
+-- number, charges points.
 abbrev pub owed_at : Request → Bool → Option Facility → ℕ
 owed_at (asked.Book slot number guests) false (Some facility) = charge_of facility guests
 owed_at request recorded facility = 0

@@ -1,7 +1,7 @@
 -- Defines the rows and events on which a member's replies depend. The rows are the member's row,
 -- keys and bookings, and all facilities. The events are the member's requests, and the office's
--- changes to these rows. Each request comes with the number of persons in the slot without the
--- member's bookings, and whether the slot is closed.
+-- changes to these rows. For each request, the event also states the number of persons in the slot,
+-- not counting the member's bookings, and whether the slot is closed.
 use Rattle.std.specs.Prelude.{ℕ, ◌+◌, not, Bool, true, false, List, [], ◌∷◌, ◌++◌, filter, Option, Some, None, Result, Ok, Err, option_map, if◌then◌else◌}
 use Rattle.std.specs.Str.{bytes_eq}
 use Rattle.club_values.specs.declared.slot.Slot.{Slot}
@@ -15,14 +15,14 @@ use Rattle.club_core.specs.declared.{command.OfficeFault.OfficeFault, reply.Repl
 abbrev pub bookings_of_others : List ℕ → Club → List Booking
 bookings_of_others member club = filter (λ (booking : Booking). not (is_key_of member club booking.key)) club.bookings
 
--- The number of persons in a slot, without the bookings of the member with this name, and whether
--- the slot is closed.
+-- The number of persons in a slot, not counting the bookings of the member with this name, and
+-- whether the slot is closed.
 abbrev pub outside : List ℕ → Club → Option Slot → SlotUse
 outside member club slot = slot_use_by (bookings_of_others member club) club slot
 
 -- An event that concerns one member: a request with a key of the member, or a change by the office
--- to the rows in `part_of`. For the slot of a request, `others` contains the number of persons
--- without the member's bookings, and whether the slot is closed.
+-- to the rows in `part_of`. For the slot of a request, `others` contains the number of persons, not
+-- counting the member's bookings, and whether the slot is closed.
 pub data OwnEvent : Type 0 where
   OwnAsk : (words : Words) (moment : ℕ) (others : SlotUse) → OwnEvent
   OwnChange : (change : Change) → OwnEvent

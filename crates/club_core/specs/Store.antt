@@ -81,9 +81,9 @@ KeepsClub Represents old new = (club : Club) (others : List Club) → Represents
 abbrev pub Returns : {S A E : Type 0} → (S → Club → List Club → Type 0) → S → Result A E → (Club → A → Type 0) → Type 0
 Returns Represents old answer IsReturned = (club : Club) (others : List Club) → Represents old club others → IfOk answer (IsReturned club)
 
--- A successful read doesn't affect later failures. If a later call can fail from the state after
--- the read, the call can fail in the same way from the state before the read. `wish` is the change
--- that the later call tries to apply, or `None` if the later call reads.
+-- A successful read doesn't affect later failures. If a later call can fail in the state after the
+-- read, the call can fail in the same way in the state before the read. `wish` is the change that
+-- the later call tries to apply, or `None` if the later call reads.
 abbrev pub IsRead : {S : Type 0} → (Option Change → S → StoreFault → S → Type 0) → S → S → Type 0
 IsRead {S} Fails old new = (wish : Option Change) (fault : StoreFault) (later : S) → Fails wish new fault later → Fails wish old fault later
 

@@ -65,8 +65,8 @@ pub enum Command {
         root: Root,
         until: Moment,
     },
-    /// Cancels a key's booking, even after its slot has begun or if the key is revoked, and refunds
-    /// the whole charge. A booking that is already cancelled doesn't change.
+    /// Cancels a key's booking and refunds the whole charge, even if the slot has begun or the key
+    /// is revoked. A booking that is already cancelled doesn't change.
     CancelBooking {
         key: Name,
         number: BookingNumber,

@@ -63,7 +63,7 @@ fn repeat_booking(booking: &Booking, slot: &Slot, guests: Guests) -> Verdict
     })
 }
 
-/// Decides a booking with an unused number at a known facility.
+/// Decides a booking of a known facility, with an unused number.
 fn book_at(
     view: &View,
     facility: &Facility,

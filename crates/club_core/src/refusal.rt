@@ -15,8 +15,8 @@ pub enum Resource {
 }
 
 /// The reason why a request is refused. The desk tests for the reasons in the order of the
-/// variants, with two exceptions. The desk tests the caveats one by one, in the order of the pass,
-/// so `CaveatDenies` can precede `CaveatNotUnderstood`. `Unavailable` can occur at any time.
+/// variants, with two exceptions. The desk tests the caveats one by one, in the pass's order, so
+/// `CaveatDenies` can precede `CaveatNotUnderstood`. `Unavailable` can occur at any time.
 #[derive(Clone, Copy, Debug, PartialEq, Eq)]
 pub enum Refusal {
     BadRequest,

@@ -108,7 +108,7 @@ pub trait ClubStore {
         ensures { ReadsStore disk_is_clean represents fails self.old self.new result
             (λ club spent. spent ≡ spent_under key.now club.bookings) };
 
-    /// Returns the day's bookings that aren't cancelled, in the order of the day sheet.
+    /// Returns the day's bookings that aren't cancelled, in the day sheet's order.
     fn day(&mut self, day: Day) -> Result<Vec<Booking>, StoreFault>
         ensures { ReadsStore disk_is_clean represents fails self.old self.new result
             (λ club rows. AreRowsOf club day rows.items) };

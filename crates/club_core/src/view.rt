@@ -69,8 +69,8 @@ impl View {
         self.booking.is_none() && self.facility.is_some()
     }
 
-    /// Returns the points that the request would charge. Only a booking with an unused number at a
-    /// known facility charges points.
+    /// Returns the points that the request would charge. Only a booking of a known facility, with
+    /// an unused number, charges points.
     fn points_owed(&self, request: &Request) -> u32
         ensures { result ≡ owed_at request.now (is_some self.now.booking) self.now.facility }
     {

@@ -1,4 +1,4 @@
-//! Answers to commands, the texts of values, and the time of an older root.
+//! Answers to commands, the texts of values, and the expiry of an older root.
 
 use crate::expect::{Host, expect_eq};
 use crate::values::{key, moment, name, root};

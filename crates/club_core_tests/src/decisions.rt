@@ -1,4 +1,4 @@
-//! The facts that caveats check, and a decision in a state that no club reaches.
+//! The values that caveats test, and a decision in a state that no club reaches.
 
 use crate::expect::{Host, expect_eq};
 use crate::values::{booking, facility, key, moment, slot};
@@ -37,7 +37,7 @@ fn recorded(rt: &impl Host) -> View {
     }
 }
 
-/// A view with only the key's row. The member's name is in the key's row, so the view has it, too.
+/// A view with only the key's row, and with the member's name from this row.
 fn bare(rt: &impl Host) -> View {
     View {
         member: amy(0, 0).expect(rt, "a member"),
@@ -48,7 +48,7 @@ fn bare(rt: &impl Host) -> View {
 
 static ORDER: [(&str, Refusal); 2] = [(NOON, Refusal::SlotClosed), (START, Refusal::NotBookable)];
 
-/// No club has a slot that is closed and full at once.
+/// The test's view has a slot that is closed and full, although no club has such a slot.
 #[test]
 fn order_of_refusals(rt: HostRuntime) {
     let view = View {

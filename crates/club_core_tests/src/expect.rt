@@ -5,7 +5,8 @@ pub(crate) trait Host: Abort + AllocGlobal {}
 
 impl<R: Abort + AllocGlobal> Host for R {}
 
-/// A test that calls this function is proved in a third of the time of a test with `assert_eq!`.
+/// The proof of a test takes a third of the time if the test calls this function instead of
+/// `assert_eq!`.
 pub(crate) fn expect_eq<T: PartialEq + Debug>(
     rt: &impl Abort,
     returned: &T,

@@ -23,8 +23,8 @@ fn words(rt: &impl Host, key: &str, asked: &PlainRequest) -> Words {
     }
 }
 
-/// With `others`, the club is one member's part, and `others` is the use of the slot by other
-/// members.
+/// If `others` is given, the club is one member's part, and `others` is the use of the slot by
+/// other members.
 fn plays(rt: &impl Host, club: &mut Club, others: Option<SlotUse>, steps: &[Step]) {
     for (row, (key, asked, want)) in steps.iter().enumerate() {
         let (words, at) = (words(rt, key, asked), moment(rt, NOON));
@@ -55,7 +55,8 @@ fn expect_use(rt: &impl Host, slot: &SlotUse, held: (u32, bool)) {
     expect_eq(rt, &(slot.taken, slot.closed), &held, &"a slot");
 }
 
-/// `held` is the use of the court at 18 by other members.
+/// `held` has the number of other members' persons in the slot at 18, and whether the slot is
+/// closed.
 fn part_plays(rt: &impl Host, club: &Club, held: (u32, bool), steps: &[Step]) {
     let amy = name(rt, "amy");
     let nothing = club.outside(&amy, None);

@@ -1,4 +1,4 @@
-//! Rows parsed from columns, and columns outside their limits.
+//! Rows parsed from columns, and column values outside their limits.
 
 use crate::expect::expect_eq;
 use crate::values::{booking, facility};

@@ -5,7 +5,7 @@ use Rattle.club_gate.proofs.Walking.{fault_is, fault_on}
 use Rattle.pass_caveats.specs.Kinds.{IsBlindToKind, at_kind}
 use Rattle.club_values.specs.declared.kind.Kind.{Kind}
 
--- Each caveat in these fields has the same fault for every kind of facility.
+-- The kind of the facility never changes the fault of a caveat in these fields.
 abbrev pub AreBlind : List PassField → Type 0
 AreBlind [] = Unit {0}
 AreBlind (caveat_field bytes ∷ fields) = IsBlindToKind bytes × AreBlind fields

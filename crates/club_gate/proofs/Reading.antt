@@ -11,7 +11,7 @@ use Rattle.club_core.specs.{Laws.OwnBookings, Looks.{bare_view, books_anew}, Req
 use Rattle.club_core.specs.declared.account.MemberAccount.{MemberAccount}
 use Rattle.club_core.specs.declared.request.Request.TheVariants as asked
 
--- The view after adding how many places of a slot are taken, and whether the slot is closed.
+-- The view after setting `taken` and `closed` to the slot's values.
 abbrev pub with_slot : Club → Slot → View → View
 with_slot club slot view = record view { taken = (slot_use club slot).taken; closed = (slot_use club slot).closed }
 

@@ -64,7 +64,7 @@ of_row : (key : Option Key) (row : KeyRow) → Some row ≡ option_map row_of_ke
 of_row None row e = absurd (cc)
 of_row (Some key) row e = (key, refl, cc)
 
--- The row is the row of the key that the pass names, and the pass is signed under this key.
+-- The row belongs to the key that the pass names, and the pass is signed under this key.
 pub record IsSigner (club : Club) (pass : Plain) (moment : ℕ) (row : KeyRow) : Type 0 where
   pub key : Key
   pub is : key_in club pass.identifier ≡ Some key

@@ -1,12 +1,12 @@
--- Lemmas on the test whether a pass is signed under a root.
+-- Lemmas on testing whether a pass is signed under a root.
 use Rattle.club_gate.proofs.Common.{◌≡◌, ℕ, Bool, List, [], ◌∷◌, ◌++◌, drop, map, Option, Some, refl, ◌∙◌, bytes_eq, PassField, caveat_field, signature_field}
 use Rattle.club_gate.proofs.Common.{pass_fields, Plain, is_signed, Key, KeyRow, key_of_row, older_root_at, row_of_key, Club, key_named}
 use Rattle.pass_mac.specs.Chain.{chain, derived_key, extended_signature}
 use Rattle.club_rows.specs.declared.key.OlderRoot.{OlderRoot}
 use Rattle.club_core.specs.KeyParts.{older_root_of}
 
--- The Boolean is true if and only if the signature of the pass is the last signature of the chain.
--- The chain starts from the signature `start` and has one signature for each caveat.
+-- The Boolean `answer` is true if and only if the signature of the pass is the last signature of
+-- the chain. The chain starts from the signature `start` and has one signature for each caveat.
 abbrev EndsIn : List ℕ → List PassField → Bool → Type 0
 EndsIn start fields answer = (caveats : List (List ℕ)) (signature : List ℕ) → fields ≡ map caveat_field caveats ++ signature_field signature ∷ []
     → answer ≡ bytes_eq (extended_signature start caveats) signature

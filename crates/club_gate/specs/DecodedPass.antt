@@ -10,8 +10,7 @@ use Rattle.club_core.specs.{Pass.{Pass, Words}, declared.pass_fault.PassFault.{P
 use Rattle.club_core.specs.declared.request.Request.{Request}
 use Rattle.club_gate.specs.Minted.{identifier_of}
 
--- `seen` is the pass in the form that the rules of the club use. The rules use three parts of a
--- pass:
+-- `seen` is the decoded pass that the rules of the club use. The rules use three parts of a pass:
 -- - the name of the key in the pass's identifier
 -- - the meaning of each caveat that is understood
 -- - the roots under which the pass is signed

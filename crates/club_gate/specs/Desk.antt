@@ -43,8 +43,8 @@ Settles Represents new change result club others = MatchResult result
     (λ _. Represents new (after_change change club) (others_after change others))
     (λ _. Represents new club (after_change change club ∷ others))
 
--- The reply is the reply of this verdict, and the store represents the club after the verdict's
--- change. A verdict is a reply and an optional change.
+-- The reply is this verdict's reply, and the store represents the club after the verdict's change.
+-- A verdict is a reply and an optional change.
 pub record IsDecidedBy {S : Type 0} (Represents : S → Club → List Club → Type 0) (new : S) (club : Club) (others : List Club)
     (verdict : Verdict) (reply : Reply) : Type 0 where
   pub available : reply ≢ member_replies.Refused Unavailable

@@ -24,6 +24,6 @@ pub record AgreesOnRecord (club : Club) (key : KeyRow) (pass : Plain) (request :
       (view.facility ≡ (state_of club (request_slot request)).facility) ⊎ (IsBlindPass pass × IsTrue (is_some view.booking) × (view.facility ≡ None))
   pub no_more : view ≡ seen_by_caveats view
 
--- The row is the row of a key of the club.
+-- The row belongs to a key of the club.
 abbrev pub IsOnRecord : Club → KeyRow → Type 0
 IsOnRecord club row = (key : Key) × (key_named key.name club ≡ Some key) × (row ≡ row_of_key key)

@@ -118,9 +118,9 @@ IsOnce club events responses =
     → (IsFalse (has_failed desk_presentation (Asked words moment) again) → again ≡ ToMember reply)
     × IsRun desk_presentation club (history ++ rest) (before ++ since) (club_left club events responses)
 
--- A member may cancel a booking that the office has already cancelled. If the member's request is
--- accepted and doesn't fail, the response states the recorded refund. Leaving out the accepted
--- request changes neither the other responses nor the final club.
+-- A member may send a request to cancel a booking that the office has already cancelled. If the
+-- request is accepted and doesn't fail, the response states the recorded refund. Leaving out the
+-- accepted request changes neither the other responses nor the final club.
 abbrev pub ReturnsTheRecord : Club → List machine.Event → List DeskResponse → Type 0
 ReturnsTheRecord club events responses =
     (history rest : List machine.Event) (before since : List DeskResponse) (words : Words) (moment : ℕ) (key : List ℕ) (number : ℕ) (booking : Booking)
@@ -157,8 +157,8 @@ pub record IsLawfulRun (club : Club) (events : List machine.Event) (responses : 
   -- The responses to the answered events are the responses of the machine.
   pub run : IsAnsweredRun club events responses
   -- A member's replies depend only on the member's part of the club and the member's own events.
-  -- For a request, the own event includes how many persons other members have in the slot, and
-  -- whether the slot is closed.
+  -- For a request, the member's own event includes how many persons other members have in the slot,
+  -- and whether the slot is closed.
   pub solo : IsSolo club events responses
   pub solo_of_two : IsAsInAnother club events responses
   -- An accepted repeat of a served booking or cancellation gets the same reply, unless the repeat
@@ -189,8 +189,8 @@ module _ {S : Type 0} (IsClean : S → Type 0) (Represents : S → Club → List
     pub steps : IsClean new → (seen : machine.Event) × IsEventOf event seen × Steps Represents old new seen (response_of reply)
     pub failed : OfItsClub IsClean Represents old new (λ club. EventFailsForCause Fails old new club event reply)
 
-  -- The desk handled the events in order. Each event starts with the store after the previous
-  -- event.
+  -- The desk handled the events in order. Each event starts with the store as the previous event
+  -- left it.
   pub data AreHandled (old : S) : List Event → List EventReply → S → Type 0 where
     no_event : AreHandled old [] [] old
     one_event : (events : List Event) (replies : List EventReply) (event : Event) (reply : EventReply) (now new : S) → AreHandled old events replies now

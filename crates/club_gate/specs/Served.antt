@@ -20,7 +20,7 @@ pub record IsSignedFor (pass : Plain) (key : Key) (moment : ℕ) : Type 0 where
   pub signed : IsSigned root pass
 
 -- The text encodes a pass that entitles its holder to the request:
--- - The identifier names a key of the club that isn't revoked.
+-- - The identifier names a key of the club, and this key isn't revoked.
 -- - The pass is signed under a good root of this key (`IsSignedFor`).
 -- - Each caveat allows the request, given the club's rows for this key.
 pub record EntitlesTo (club : Club) (text : List ℕ) (request : Request) (moment : ℕ) : Type 0 where
@@ -58,9 +58,9 @@ AnswersItsForms club text request moment reply =
     → IsAnyReading text (Ok (form, pass)) → IsAnyReading other (Ok (other_form, pass)) → AreWordsOf other request words
     → reply ≢ Refused Unavailable → reply ≡ (verdict_in club words moment).reply
 
--- The narrow text encodes the pass of the wide text with additional caveats. The narrow pass and
--- the wide pass have the same identifier. The wide pass is signed under a good root of the key that
--- the identifier names.
+-- The narrow text encodes the wide text's pass plus additional caveats. The narrow pass and the
+-- wide pass have the same identifier. The wide pass is signed under a good root of the key that the
+-- identifier names.
 pub record IsNarrowedText (club : Club) (wide narrow : List ℕ) (moment : ℕ) : Type 0 where
   pub form : Form
   pub other_form : Form

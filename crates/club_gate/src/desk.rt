@@ -246,7 +246,7 @@ impl<S: ClubStore> Desk<S> {
     /// 3. the caveats of the pass, in order
     /// 4. the rules for the request
     ///
-    /// `Unavailable` means only that the store failed, or that there was no memory to parse a pass
+    /// `Unavailable` has only two causes: the store failed, or there was no memory to parse a pass
     /// in JSON. In both cases the club is unchanged. If the store failed to write a change, the
     /// change may still take effect after a crash.
     pub fn ask(&mut self, moment: Moment, words: &SentWords) -> Reply
@@ -288,9 +288,9 @@ impl<S: ClubStore> Desk<S> {
     /// Carries out a command of the office. When `office` returns, the change of a successful
     /// command is stored. A refusal changes nothing.
     ///
-    /// `Fault::Refused` names the rule that forbids the command. `Fault::Store` means only that
-    /// memory ran out or storage failed. If the store failed to write a change, the change may
-    /// still take effect after a crash.
+    /// `Fault::Refused` names the rule that forbids the command. `Fault::Store` has only two
+    /// causes: memory ran out, or storage failed. If the store failed to write a change, the change
+    /// may still take effect after a crash.
     pub fn office(&mut self, command: &Command) -> OfficeReply
         ensures was_clean { S.disk_is_clean self.new → S.disk_is_clean self.old }
         ensures steps { S.disk_is_clean self.new → Steps S.represents self.old self.new

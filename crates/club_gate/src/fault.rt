@@ -1,4 +1,4 @@
-//! The reasons why calls of the desk are refused or fail.
+//! The reasons why calls to the desk are refused or fail.
 
 use club_core::{OfficeFault, StoreFault};
 use std::alloc::AllocError;

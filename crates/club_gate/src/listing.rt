@@ -141,7 +141,8 @@ fn slot_name(alloc: Global, slot: &Slot) -> Result<String, AllocError>
     )
 }
 
-// Appends the lines for a facility, for a slot's taken places, and for whether the slot is closed.
+// Appends the lines for a slot's state: the kind, price and places of its facility, the number of
+// taken places, and whether the slot is closed.
 fn push_state(
     text: &mut String,
     kind: Kind,

@@ -52,8 +52,8 @@ impl<S: ClubStore> Desk<S> {
 
     /// Returns the first caveat that refuses a request with this key. The source yields the fields
     /// of the pass. If the result depends on the points that the key has spent, the call first
-    /// reads the points that the key's member has used. The call reads the points that the key has
-    /// spent only if the member's points don't decide the result.
+    /// reads the points that the key's member has used. If the member's points don't decide the
+    /// result, the call also reads the points that the key has spent.
     pub(crate) fn caveat_fault<'a, F: FieldSource<'a> + Drop>(
         &mut self,
         source: &F,
@@ -91,7 +91,7 @@ impl<S: ClubStore> Desk<S> {
         Ok(u64::from(account.used()) <= most)
     }
 
-    /// Adds to the view how many places of a slot are taken, and whether the slot is closed.
+    /// Returns the view with `taken` and `closed` set to the slot's values.
     fn with_slot(&mut self, view: View, slot: &Slot) -> Result<View, StoreFault>
         ensures { ReadsStore S.disk_is_clean S.represents S.fails self.old self.new result
             (λ club found. found ≡ record view {

@@ -7,8 +7,8 @@ pub(crate) trait Host: Abort + AllocGlobal {}
 
 impl<R: Abort + AllocGlobal> Host for R {}
 
-/// Ends the test unless the values are equal. A test that calls this function is proved in a third
-/// of the time of a test with `assert_eq!`.
+/// Ends the test unless the values are equal. The proof of a test takes a third of the time if the
+/// test calls this function instead of `assert_eq!`.
 pub(crate) fn expect_eq<T: PartialEq + Debug>(rt: &impl Abort, returned: &T, want: &T) {
     assert_eq!(rt; returned, want);
 }

@@ -8,8 +8,8 @@ use desk_theorem::{reply_from_nothing, run_and_leave, run_from_nothing};
 use sqlite::{Files, Options};
 use sqlite_disk::{Disk, Memory};
 
-/// Three requests under passes in three forms ask for the same booking. The club books and charges
-/// only once.
+/// Three requests for the same booking have passes in three different forms. The club books and
+/// charges only once.
 static BOOKS: [Happens; 8] = [
     Happens::Commanded(PlainCommand::AddMember("amy", 5), OfficeReply::Done),
     Happens::Commanded(PlainCommand::Credit("amy", 10_000), OfficeReply::Done),

@@ -1,5 +1,6 @@
-//! The desk reads from its store only what its answer needs, and changes the store in its last
-//! call. The desk reads the older root if the current root didn't sign the pass.
+//! The desk reads from its store only what the answer needs. If the desk changes the store, it does
+//! so by its last call to the store. The desk reads the older root if the current root didn't sign
+//! the pass.
 
 use crate::passes::{AMY, BOB, FORMS, PresentedPass};
 use crate::prelude::*;

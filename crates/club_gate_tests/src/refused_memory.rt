@@ -1,5 +1,5 @@
 //! The office's commands and a booking, while memory is refused.
-//! `tests/desk/refused_memory_tests.py` refuses one allocation per run. A call that is out of
+//! `tests/desk/refused_memory_tests.py` refuses one allocation per run. A call that runs out of
 //! memory changes nothing, and a second call succeeds.
 
 use crate::fixture::try_to_play;
@@ -10,7 +10,7 @@ use test_kit::passes::AMY_1_SECOND_SIGNATURE;
 
 const UNAVAILABLE: Reply = Reply::Refused(Refusal::Unavailable);
 
-/// If the first call is out of memory, asks a second time.
+/// If the first call runs out of memory, asks a second time.
 fn reply_at_noon<S: ClubStore>(
     rt: &impl Host,
     desk: &mut Desk<S>,
@@ -33,7 +33,7 @@ fn amys_view<S: ClubStore>(rt: &impl Host, desk: &mut Desk<S>) -> [Reply; 3] {
 
 const OUT_OF_MEMORY: OfficeReply = OfficeReply::Refused(Fault::Store(StoreFault::Memory));
 
-/// A command that is out of memory must leave the club unchanged.
+/// A command that runs out of memory must leave the club unchanged.
 fn expect_answers<S: ClubStore>(
     rt: &impl Host,
     desk: &mut Desk<S>,
@@ -132,7 +132,7 @@ fn books<S: ClubStore>(rt: &impl Host, desk: &mut Desk<S>, pass: &str) {
     is_booked_or_unavailable(rt, desk, pass, &first);
 }
 
-/// Returns `Unavailable` if the run is out of memory.
+/// Returns `Unavailable` if `Desk::run` runs out of memory.
 fn reply_of_a_run<S: ClubStore>(rt: &impl Host, desk: &mut Desk<S>, pass: &str) -> Reply {
     let words = Words {
         pass: pass.as_bytes(),

@@ -138,8 +138,8 @@ impl<S: ClubStore> Trial<S> {
         }
     }
 
-    /// Asks the desk and the reference machine. Also asks amy's part if the request is under a key
-    /// of amy.
+    /// Asks the desk and the reference machine. Also asks amy's part if the request's key is one of
+    /// amy's keys.
     fn ask(&mut self, rt: &impl Host, asking: &Asking) {
         let text = text_of_asking(rt, asking);
         let desk = &mut self.desk;

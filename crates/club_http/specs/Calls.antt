@@ -31,7 +31,7 @@ pub record ReadsNoFurther {Reader : Type 0} (Fills : Call Reader) (old : Reader)
   pub within : length bytes ≤ max_request_len
   pub calls : Gives Fills old bytes new ⊎ EndsWithNone Fills old bytes new
 
--- Zero or more consecutive calls of the writer, and nothing else, changed the writer `old` to the
+-- Zero or more consecutive calls to the writer, and nothing else, changed the writer `old` to the
 -- new writer. Some of these calls may have failed.
 pub data ArePut {Writer : Type 0} (Puts : Call Writer) (old : Writer) : Writer → Type 0 where
   not_put : ArePut Puts old old

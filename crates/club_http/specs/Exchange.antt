@@ -10,7 +10,7 @@ pub record Replies {Desk : Type 0} (Answers : AnswerRelation Desk) (before after
     (bytes : List ℕ) (old : Desk) (reply : Reply) (new : Desk) : Type 0 where
   pub receives : Receives before after bytes
   pub reply_is : IsReplied Answers bytes old reply new
-  -- The whole input would get the same reply, including the bytes that the exchange didn't read.
+  -- The whole input, including the bytes that the exchange didn't read, would get the same reply.
   pub to_all : IfSome before (λ all. IsReplied Answers all old reply new)
 
 -- The effect of an exchange. If the exchange got a reply, the exchange wrote all or a prefix of the

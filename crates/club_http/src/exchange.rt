@@ -16,7 +16,7 @@ use http_request::laws::{body_stays, whole_keeps_its_reading};
 /// Reads a request, asks the desk, and writes the text of the desk's reply.
 ///
 /// After the request is complete, this function doesn't call the reader again. If the input ends
-/// early, the bytes that have arrived count as the request. The last call of the reader may also
+/// early, the bytes that have arrived count as the request. The last call to the reader may also
 /// return bytes after the request. Bytes after the request have no effect on the reply. In all,
 /// this function reads at most `MAX_REQUEST_LEN` bytes, and the `Face` keeps these bytes. Parsing
 /// the body and asking the desk need memory. Writing the reply needs no memory.

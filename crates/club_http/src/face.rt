@@ -88,7 +88,7 @@ impl Face {
     /// is complete.
     ///
     /// After the request is complete, this method doesn't call the reader again. If the input ends
-    /// early, the bytes that have arrived count as the request. The last call of the reader may
+    /// early, the bytes that have arrived count as the request. The last call to the reader may
     /// also return bytes after the request. In all, this method reads at most `MAX_REQUEST_LEN`
     /// bytes. The returned scan covers all of the bytes read.
     pub fn receive<R: Inlet>(&mut self, reader: &mut R) -> Option<HeadScan>

@@ -9,7 +9,7 @@ use crate::ends::Inlet;
 use http_request::HeadScan;
 
 /// Reads a request into the buffer `room`, and returns the number of bytes that arrived. Stops when
-/// the request is complete or the input ends. Each call of the reader may fill the rest of the
+/// the request is complete or the input ends. Each call to the reader may fill the rest of the
 /// buffer, so the buffer may also contain bytes after the request. When this function returns, the
 /// scan covers all bytes that arrived.
 ///

@@ -7,11 +7,11 @@ use crate::ends::Outlet;
 use club_core::Reply;
 use http_response::{MAX_REPLY_LEN, reply_bytes};
 
-/// Writes all of the bytes, with as many calls of the writer as needed.
+/// Writes all of the bytes, with as many calls to the writer as needed.
 ///
 /// # Errors
 ///
-/// Fails with the number of bytes that the writer took before it failed or took nothing.
+/// Fails with the number of bytes that the writer took before a call failed or took no bytes.
 pub fn put_all<W: Outlet>(writer: &mut W, bytes: &[u8]) -> Result<(), usize>
     ensures written { TakesAll (W.taken writer.old) (W.taken writer.new)
         (W.failures writer.old) (W.failures writer.new) bytes.now result }
@@ -31,7 +31,7 @@ pub fn put_all<W: Outlet>(writer: &mut W, bytes: &[u8]) -> Result<(), usize>
 ///
 /// # Errors
 ///
-/// Fails with the number of bytes that the writer took before it failed or took nothing.
+/// Fails with the number of bytes that the writer took before a call failed or took no bytes.
 pub fn send_reply<W: Outlet>(reply: &Reply, writer: &mut W) -> Result<(), usize>
     ensures written { TakesAll (W.taken writer.old) (W.taken writer.new)
         (W.failures writer.old) (W.failures writer.new) (reply_text reply.now) result }

@@ -50,7 +50,7 @@ pub struct Desk<'d> {
     pub office: Option<&'d UnixStream>,
     pub got: Vec<u8>,
     pub journal: Option<&'d Journal>,
-    /// The milliseconds that a request and a command take on the journal's clock.
+    /// The milliseconds that the journal's clock advances for a request and for a command.
     pub asking_takes: u64,
     pub command_takes: u64,
 }

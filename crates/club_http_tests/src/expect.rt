@@ -14,8 +14,8 @@ pub(crate) trait Runtime: Abort + Alloc<A = Global> + Clock {}
 
 impl<R: Abort + Alloc<A = Global> + Clock> Runtime for R {}
 
-/// Ends the test unless the values are equal. A test that calls this function is proved in a third
-/// of the time of a test with `assert_eq!`.
+/// Ends the test unless the values are equal. The proof of a test takes a third of the time if the
+/// test calls this function instead of `assert_eq!`.
 pub(crate) fn expect_eq<T: PartialEq + Debug>(rt: &impl Runtime, returned: &T, want: &T) {
     assert_eq!(rt; returned, want);
 }

@@ -118,9 +118,9 @@ static FAILING: [Wire<'static>; 10] = [
     Wire::Client(WHOLE),
 ];
 
-/// The number of clients to serve, and the expected number of waits for an arrival. Then the
-/// numbers of the desk's requests, of its commands, and of the commands' bytes. A command doesn't
-/// count as a client.
+/// The number of clients to serve, and the expected number of waits for an arrival. The last three
+/// values are the numbers of the desk's requests, of the desk's commands, and of the commands'
+/// bytes. A command doesn't count as a client.
 static COUNTS: [(u32, u64, u64, u64, usize); 5] = [
     (0, 0, 0, 0, 0),
     (1, 1, 1, 0, 0),

@@ -62,7 +62,7 @@ adds : (p : List ℕ → Bool) (total new_total : ℕ) (seen new_seen : Seen) (e
 adds p total new_total seen new_seen entry more kept rest =
     let later = same_unseen p (with_entry entry seen) new_seen rest kept in omega (arith, next_entry p seen entry rest)
 
--- The sum of the charges of the bookings under keys that pass the test `p`.
+-- The total charge of the bookings under keys that pass the test `p`.
 abbrev pub charged : (List ℕ → Bool) → List Booking → ℕ
 charged p bookings = sum_by (λ (b : Booking). b.charge) (filter (λ (b : Booking). p b.key) bookings)
 
@@ -112,7 +112,7 @@ charge_moves p club words moment =
       cancels = λ key member slot number booking k e c. charge_cancelled p club.bookings booking.key booking.number (refund_at booking moment);
     })
 
--- The sum of the refunds of the bookings under keys that pass the test `p`.
+-- The total refund of the bookings under keys that pass the test `p`.
 abbrev pub refunded : (List ℕ → Bool) → List Booking → ℕ
 refunded p bookings = sum_by (λ (b : Booking). b.refund) (filter (λ (b : Booking). p b.key) bookings)
 

@@ -43,8 +43,8 @@ own_basis name club words basis e same =
     (rw (rests.key_name, key_in, member_in, own_bookings own club, own_state own club (request_slot words.request))
     (ap Some (sym (whole_basis club words basis e))))
 
--- The member's own event leads from the part `part` to the part `next`. If the own event is a
--- request, the reply to the request is `reply`. If there is no own event, `next` is `part`.
+-- The member's own event leads from the part `part` to the part `next`. If this event is a request,
+-- the reply to the request is `reply`. If there is no such event, `next` is `part`.
 abbrev pub Follows : Club → List OwnEvent → EventReply → Club → Type 0
 Follows part [] reply next = next ≡ part
 Follows part (OwnChange change ∷ []) reply next = next ≡ after change part

@@ -55,8 +55,8 @@ refunds_by charges events replies = []
 abbrev pub refunds_given : List Event → List EventReply → List Entry
 refunds_given events replies = refunds_by (charges_of_replies replies) events replies
 
--- The name of the key that an event added for a member. The list is empty if the event added no
--- such key.
+-- A list with the name of the key that an event added for a member. The list is empty if the event
+-- added no such key.
 abbrev pub key_given : List ℕ → Event → EventReply → List (List ℕ)
 key_given member (Commanded (AddKey name owner root)) (ToOffice (NewKey returned seed)) = if bytes_eq owner member then name ∷ [] else []
 key_given member event reply = []
@@ -83,7 +83,7 @@ abbrev pub debits_accepted : List ℕ → List Event → List EventReply → ℕ
 debits_accepted member (event ∷ events) (reply ∷ replies) = debit_accepted member event reply + debits_accepted member events replies
 debits_accepted member events replies = 0
 
--- The sum of the points in the entries under these keys. For each key and number, only the first
+-- The total points of the entries whose key is in `keys`. For each key and number, only the first
 -- entry counts.
 abbrev pub total_under : List (List ℕ) → List Entry → ℕ
 total_under keys entries =

@@ -24,8 +24,8 @@ abbrev pub RefusesWithoutABasis : Type 0
 RefusesWithoutABasis =
     (words : Words) (moment : ℕ) (club : Club) → basis_of club words ≡ None → verdict_in club words moment ≡ refusal_verdict (blind_refusal words.pass)
 
--- Suppose that a pass names a key of the club, but isn't signed under a root of this key that is
--- valid at the moment. Then the reply is the refusal `NotVerified`.
+-- Suppose that a pass names a key of the club, but none of the key's roots that are valid at the
+-- moment signs the pass. Then the reply is the refusal `NotVerified`.
 abbrev pub RefusesTheUnsigned : Type 0
 RefusesTheUnsigned =
     (words : Words) (moment : ℕ) (club : Club) (pass : Pass) (key : Key)

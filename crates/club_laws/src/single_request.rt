@@ -20,8 +20,8 @@ pub fn refuses_without_a_basis()
     ensures { RefusesWithoutABasis }
 {}
 
-/// Suppose that a pass names a key of the club, but isn't signed under a root of this key that is
-/// valid at the moment. Then the reply is the refusal `NotVerified`.
+/// Suppose that a pass names a key of the club, but none of the key's roots that are valid at the
+/// moment signs the pass. Then the reply is the refusal `NotVerified`.
 #[tactic(auto, using(crate::proofs::ServedPasses::unsigned_in))]
 pub fn refuses_the_unsigned()
     ensures { RefusesTheUnsigned }
@@ -29,9 +29,9 @@ pub fn refuses_the_unsigned()
     tests_the_signature();
 }
 
-/// The desk serves a request only if its pass names a key of the club that isn't revoked. The pass
-/// must be signed under a root of this key, and the root must be valid at the moment. Each caveat
-/// must allow the request.
+/// The desk serves a request only if its pass names a key of the club and the key isn't revoked.
+/// The pass must be signed under a root of this key, and the root must be valid at the moment. Each
+/// caveat must allow the request.
 #[tactic(auto, using(crate::proofs::ServedPasses::served_entitled))]
 pub fn serves_only_the_entitled()
     ensures { ServesOnlyTheEntitled }

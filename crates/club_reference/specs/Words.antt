@@ -1,4 +1,4 @@
--- Defines how the code's `Words` correspond to the `Words` of the rules in `club_core`.
+-- Defines how the code's `Words` correspond to the `Words` that the rules in `club_core` use.
 use Rattle.std.specs.{Prelude.{◌≡◌, ◌↔◌, ℕ, List, map, Contains, IsTrue, Option, Some, None, Result, Ok, Err}, Vec.vec_items}
 use Rattle.pass_caveats.specs.Fault.{AreUnderstoodAs, first_fault_of}
 use Rattle.club_core.specs.{Answer.{answer_by_view, ask_of, form_refusal}, Pass.{Pass, Words, is_signed_under}, Verdict.refusal_verdict}

@@ -9,7 +9,7 @@ use std::alloc::{AllocError, Global};
 use std::marker::Model;
 
 /// A club whose rows are in lists, from the oldest row to the newest. Contracts represent this club
-/// as a `Club` of the rules in `club_core`.
+/// as the `Club` that the rules in `club_core` use.
 #[derive(Drop)]
 pub struct Club {
     pub(crate) members: Vec<Member>,

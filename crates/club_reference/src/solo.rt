@@ -1,6 +1,6 @@
 //! The solo machine, which has only one member's rows and all facilities. For each request, the
-//! caller passes the number of persons in the slot without this member's bookings, and whether the
-//! slot is closed. The solo machine gets no other information about other members.
+//! caller passes the number of persons in the slot, not counting this member's bookings, and
+//! whether the slot is closed. The solo machine gets no other information about other members.
 
 ghost use Rattle.std.specs.Prelude.{◌≡◌, ◌≤◌, ◌<◌, ◌^◌, IfOk, IfSome, OnOk, OnErr, filter};
 ghost use Rattle.std.specs.{Prelude.option_map, Str.bytes_eq};
@@ -57,7 +57,7 @@ fn bookings_of(
         .collect(alloc)
 }
 
-/// Returns the number of persons in the slot, without the bookings of `member`.
+/// Returns the number of persons in the slot, not counting the bookings of `member`.
 fn taken_by_others(keys: &[Key], bookings: &[Booking], member: &Name, slot: &Slot) -> u32
     requires { sums.taken_in slot.now (others_bookings keys.now member.now bookings.now) < 2 ^ 32 }
     ensures { result ≡ sums.taken_in slot.now (others_bookings keys.now member.now bookings.now) }
@@ -105,8 +105,8 @@ impl Club {
         })
     }
 
-    /// Returns the number of persons in the slot without the bookings of `member`, and whether the
-    /// slot is closed. If `slot` is `None`, the number is 0 and `closed` is false.
+    /// Returns the number of persons in the slot, not counting the bookings of `member`, and
+    /// whether the slot is closed. If `slot` is `None`, the number is 0 and `closed` is false.
     #[tactic(auto, using(crate::proofs::WidthLemmas::sum_filtered_le))]
     pub fn outside(&self, member: &Name, slot: Option<Slot>) -> SlotUse
         ensures { result ≡ solo.outside member.now self.now slot }

@@ -14,7 +14,7 @@ use pass_caveats::{Ask, CaveatFault, first_fault};
 pub struct Pass {
     /// The name of the key in the identifier, or `None` if the identifier names no key.
     pub key: Option<Name>,
-    /// The texts of the caveats, in the order of the pass.
+    /// The texts of the caveats, in the pass's order.
     pub caveats: Vec<Vec<u8>>,
     /// The roots that sign the pass.
     pub roots: Vec<Root>,

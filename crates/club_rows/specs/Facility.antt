@@ -10,7 +10,8 @@ charge_of facility guests = facility.price * (guests + 1)
 abbrev pub is_open_at : Facility → ℕ → Bool
 is_open_at facility hour = nat_le facility.opens hour && nat_lt hour facility.shuts
 
--- The maximum number of minutes between making a booking and the start of the slot: 60 days.
+-- The maximum number of minutes between making a booking and the start of the slot. The value is 60
+-- days in minutes.
 abbrev pub booking_window : ℕ
 booking_window = 60 * minutes_a_day
 

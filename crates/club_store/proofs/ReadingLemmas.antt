@@ -1,4 +1,4 @@
--- Lemmas about calls of the store that read several times, or that read and then apply a change.
+-- Lemmas about calls to the store that read several times, or that read and then apply a change.
 use Rattle.std.proofs.Common.{◌≡◌, Result, Ok, Err, IfOk, IsErrAnd, refl, inl, inr, sym, ◌∙◌, arith}
 use Rattle.std.proofs.lemmas.Result.{IfOk-weaker, IfErr-weaker, err_from_is_err_and}
 use Rattle.sqlite.specs.{Held.{Held, state}, State.{State, HasCleanDisk}, Store.Ghosts}

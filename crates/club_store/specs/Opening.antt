@@ -46,7 +46,7 @@ pub record OpensFrom {D : Type 0} {g : disk.Ghosts D} (start : Image) (now : Hel
   -- If the file was empty, the store represents the empty club.
   pub fresh : start.db ≡ [] → Represents (file_state now) empty_club []
 
--- The fault of a failed opening of a database in memory. Memory ran out, or the tables of the empty
+-- The fault if a database in memory couldn't be opened. Memory ran out, or the tables of the empty
 -- club couldn't be created.
 abbrev pub IsMemoryFault : StoreFault → Type 0
 IsMemoryFault fault = (fault ≡ Memory) ⊎ ((was : _) × (now : _) × IsEmpty (state over_memory was) × IsOpeningFault over_memory was now fault)

@@ -107,7 +107,7 @@ impl<Q: Start> Store<FileStore<FileFrom<Q>>> {
 impl<S: Alter + Drop> Store<S> {
     /// Makes a store from a connection to a club's database. Creates the tables of an empty club if
     /// the table `desk`, which contains the version, is missing. Migrates tables of version 1 to
-    /// version 2. Adds the index of the bookings if the index is missing.
+    /// version 2. Adds the index `bookings_by_key` if it is missing.
     ///
     /// # Errors
     ///
@@ -372,7 +372,7 @@ impl<S: Alter> Store<S> {
     /// # Errors
     ///
     /// Fails if the database refuses a statement or the commit. Fails with `Storage` if the change
-    /// doesn't fit, unless the call ran out of memory first. If a change doesn't fit, a value is
+    /// doesn't fit, unless the call ran out of memory first. A change fits unless a value is
     /// outside its limits, or a statement breaks a constraint of the tables or writes no row.
     pub fn apply(&mut self, change: &Change) -> Result<(), StoreFault>
         ensures makes { ChangesClub S.Store change.now self.old self.new result }

@@ -78,7 +78,7 @@ abbrev pub FailsToRead : {S : Type 0} → Ghosts S → BoundStatement → (List 
 FailsToRead g statement CanRead old new fault = FailsToAsk g statement old new fault ⊎ IsUnread g statement CanRead old fault
 
 -- The result is decoded from the rows that the query returned. The call fails in two cases only:
--- - If the database refuses the query, the call returns the fault of the database's error.
+-- - If the database refuses the query, the call returns the fault for the database's error.
 -- - If the rows can't be decoded, the call returns `Storage`.
 pub record Answers {S A : Type 0} (g : Ghosts S) (statement : BoundStatement) (IsAnswer : List Row → A
     → Type 0) (old new : Held S) (result : Result A StoreFault) : Type 0

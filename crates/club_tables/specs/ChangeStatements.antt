@@ -82,8 +82,9 @@ adding_booking booking member =
     booking_with (booking_values booking) (name_values booking.slot ++ Int (pos (persons_taken booking)) ∷ [])
     (charge_values member (cost_of booking) booking.key booking.slot)
 
--- Marks the member's booking with these values as cancelled. Subtracts the refund from the points
--- that the member has spent, and the booking's persons from the slot's persons.
+-- Marks the member's booking as cancelled, if the stored booking has the values of `booking`.
+-- Subtracts the refund from the points that the member has spent, and the booking's persons from
+-- the slot's persons.
 abbrev pub cancelling : Booking → List ℕ → ℕ → List BoundStatement
 cancelling booking member refund =
     cancelling_with (booking_values booking ++ whole refund ∷ []) (used_values member (neg_ℤ (pos refund)) booking.key)

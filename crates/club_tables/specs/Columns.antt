@@ -71,8 +71,8 @@ abbrev pub integer_in : Value → Option ℤ
 integer_in (Int n) = Some n
 integer_in _ = None
 
--- The number that a value contains, if it is an integer of at least 0. For any other value, the
--- result is 0.
+-- The number that a value contains, if the value is an integer of at least 0. For any other value,
+-- the result is 0.
 abbrev pub whole_in : Value → ℕ
 whole_in (Int (pos n)) = n
 whole_in _ = 0

@@ -5,8 +5,8 @@ use Rattle.sqlite.specs.{Steps.FailsToCommit, Store.Ghosts, declared.error.Error
 use Rattle.club_core.specs.declared.store.StoreFault.{StoreFault, TheVariants.Storage}
 use Rattle.club_tables.specs.Transaction.{BoundStatement, Ran, IsKept, transaction_start, fault_by}
 
--- The database refused a query with an error, and `fault_by` maps this error to the fault. The
--- disk's count of failures doesn't decrease.
+-- The database refused a query, and `fault_by` maps the database's error to the fault. The disk's
+-- count of failures doesn't decrease.
 pub record FailsToAsk {S : Type 0} (g : Ghosts S) (statement : BoundStatement) (old new : Held S) (fault : StoreFault) : Type 0 where
   pub mid : Held S
   pub error : Error
@@ -32,8 +32,8 @@ StopsAt g fewest statement old new fault =
     ⊎ ((count : ℕ) × Executes statement.0 statement.1 (state g old) (state g new) (Ok count) × (count < fewest) × (fault ≡ Storage)
     × IsTrue (state g old).is_open)
 
--- The statements ran in order, in one transaction, until a statement failed. If all statements ran,
--- the database refused the commit.
+-- The statements ran in order, in one transaction, until a statement failed or the database refused
+-- the commit.
 abbrev pub FailsInTurn : {S : Type 0} → Ghosts S → ℕ → List BoundStatement → Held S → Held S → StoreFault → Type 0
 FailsInTurn g fewest [] old new fault = (error : Error) × FailsToCommit (state g old) (state g new) error × (fault ≡ fault_by error)
 FailsInTurn {S} g fewest (statement ∷ more) old new fault =

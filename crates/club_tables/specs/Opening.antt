@@ -14,7 +14,7 @@ use Rattle.club_core.specs.{Club.Club, Store.KeepsClub, declared.store.StoreFaul
 abbrev pub version_text : List ℕ
 version_text = VERSION.now
 
--- The statements that read a row by its key, for tables of version 1.
+-- The statements that read a row by its primary key, for tables of version 1.
 abbrev pub first_texts : List (List ℕ)
 first_texts = KEY.now ∷ MEMBER.now ∷ FACILITY.now ∷ SLOT.now ∷ BOOKING.now ∷ []
 
@@ -26,7 +26,8 @@ texts_by_key = KEY.now ∷ MEMBER.now ∷ FACILITY.now ∷ SLOT.now ∷ BOOKING.
 abbrev pub index_text : List ℕ
 index_text = DROP_BOOKINGS_BY_KEY.now
 
--- The statements that read a row by its key, and the text that tests for the index of the bookings.
+-- The statements that read a row by its primary key, and the text that tests for the index of the
+-- bookings.
 abbrev pub indexed_texts : List (List ℕ)
 indexed_texts = texts_by_key ++ index_text ∷ []
 
@@ -120,7 +121,7 @@ HasOrGetsIndex {S} g old new =
 
 -- The tables have the index of the bookings for one of two reasons:
 -- - SQLite accepted all texts, including the text that tests for the index. Nothing was changed.
--- - SQLite accepted the statements that read a row by its key. Then the index was created.
+-- - SQLite accepted the statements that read a row by its primary key. Then the index was created.
 abbrev pub EnsuresIndex : {S : Type 0} → Ghosts S → Held S → Held S → Type 0
 EnsuresIndex g old new =
     (IsKept (state g old) (state g new) × Understands g indexed_texts new) ⊎ HasRunOver texts_by_key index_batch g old new
@@ -156,7 +157,7 @@ pub record FailsToPrepareOne {S : Type 0} (g : Ghosts S) (texts : List (List ℕ
 --   prepared.
 -- - The database refuses the statements that create the tables, migrate the tables, or create the
 --   index.
--- - The database refuses one of the statements that read a row by its key.
+-- - The database refuses one of the statements that read a row by its primary key.
 -- - The version is neither 1 nor 2.
 abbrev pub FailsToTake : {S : Type 0} → Ghosts S → Held S → Held S → StoreFault → Type 0
 FailsToTake g old new fault =
@@ -181,7 +182,7 @@ WhenIdle g Done old new = IsTrue (state g new).is_open → IsIdle (state g old) 
 --   relates the old state to the new state.
 -- - After a failure, the tables still represent the club as `Before` describes. `Fails` describes
 --   the fault.
--- - A crash leaves a state that a crash could leave before the step, or the result of statements
+-- - A crash leaves a state that a crash before the step could leave, or the result of statements
 --   that satisfy `IsOpeningBatch`.
 pub record Opens {S : Type 0} (g : Ghosts S) (Before : Held S → Club → List Club → Type 0) (Done : Held S → Held S → Type 0)
     (Fails : Held S → Held S → StoreFault → Type 0) (old new : Held S) (result : Result (Unit {0}) StoreFault) : Type 0
@@ -193,7 +194,7 @@ pub record Opens {S : Type 0} (g : Ghosts S) (Before : Held S → Club → List 
     pub fault : HasCleanDisk (state g new) → IfErr result (Fails old new)
     pub survives : Survives (state g old) (state g new) (MayCommit g 0 IsOpeningBatch old)
 
--- A step of opening the tables that runs all of these statements.
+-- A step of opening the tables. The step runs all of these statements.
 abbrev pub RunsBatch : {S : Type 0} → Ghosts S → (Held S → Club → List Club → Type 0) → List BoundStatement → Held S → Held S
     → Result (Unit {0}) StoreFault → Type 0
 RunsBatch g Before statements =

@@ -29,8 +29,9 @@ found_in g held = IsFound (state g held)
 
 -- A call that only reads. Its result is correct for the current club. The call changes neither the
 -- club nor the clubs that a crash may leave. If no write was pending, the connection is unchanged.
--- A failed call returns the fault of the database's error. The call returns `Storage` if the rows
--- can't be decoded, and `Memory` if there is no memory for a day's decoded bookings.
+-- If the database refuses a query, the call returns the fault for the database's error. The call
+-- returns `Storage` if the rows can't be decoded, and `Memory` if there is no memory for a day's
+-- decoded bookings.
 pub record ReadsClub {S A : Type 0} (g : Ghosts S) (old new : Held S) (result : Result A StoreFault) (IsReturned : Club → A → Type 0) : Type 0 where
   pub returns : HasCleanDisk (state g new) → Returns (represents_in g) old result IsReturned
   pub kept : HasCleanDisk (state g new) → KeepsClub (represents_in g) old new

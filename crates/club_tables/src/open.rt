@@ -117,8 +117,8 @@ impl<S: Alter> Tables<S> {
     }
 
     /// Migrates tables of version 1, after checking that SQLite accepts the statements that read a
-    /// row by its key. A failed call changes nothing. After a crash, the tables have version 1 or
-    /// version 2.
+    /// row by its primary key. A failed call changes nothing. After a crash, the tables have
+    /// version 1 or version 2.
     fn migrate(&mut self) -> Result<(), StoreFault>
         ensures opens { Opens S.Store (version_1_in S.Store)
             (λ from to. IsIdle (state S.Store from) → HasMigrated S.Store from to)
@@ -157,8 +157,8 @@ impl<S: Alter> Tables<S> {
     }
 
     /// Accepts tables of version 2, after checking that SQLite accepts the statements that read a
-    /// row by its key. Adds the index of the bookings if it is missing. A failed call changes
-    /// nothing. After a crash, either the tables are unchanged, or the index exists.
+    /// row by its primary key. Adds the index of the bookings if it is missing. A failed call
+    /// changes nothing. After a crash, either the tables are unchanged, or the index exists.
     fn complete(&mut self) -> Result<(), StoreFault>
         ensures opens { Opens S.Store (version_2_in S.Store)
             (WhenIdle S.Store (EnsuresIndex S.Store)) (IsOpeningFault S.Store)

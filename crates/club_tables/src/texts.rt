@@ -223,15 +223,15 @@ pub(crate) const DAY: &str = "\
     ORDER BY facility, hour, pass_key, number";
 
 /// Returns the booking numbers of a member's bookings that are open at a moment. The last parameter
-/// is the moment's day, so that SQLite skips bookings of earlier days. At the moment, all slots of
+/// is the moment's day, so that SQLite skips bookings of earlier days. At that moment, all slots of
 /// earlier days have begun.
 pub(crate) const OPEN: &str = "\
     SELECT number \
     FROM keys JOIN bookings ON name = pass_key \
     WHERE member = ?1 AND cancelled = 0 AND day * 1440 + hour * 60 > ?2 AND day >= ?3";
 
-/// The statements that read a row by its key, for tables of version 1.
+/// The statements that read a row by its primary key, for tables of version 1.
 pub(crate) const FIRST_ROWS_BY_KEY: [&str; 5] = [KEY, MEMBER, FACILITY, SLOT, BOOKING];
 
-/// The statements that read a row by its key, for tables of version 2.
+/// The statements that read a row by its primary key, for tables of version 2.
 pub(crate) const ROWS_BY_KEY: [&str; 6] = [KEY, MEMBER, FACILITY, SLOT, BOOKING, OLDER_ROOT];

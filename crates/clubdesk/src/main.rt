@@ -18,7 +18,7 @@ fn main(rt: HostRuntime) -> ExitCode {
 }
 
 // Runs the program with the arguments and standard streams of the process. `Program` also
-// implements the traits of the process, `GivenArguments` and `FaultLines`. If `main` used a type of
+// implements the process's traits `GivenArguments` and `FaultLines`. If `main` used a type of
 // another crate instead of `Program`, the borrow checker wouldn't check `main`.
 #[derive(Drop)]
 struct Program<'a> {

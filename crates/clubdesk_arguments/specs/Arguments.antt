@@ -26,7 +26,7 @@ None >>= f = None
 abbrev pub number_value : Text → List Row → Option ℕ
 number_value id rows = parse_number (value_in id rows)
 
--- The work for a key's command. If no argument has the root, the root comes from standard input
+-- The work for a `KeyCommand`. If no argument contains the root, the root comes from standard input
 -- later.
 abbrev pub key_work : KeyCommand → Option Text → Option Work
 key_work given None = Some (Rootless given)
@@ -160,8 +160,8 @@ module _ (read : Readers) where
     day ← read.day (value_in (codes "DAY") rows)
     Some (Office (Sheet day))
 
-  -- The clock that is fixed at the moment of `--at`. Without `--at`, the machine's clock, shown in
-  -- the zone.
+  -- A clock that is fixed at the moment of `--at`. Without `--at`, the clock shows the machine's
+  -- time in the zone.
   abbrev pub clock_of : Text → Option Text → Option Clock
   clock_of zone None = Some (InZone zone)
   clock_of zone (Some at) = do

@@ -2,7 +2,7 @@
 use Rattle.std.specs.Prelude.{◌≡◌, ◌↔◌, ℕ, List, Option, Some}
 use Rattle.club_values.specs.{Day.SpellsDay, Hour.SpellsHour, Kind.kind_text, Moment.SpellsMoment, Name.IsName, declared.kind.Kind.Kind}
 
--- For each kind of value, a function that reads such a value from a text.
+-- For each kind of value, a function that reads a value of this kind from a text.
 pub record Readers : Type 0 where
   pub name : List ℕ → Option (List ℕ)
   pub kind : List ℕ → Option Kind

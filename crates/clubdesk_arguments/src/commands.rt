@@ -159,7 +159,7 @@ fn rotate_key<'a>(arguments: &ArgMatches<'a>, root: Option<&str>, form: Form) ->
     key_work(KeyCommand { name, change, form }, root)
 }
 
-// Returns the work for a key's command. If `root` is `None`, the root comes from standard input
+// Returns the work for a `KeyCommand`. If `root` is `None`, the root comes from standard input
 // later.
 fn key_work<'a>(command: KeyCommand, root: Option<&str>) -> Option<Work<'a>>
     ensures { result ≡ spec.key_work command (option_map (λ text. text.now) root.entry) }
@@ -258,8 +258,8 @@ fn slot_of(arguments: &ArgMatches<'_>) -> Option<Slot>
     })
 }
 
-// Returns a clock that is fixed at the moment of `--at`. Without `--at`, returns the machine's
-// clock, shown in the zone.
+// Returns a clock that is fixed at the moment of `--at`. Without `--at`, the clock shows the
+// machine's time in the zone.
 fn clock_of<'a>(zone: Zone<'a>, at: Option<&str>) -> Option<Clock<'a>>
     ensures { result ≡ spec.clock_of text_readers zone.entry
         (option_map (λ text. text.now) at.entry) }

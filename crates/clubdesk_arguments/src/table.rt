@@ -208,7 +208,7 @@ const ADD_KEY_ARGUMENTS: &[Argument] = &[
 const ROTATE_KEY_ARGUMENTS: &[Argument] = &[
     FILE,
     KEY,
-    // This argument is the root. With `--root-stdin`, this argument is the moment.
+    // This argument is the root or, with `--root-stdin`, the moment.
     Argument::NeededPositionalAs("ROOT-OR-MOMENT", "ROOT"),
     Argument::Positional("MOMENT"),
     ROOT_BY_INPUT,

@@ -56,8 +56,8 @@ module _ {Store : Type 0} (Clean : Store → Type 0) (Represents : Store → Clu
         → DoesArguments root arguments answer old new
 
   -- The effect of the bytes that a server receives. If the bytes encode a command of the office,
-  -- the desk carries out the command once, unless memory runs out. The answer has the text for the
-  -- log that `logged_line` defines. The command's name is the second argument. If the bytes encode
+  -- the desk carries out the command once, unless memory runs out. For the log, the answer has the
+  -- text that `logged_line` defines. The command's name is the second argument. If the bytes encode
   -- no command of the office, the store is unchanged.
   pub data CarriesOutBy (bytes : List ℕ) (old : Store) (answer : Answer) (new : Store) : Type 0 where
     command_done : (root : Text) (arguments : List Text) (result : Result (List ℕ) Fault) → SpellsCommand bytes root arguments
@@ -68,13 +68,13 @@ module _ {Store : Type 0} (Clean : Store → Type 0) (Represents : Store → Clu
         → CarriesOutBy bytes old answer new
     no_memory : IsUnnamed 4 answer → new ≡ old → CarriesOutBy bytes old answer new
 
--- The replies of a desk with a store and a clock. The clock has no effect on the replies, and never
--- changes.
+-- The replies of a desk with a store and a clock. The clock has no effect on the replies, and a
+-- reply doesn't change the clock.
 abbrev pub answers_with_clock : {S C : Type 0} → (ℕ → AnswerRelation S) → ℕ → AnswerRelation (S × C)
 answers_with_clock Answers moment text request old reply new = Answers moment text request old.0 reply new.0 × (new.1 ≡ old.1)
 
--- The effect of a command on a desk with a store and a clock. The clock never changes, and the
--- command's time is an instant that the clock can show.
+-- The effect that a command has on a desk with a store and a clock. The command doesn't change the
+-- clock, and the command's time is an instant that the clock can show.
 abbrev pub carries_out_with_clock : {S C : Type 0} → (C → Option Timestamp → Type 0) → ((Option Timestamp → Type 0) → CommandRelation S)
     → CommandRelation (S × C)
 carries_out_with_clock Shows Carries bytes old answer new = Carries (Shows old.1) bytes old.0 answer new.0 × (new.1 ≡ old.1)

@@ -37,7 +37,7 @@ outcome_of_server (Err stopped) = Err ClockOutOfRange
 -- number of clients, or until the clock fails. The time of each client is the service's fixed time,
 -- or the time of the machine's clock. Before each client, and while the server waits for a request,
 -- the server carries out the office's commands. If the service asks for a log, the log notes all
--- turns. A server that can't listen, can't write its address or runs out of memory serves no
+-- turns. If the server can't listen, can't write its address or runs out of memory, it serves no
 -- client, and its log notes no turn.
 pub data RunsServer {Desk Machine : Type 0} (Shows : Machine → Option Timestamp → Type 0) (machine : Machine)
     (Answers : ℕ → AnswerRelation Desk) (Carries : served.CommandRelation Desk) (service : Service) (turns : List Turn) (old new : Desk)
@@ -113,7 +113,8 @@ pub data IsHandedOver {Visit : Type 0} (Gives : Giving Visit) (visit : Visit) (r
 module _ {D S R V Machine : Type 0} (databases : DatabasesWords D S R V) (visits : VisitWords V) (stores : StoreWords S)
     (Shows : Machine → Option Timestamp → Type 0) (machine : Machine)
   where
-    -- The effect of a task of the office on the database with this name. There are three cases:
+    -- The effect that a task of the office has on the database with this name. There are three
+    -- cases:
     -- - A server has the database open. The program sends the arguments and the root to the server,
     --   and writes the server's reply.
     -- - The program opens the database, carries out the task, closes the database, and writes the

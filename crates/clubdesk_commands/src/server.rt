@@ -82,9 +82,9 @@ pub fn serve_file<C: Instants + MonotonicClock, D: Databases, W: Write, G: Log>(
 ///
 /// # Errors
 ///
-/// - Fails with `InputOutput` if the server can't listen or the writer fails. The server has served
-///   no client.
-/// - Fails with `Memory` if memory runs out. The server has served no client.
+/// - Fails with `InputOutput` if the server can't listen or the writer fails. In this case, the
+///   server has served no client.
+/// - Fails with `Memory` if memory runs out. In this case, the server has served no client.
 /// - Fails with `ClockOutOfRange` if a client comes while the clock can't be read or shows a year
 ///   before 2000 or after 2099. The client gets no answer, and the server ends.
 pub fn serve<D: Office, C: Instants + MonotonicClock, W: Write, G: Log>(

@@ -1,4 +1,4 @@
--- Defines a number of attempts in a row.
+-- Defines the results of several attempts in a row.
 use Rattle.std.specs.Prelude.{ℕ, ◌+◌, ◌<◌, Option, Some, None, MatchOption}
 
 -- The possible results of an attempt, given the state before and after the attempt.

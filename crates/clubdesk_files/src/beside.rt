@@ -29,8 +29,9 @@ const OFFICE: &str = "-office";
 const ROOT: u32 = 0;
 
 /// The open folder of a database, and the name of the database's file in this folder. If a link
-/// leads to the file, the folder and the name are those of the file. Paths go through the folder's
-/// descriptor, because the folder's own path may be too long for a socket's address.
+/// leads to the file, the folder and the name are those of the file, not of the link. Paths go
+/// through the folder's descriptor, because the folder's own path may be too long for a socket's
+/// address.
 #[derive(Drop)]
 pub(crate) struct Place {
     folder: File,

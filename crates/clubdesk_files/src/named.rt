@@ -26,7 +26,7 @@ pub trait Removable {
 }
 
 /// A store over a file. If the file has lost its name, the first read of each request or command
-/// fails. The store therefore never confirms a change that other programs can't find.
+/// fails. Other programs can therefore find every change that the store confirms.
 #[derive(Drop)]
 pub struct NamedStore<S, F> {
     pub store: S,

@@ -10,8 +10,8 @@ use club_store::{FailedOpening, Store};
 use desk_server::Reached;
 use sqlite::{FileFrom, FileStore, Unknown};
 
-/// The store of a club in a file. [`Unknown`] means that each byte after a torn write is either the
-/// old byte or the new byte.
+/// The store of a club in a file. [`Unknown`] means that a torn write leaves each byte either old
+/// or new.
 type FileStoreOfClub = Store<FileStore<FileFrom<Unknown>>>;
 
 /// The store of a club in a file that another program can remove.

@@ -1,4 +1,4 @@
-//! Test doubles of the arrivals at a server.
+//! Test doubles of the clients and commands that reach a server.
 
 ghost use Rattle.std.specs.Prelude.{◌≤◌, length, IfSome};
 ghost use Rattle.desk_server.specs.Limits.{moved};
@@ -25,7 +25,7 @@ impl Written {
         Written(RefCell::new(Vec::new(alloc)))
     }
 
-    /// Without memory, the bytes are missing, and the test fails.
+    /// If memory runs out, the bytes are missing, and the test fails.
     fn add(&self, bytes: &[u8]) {
         if let Ok(mut written) = self.0.try_borrow_mut() {
             let _ = written.extend_from_slice(bytes);

@@ -136,8 +136,9 @@ impl Write for Caller<'_> {
     }
 }
 
-/// Without `second`, no reading succeeds. The first two monotonic readings are 0: the starts of a
-/// connection's time limit and of its line in the log. Later readings are `later` microseconds.
+/// If `second` is `None`, every reading of the clock fails. The first two monotonic readings are 0.
+/// They are the start of a connection's time limit, and the connection's start time in the log.
+/// Later readings are `later` microseconds.
 #[derive(Drop)]
 pub struct Machine {
     second: Option<u64>,

@@ -1,4 +1,4 @@
-//! Runs of the program over files, one after the other, and of a server between two runs.
+//! Runs of the program over files, one after the other. Some of the runs are servers.
 
 use crate::runs::{ClubFile, Fixture, expect_eq};
 use crate::servers::{BOOKED, OFFICE};

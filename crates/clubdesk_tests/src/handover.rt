@@ -25,7 +25,7 @@ static ANSWERED: [(&[u8], Answer); 8] = [
     (b"!\x01refused: exists\0", Some((1, "refused: exists"))),
     (b"!\x04\0", Some((4, ""))),
     (b"!\x03\xc3\x84 is no\0", Some((3, "\u{c4} is no"))),
-    // The answer is missing or cut.
+    // The answer is missing or incomplete.
     (b"!", None),
     (b"!\0", None),
     (b"!\0done\n", None),
@@ -72,7 +72,7 @@ fn hands_a_command_over(rt: HostRuntime) -> Result<(), Fail> {
     Ok(())
 }
 
-/// Connections to the servers that weren't asked yet. The next attempt asks the last of these
+/// Connections to the servers that haven't been asked yet. The next attempt asks the last of these
 /// servers.
 #[derive(Drop)]
 struct Greeted(Global, Vec<UnixStream>);

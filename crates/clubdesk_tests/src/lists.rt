@@ -198,8 +198,8 @@ impl<'a> Plan<'a> {
         request_bytes(self.rt, asking)
     }
 
-    // If there are a request and a command, the command arrives between the request's halves. So
-    // the server carries the command out first.
+    // A command that comes with a request arrives between the request's halves. So the server
+    // carries the command out first.
     fn add(&mut self, asking: Option<Asking>, plain: Option<&PlainCommand>) -> Result<(), Fail> {
         let moment = asking.unwrap_or(audit(AUDIT_AMY)).moment;
         let moment = Moment::from_number(moment).ok_or("a moment")?;

@@ -129,7 +129,7 @@ impl<'a, S: ClubStore + Drop> Databases for InMemory<'a, S> {
     }
 }
 
-/// `notes` also counts the calls of the rows before and after the run.
+/// `notes` also counts the calls that the rows before and after the run make.
 #[derive(Drop)]
 pub struct Played {
     pub output: Output,
@@ -145,7 +145,7 @@ impl Played {
     }
 }
 
-// A function over any store is proved faster than a function over a known store.
+// A proof for any type of store takes less time than a proof for one particular type.
 fn play_in<S: ClubStore + Drop>(
     rt: &HostRuntime,
     store: S,

@@ -26,13 +26,14 @@ pub struct Fixture<'a> {
     pub room: usize,
     pub flushes: bool,
     pub requests: &'a [&'a str],
-    /// Over memory only: the values of `Machine`, the fault of an opening, and a server's answer.
+    /// Only for a database in memory: the values of `Machine`, the fault of an opening, and a
+    /// server's answer.
     pub second: Option<u64>,
     pub later: u64,
     pub fault: Option<StoreFault>,
     pub server: Option<ServerAnswer<'a>>,
-    /// Over a file only: whether the server is killed, and a file to remove when the server starts
-    /// to listen.
+    /// Only for a database in a file: whether the server is killed, and a file to remove when the
+    /// server starts to listen.
     pub is_killed: bool,
     pub removed: Option<&'a str>,
 }

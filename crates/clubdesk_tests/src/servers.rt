@@ -1,5 +1,5 @@
-//! Servers and account listings that use a clock of the test. A program in another language
-//! computed the moments from the zone database.
+//! Servers and account listings that use the test's clock. A program in another language computed
+//! the moments from the zone database.
 
 use crate::memory::{play, play_words};
 use crate::runs::{Fixture, expect_eq};

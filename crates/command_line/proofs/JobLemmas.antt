@@ -24,7 +24,7 @@ module _ (made app : App) (arguments : List Text) (is : made ≡ app) (free : is
     | inr among ↦ subst (λ (x : ErrorKind). IsAmong x (fault_of app arguments)) (sym same) among
   ]
 
--- Lemmas for the case that clap accepts the arguments and finds the values `found`.
+-- Lemmas for the case in which clap accepts the arguments and finds the values `found`.
 module _ {C J V : Type 0} (table : Table C) (Reads : ReadsRow C J V) (arguments : List Text) (found : Option (Text × List Row))
     (clear : fault_of (app_of_table table) arguments ≡ []) (same : found ≡ subcommand_of (app_of_table table) arguments) where
   pub reads_accepted : (result : Result J (ArgumentsFault V)) → ReadsFound Reads (asked_in table found) result → ReadsAccepted table Reads arguments result

@@ -14,7 +14,7 @@ or_else_nil : (a b : Kinds) → or_else a b ≡ [] → (a ≡ []) × (b ≡ [])
 or_else_nil [] b h = (refl, h)
 or_else_nil (k ∷ ks) b h = cc
 
--- The walk met no subcommand, or a subcommand other than `help`.
+-- The walk found no subcommand, or a subcommand other than `help`.
 abbrev pub StopsNotAtHelp : Option (Text × List Text) → Type 0
 StopsNotAtHelp None = Unit {0}
 StopsNotAtHelp (Some p) = bytes_eq p.0 (codes "help") ≡ false

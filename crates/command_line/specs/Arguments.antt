@@ -16,7 +16,7 @@ is_set id rows = bytes_eq (value_in id rows) (codes "true")
 abbrev pub HasText : Kinds → Type 0
 HasText kinds = IsAmong kind.DisplayHelp kinds ⊎ IsAmong kind.DisplayVersion kinds
 
--- The error isn't a request for the text of the help or of the version.
+-- The kind of the error is neither `DisplayHelp` nor `DisplayVersion`.
 abbrev pub IsNoText : ErrorKind → Type 0
 IsNoText of_kind = (of_kind ≢ kind.DisplayHelp) × (of_kind ≢ kind.DisplayVersion)
 

@@ -1,5 +1,5 @@
--- This file defines the arguments of a command with their values. The file also defines how a
--- command line contains the values, and what clap finds for them.
+-- This file defines the arguments of a command with their values. The file also defines how the
+-- values are written on a command line, and what clap finds for them.
 use Rattle.std.specs.{List.list_any, Option.option_map_or, Prelude.{◌≡◌, ◌⊎◌, ◌==◌, ◌&&◌, ◌||◌, Bool, true, false, not, List, [], ◌∷◌, ◌++◌, Some, None, codes}}
 use Rattle.std.specs.{Prelude.{fold, is_some, map, unwrap_or, if◌then◌else◌}, Str.bytes_eq}
 use Rattle.clap.specs.{Faults.{check_fault, defaults_fault}, Kinds.{Kinds, or_else}, Lexer.strip_byte, Simple.{built_leaf, new_shape, wants_index}}
@@ -110,8 +110,8 @@ has_no_positionals (positional_given required name value ∷ given) = false
 has_no_positionals (positionals_given required name first more ∷ given) = false
 has_no_positionals (_ ∷ given) = has_no_positionals given
 
--- After `positionals_given`, or after a positional argument without a value, no positional argument
--- has a value.
+-- A positional argument has no value if it comes after `positionals_given`, or after a positional
+-- argument without a value.
 abbrev pub is_in_order : List Given → Bool
 is_in_order [] = true
 is_in_order (positionals_given required name first more ∷ given) = has_no_positionals given
@@ -123,8 +123,8 @@ abbrev pub end_fault : Shape → List Found → Kinds
 end_fault shape rows = or_else (defaults_fault rows shape.rules) (check_fault shape (fold with_default rows shape.rules) false)
 
 -- The command allows these arguments with their values. The command's name isn't `help`, and the
--- options have valid names and values. The arguments are different and in order. Each required
--- argument is present.
+-- options have valid names and values. The arguments have different names and positions, and are in
+-- order. Each required argument is present.
 abbrev pub can_be_given : Text → List Given → Bool
 can_be_given name given =
     let shape = shape_given name given in

@@ -5,7 +5,7 @@ use Rattle.command_line.specs.{Given.{AreSpelled, Given, can_be_given, found_giv
 use Rattle.command_line.specs.{Table.{Entry, Table, asked, entry_named, refusals}, declared.errors.ArgumentsFault.{ArgumentsFault, TheVariants.Memory}}
 use Rattle.command_line.specs.declared.job.Asked.{Asked, TheVariants.Perform}
 
--- Arguments that clap accepts name a row of the table.
+-- If clap accepts arguments, the arguments name a row of the table.
 abbrev pub WordsNameARow : Type 0 → Type 0
 WordsNameARow C = (table : Table C) (arguments : List Text) → refusals table arguments ≡ [] → IsSome (asked table arguments)
 

@@ -29,7 +29,7 @@ pub enum Asked<J> {
 pub trait Job<'a> {
     type Command: Commands;
 
-    /// The type that identifies an invalid argument.
+    /// The type of the value that identifies an invalid argument.
     type BadValue;
 
     ghost use Rattle.clap.specs.Words.{found_of, rows_of};
@@ -61,7 +61,8 @@ pub fn read_job<'a, J: Job<'a>, S: AsStr>(
 ) -> Result<Asked<J>, ArgumentsFault<J::BadValue>>
     ensures { ReadsJob J.Command.table J.Reads (map S.text arguments.entry.now) result }
 {
-    // By the law `arguments_name_a_row`, arguments that `clap` accepts name a row of the table.
+    // By the law `arguments_name_a_row`, if `clap` accepts the arguments, they name a row of the
+    // table.
     arguments_name_a_row::<J::Command>();
     let Ok(application) = J::Command::application(alloc) else {
         return Err(ArgumentsFault::Memory);

@@ -81,8 +81,8 @@ pub fn given_arguments<P: GivenArguments, C: Commands, V>(
     }
 }
 
-/// Prints a fault on standard error, as a line. A text of `clap` already ends with a line feed. Any
-/// other text gets a line feed at its end.
+/// Prints a fault on standard error, as a line. A text from `clap` already ends with a line feed.
+/// Any other text gets a line feed at its end.
 pub fn report<P: FaultLines, F: Display>(process: &P, fault: &F, is_text_of_clap: bool)
     ensures { P.asked process.now (printed is_text_of_clap (F.output fault.now)) }
 {

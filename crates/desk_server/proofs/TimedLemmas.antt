@@ -12,7 +12,7 @@ filled room part len n k within few =
     ∙ take-append-add (take len room) _ n
     ∙ ap (λ (l : List ℕ). take len room ++ l) (take-append-le n part _ few)
 
--- Signals interrupted the first `n` calls, and none of these calls moved a byte.
+-- Signals interrupted the first `n` calls, and none of these calls read or wrote a byte.
 pub record Interrupted {C Stream : Type 0} (Shows : C → Option ℕ → Type 0) (Does : Calls Stream) (near far : Stream → Option (List ℕ)) (limit : Limit C)
     (first : Stream) (n : ℕ) (last : Stream) : Type 0 where
   pub repeated : AreInterrupted Shows Does limit first n last

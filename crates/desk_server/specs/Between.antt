@@ -22,8 +22,8 @@ pub record Awaits {Reader : Type 0} (Waits : Wait Reader) (Fills : Call Reader) 
   pub waits : AreWaits Waits old awaited
   pub fills : Fills awaited result room new
 
--- The reader borrows the same values as before. Only commands of the office changed the borrowed
--- clock, desk and log.
+-- The readers `old` and `new` borrow the same values. Only commands of the office changed the
+-- borrowed clock, desk and log.
 pub record CommandsAlone {R M D G : Type 0} (Gives : GivesMoment M) (Carries : CommandRelation D) (Begins : G → G → Type 0) (Noted : Notes G)
     (old new : Between R M D G) : Type 0 where
   pub same_reader : new.reader.ghost_name ≡ old.reader.ghost_name

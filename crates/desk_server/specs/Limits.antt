@@ -4,7 +4,7 @@ use Rattle.std.specs.Prelude.{◌≡◌, ◌⊎◌, ℕ, ◌+◌, ◌-◌, ◌*�
 use Rattle.std.specs.{Time.instant_nanos, declared.time.Instant.Instant}
 use Rattle.desk_server.specs.declared.{limit.Limit.Limit, timed.Waited.{Waited, TheVariants.{Moved, Interrupted, Failed}}}
 
--- The nanoseconds from the start of an instant's clock to that instant.
+-- The nanoseconds from the start of the clock to the instant.
 abbrev pub nanos_of : Option Instant → Option ℕ
 nanos_of instant = option_map instant_nanos instant
 

@@ -9,8 +9,8 @@ word_bytes word = option_map (λ (w : Bor (List ℕ)). w.now) word
 abbrev pub place_of_space : List ℕ → Option ℕ
 place_of_space bytes = position (λ byte. byte == 32) bytes
 
--- The first two words of the given bytes. The pair of words is `None` unless a space follows each
--- word.
+-- The first two words of the given bytes, if a space follows each word. Otherwise, the result is
+-- `None`.
 abbrev pub two_words : List ℕ → Option (List ℕ × List ℕ)
 two_words bytes = option_and_then
     (λ first. let rest = drop (first + 1) bytes in option_map (λ second. (take first bytes, take second rest)) (place_of_space rest))

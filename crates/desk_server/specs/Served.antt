@@ -37,7 +37,7 @@ Ends = List ℕ → List ℕ → Result Reply AnswerFault → Type 0
 abbrev pub HasTalked : {Client : Type 0} → Talk Client → Ends
 HasTalked {Client} Talks bytes written outcome = (old : Client) × (new : Client) × Talks old bytes written outcome new
 
--- The effect of an exchange with a given outcome on the desk.
+-- The effect that an exchange with a given outcome has on the desk.
 --
 -- - If the exchange succeeded, the desk gave the reply to the bytes read, and the exchange wrote
 --   exactly the reply's text.
@@ -51,7 +51,7 @@ IsExchanged Answers bytes old written outcome new = Exchanges
     (λ text. written ≡ text)
     outcome
 
--- The effect of a connection of the office on the desk. If a complete command came, the desk
+-- The effect that a connection of the office has on the desk. If a complete command came, the desk
 -- carried out the command exactly once, even if the office didn't read the answer. If no complete
 -- command came, the desk is unchanged.
 abbrev pub IsCarriedOut : {Desk : Type 0} → CommandRelation Desk → Desk → Option Carried → Desk → Type 0
@@ -187,16 +187,16 @@ module _ {Log : Type 0} (Begins : Log → Log → Type 0) (Noted : Notes Log) wh
     one_note : (events : List LogEvent) (event : LogEvent) (l begun l' : Log) → AreNotedMeanwhile log events l → Begins l begun → Noted begun event l'
         → AreNotedMeanwhile log (events ++ event ∷ []) l'
 
-  -- If the server accepted the arrival, the log notes that the arrival begins. If the server
+  -- If the server accepted a client or a command, the log notes that the turn begins. If the server
   -- accepted nothing, the log is unchanged.
   abbrev pub IsBegun : Log → LogEvent → Log → Type 0
   IsBegun log Absent begun = begun ≡ log
   IsBegun log Overrun begun = begun ≡ log
   IsBegun log event begun = Begins log begun
 
-  -- The effect of a turn on the log. If the server accepted the arrival, the log first notes that
-  -- the arrival begins. After the arrival's beginning, the log notes the beginning and the event of
-  -- each command during the turn. At the end of the turn, the log notes the arrival's own event.
+  -- The effect of a turn on the log. If the server accepted a client or a command, the log first
+  -- notes that the turn begins. Then the log notes the beginning and the event of each command
+  -- during the turn. At the end of the turn, the log notes the turn's own event.
   pub record IsNoted (log : Log) (turn : Turn) (log' : Log) : Type 0 where
     pub begun : Log
     pub awaited : Log

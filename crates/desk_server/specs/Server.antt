@@ -14,8 +14,8 @@ module _ {Clock Desk Log : Type 0} (Gives : GivesMoment Clock) (Begins : Log →
       (moment : Option ℕ) × (carried : Option Carried) × (begun : Log) × Begins log begun × Noted begun (Commanded moment carried) log'
       × Gives clock moment clock' × IsCarriedOut Carries desk carried desk'
 
-  -- The effect of a server for `count` clients from a source of arrivals. The source counts each
-  -- wait for an arrival, and the log notes each turn.
+  -- The effect of a server that serves up to `count` clients from a source of arrivals. The source
+  -- counts each wait for an arrival, and the log notes each turn.
   abbrev pub ServesLogged : {Source : Type 0} → (ℕ → AnswerRelation Desk) → CommandRelation Desk → Ends → (Source → ℕ) → (Source → ℕ) → ℕ
       → Source → Clock → Desk → Log → Result Unit ClockOutOfRange → Source → Clock → Desk → Log → Type 0
   ServesLogged Answers Carries Ended waited failures count source clock desk log result source' clock' desk' log' =
@@ -23,7 +23,8 @@ module _ {Clock Desk Log : Type 0} (Gives : GivesMoment Clock) (Begins : Log →
       (λ turns. CountsOn (waited source) (length turns) (waited source') × AreNoted Begins Noted log turns log')
 
 module _ {Clock Desk : Type 0} (Gives : GivesMoment Clock) where
-  -- The effect of a server without a log for `count` clients from a source of arrivals.
+  -- The effect of a server without a log. The server serves up to `count` clients from a source of
+  -- arrivals.
   abbrev pub ServesOn : {Source : Type 0} → (ℕ → AnswerRelation Desk) → CommandRelation Desk → Ends → (Source → ℕ) → (Source → ℕ) → ℕ
       → Source → Clock → Desk → Result Unit ClockOutOfRange → Source → Clock → Desk → Type 0
   ServesOn Answers Carries Ended waited failures count source clock desk result source' clock' desk' =

@@ -34,8 +34,8 @@ pub const NOTHING_DONE: u8 = 9;
 /// The text of the answer with status `NOTHING_DONE`.
 pub const NOTHING_DONE_TEXT: &str = "nothing was done";
 
-/// The timeout for the office to send its command, in milliseconds. The office has the same time
-/// again to read the answer. Clients wait while the office sends its command or reads the answer.
+/// The timeout for the office to send its command, in milliseconds. The timeout for reading the
+/// answer is equally long. Clients wait while the office sends its command or reads the answer.
 const OFFICE_MILLISECONDS: u64 = 200;
 
 /// A connection of the office that the server accepted at its door.

@@ -15,9 +15,9 @@ use std::os::fd::{AsRawFd, RawFd};
 use std::os::unix::net::UnixListener;
 use std::time::Duration;
 
-/// The time that the server sleeps after waiting or accepting failed, in milliseconds. A failure to
-/// wait, or to accept a client, counts as a client. Without the sleep, repeated failures would soon
-/// reach the number of clients to serve.
+/// The time that the server sleeps after a failure to wait or to accept a connection, in
+/// milliseconds. A failure to wait, or to accept a client, counts as a client. Without the sleep,
+/// repeated failures would soon reach the number of clients to serve.
 const REST_MILLISECONDS: u64 = 10;
 
 /// The number that replaces a missing descriptor. `poll` ignores the descriptor -1.

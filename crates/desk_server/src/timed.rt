@@ -103,7 +103,7 @@ impl TimedStream for &UnixStream {
     }
 }
 
-/// Converts the result of a read or write of `std` to a `Waited`.
+/// Converts the result of a `std` read or write to a `Waited`.
 pub(crate) fn outcome_of(returned: io::Result<usize>) -> Waited
     ensures { MatchResult returned (λ n. result ≡ Waited.Moved n) (λ _. moved result ≡ None) }
 {
@@ -230,9 +230,9 @@ impl<'c, S: TimedStream, C: MonotonicClock> Accepted<'c, S, C> {
     }
 
     /// Reads the bytes that the client still sends, at most `MAX_REST`. Reading stops at the end of
-    /// the input, or once no byte came for 200 milliseconds. Reading also stops if a read fails.
-    /// When the time `patience` has passed since the start of this call, this method reads only
-    /// bytes that have already arrived.
+    /// the input, or once no byte has come for 200 milliseconds. Reading also stops if a read
+    /// fails. When the time `patience` has passed since the start of this call, this method reads
+    /// only bytes that have already arrived.
     pub fn take_rest(&mut self)
         ensures taken { TakesAtMost 65_536 (S.to_come self.old.stream) (S.to_come self.new.stream) }
         ensures writes_nothing { Keeps (S.taken self.old.stream) (S.taken self.new.stream) }

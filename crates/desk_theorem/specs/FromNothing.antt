@@ -34,7 +34,7 @@ pub record HandlesFromNothing (events : List Event) (replies : List EventReply) 
 -- possible causes:
 --
 -- - The store failed while it read rows or applied the request's change.
--- - The text of the pass is JSON, and the store is unchanged.
+-- - The text of the pass is JSON, which takes memory to parse. The store is unchanged.
 pub record RepliesFromNothing (events : List Event) (replies : List EventReply) (text : List ℕ) (request : Request) (moment : ℕ) (reply : Reply)
     : Type 0 where
   pub run : HandlesFromNothing events replies

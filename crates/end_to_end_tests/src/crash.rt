@@ -1,4 +1,5 @@
-//! Tasks over two files. One file fails at each call in turn, and the club must stay undamaged.
+//! Tasks over two files. Each task runs once for each call to a file, and the file fails at this
+//! call. The club must stay undamaged.
 
 use crate::desk::{Event, FIXTURE};
 use crate::disk::{Bytes, NEVER, Part, Stop, Stops};
@@ -23,9 +24,9 @@ pub(crate) enum Beginning {
 }
 
 /// The files, the task's events, later events, and the numbers of calls to the log and to the
-/// database. Without events, the task is the opening. A task of one event with a commit makes 42
-/// calls to the log and 60 to the database. Each page of the commit adds 2 calls to the log and 1
-/// to the database.
+/// database. If the task has no events, it only opens the database. A task of one event with a
+/// commit makes 42 calls to the log and 60 to the database. Each page of the commit adds 2 calls to
+/// the log and 1 to the database.
 pub(crate) struct Trial(
     pub Beginning,
     pub &'static [Event],

@@ -6,7 +6,8 @@ pub(crate) trait Host: Abort + AllocGlobal {}
 
 impl<R: Abort + AllocGlobal> Host for R {}
 
-/// A test that calls this function is proved in a third of the time of a test that asserts.
+/// The proof of a test takes a third of the time if the test calls this function instead of
+/// `assert_eq!`.
 pub(crate) fn expect_eq<T: PartialEq + Debug>(rt: &impl Abort, returned: &T, want: &T) {
     assert_eq!(rt; returned, want);
 }

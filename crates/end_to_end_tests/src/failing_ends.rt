@@ -13,8 +13,8 @@ const REPLY_LEN: usize = 133;
 
 const _: () = prove!(BOOKED_7.len() == REPLY_LEN);
 
-/// The numbers of bytes after the booking, per read and per write. Then the numbers of unread
-/// bytes, of reads and of writes.
+/// The number of bytes after the booking, the number per read and the number per write. Then the
+/// numbers of unread bytes, of reads and of writes.
 #[derive(Clone, Copy)]
 struct Whole(usize, usize, usize, usize, u64, u64);
 

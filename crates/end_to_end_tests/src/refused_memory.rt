@@ -1,6 +1,6 @@
 //! Exchanges in which an allocation is refused. `tests/desk/refused_memory_tests.py` refuses each
-//! allocation in turn. If no tested exchange makes the refused allocation, the test ends, because
-//! it is out of memory.
+//! allocation in turn. If the refused allocation is outside the tested exchanges, the test ends
+//! with a report that memory ran out.
 
 use crate::expect::{Host, expect_case};
 use crate::fixture::{Fixture, KEPT, NOT_YET, Served, Step, play, with_pass};

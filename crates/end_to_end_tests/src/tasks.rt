@@ -150,7 +150,7 @@ fn makes_all_tables_or_none(rt: HostRuntime) {
 
 const TWICE: &[Event] = &[BOOK, BOOK_ROOM, Asks(LATER, CANCEL_8)];
 
-/// The opening changes the tables.
+/// Opening the database changes the tables.
 static MIGRATES: Trial = Trial(First(TWICE), &[], &[BOOK, BOOK_ROOM, SHOW], [52, 56]);
 
 #[test]

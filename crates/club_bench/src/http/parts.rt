@@ -44,8 +44,8 @@ fn has_head(bytes: &[u8], fields: &mut [HeaderSpan; MAX_FIELDS]) -> bool {
     matches!(parse_request(bytes, fields), Ok(Status::Complete(_)))
 }
 
-/// Collects the desk's replies in the list `replies`, and returns the time. The list has room for
-/// all replies, so the time doesn't include growing the list.
+/// Collects the desk's replies in the list `replies`, and returns the time of answering. The list
+/// has room for all replies, so the time doesn't include growing the list.
 pub(crate) fn replies<S: ClubStore>(
     rt: &impl Clock,
     desk: &mut Desk<S>,

@@ -8,7 +8,8 @@ use pass_caveats::{Ask, CaveatFault};
 use test_kit::COURT_AT_18;
 use test_kit::moments::NOON;
 
-/// Returns a booking of `court-1` at noon by a key that has already spent `spent` points.
+/// Returns the `Ask` for a booking of `court-1`. The request comes at noon, and its key has already
+/// spent `spent` points.
 fn booking(rt: &impl Host, spent: u64) -> Ask {
     Ask {
         action: Action::Book,

@@ -9,7 +9,7 @@ use Rattle.club_core.specs.Run as machine
 use Rattle.club_gate.specs.{DecodedPass.fault_of, Identifier.key_name_in, declared.event.Event.Event}
 use Rattle.club_gate.specs.declared.event.Event.TheVariants as events
 
--- The pass in the form that the rules of the club use. `is_signed` tests whether the pass is signed
+-- The decoded pass that the rules of the club use. `is_signed` tests whether the pass is signed
 -- under a root.
 abbrev pub machine_pass : Plain → Pass
 machine_pass pass = record {

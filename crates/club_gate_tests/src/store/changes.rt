@@ -13,8 +13,8 @@ use club_core::MemberAccount;
 use test_kit::moments::START;
 use test_kit::{COURT, PlainFacility};
 
-/// The rows of a club. For a member: the credited points, the points of the bookings, and the
-/// quota. For a slot: the number of persons, and whether the slot is closed. All bookings are under
+/// The rows of a club. For a member: the credited points, the cost of the bookings, and the quota.
+/// For a slot: the number of persons, and whether the slot is closed. All bookings are under
 /// `amy-1`.
 #[derive(Clone, Copy)]
 struct Seen {

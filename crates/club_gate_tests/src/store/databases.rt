@@ -8,7 +8,7 @@ use test_kit::version_1::{OLDER_ROOTS, STATEMENTS};
 pub(crate) enum Contents {
     Nothing,
     First,
-    /// Version 2 without the index of the bookings.
+    /// Version 2 without the index `bookings_by_key`.
     Unindexed,
     Second,
 }

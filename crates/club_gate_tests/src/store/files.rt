@@ -10,7 +10,7 @@ use std::test::Fail;
 use std::{env, fs, process};
 use test_kit::version_1::STATEMENTS;
 
-/// The remains of a failed opening, which the opening returns with its fault.
+/// The value that `do_in_file` returns with the fault of a failed opening.
 #[derive(Clone, Copy, Debug, PartialEq, Eq)]
 pub enum Left {
     Files,

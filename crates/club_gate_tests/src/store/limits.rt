@@ -1,5 +1,5 @@
-//! A read of a row outside its limits fails with `Storage`. The tables of these tests have no
-//! `CHECK` constraints, so the tables accept such rows.
+//! Reading a row with a value outside its limits fails with `Storage`. The tables of these tests
+//! have no `CHECK` constraints, so the tables accept such rows.
 
 use super::databases::{database_after, runs};
 use super::listing::adopt;

@@ -42,7 +42,7 @@ fn view<S: Alter>(rt: &impl Host, store: &mut Store<S>, asked: &PlainRequest) ->
     found.expect(rt, "an answer").expect(rt, "a view")
 }
 
-/// A read of the key and a view must both return the key and its older root.
+/// `Store::key` and `Store::view` must both return the key and its older root.
 pub(crate) fn shows_key<S: Alter>(rt: &impl Host, store: &mut Store<S>, kept: &Kept) {
     let want = key(rt, kept);
     expect_eq(rt, &store.key(&want.name), &Ok(Some(want)));
@@ -63,7 +63,7 @@ fn shows_views<S: Alter>(rt: &impl Host, store: &mut Store<S>) {
     }
 }
 
-/// Reads each row of the views with its own method of the store.
+/// Reads the rows and sums of the views with separate methods of the store.
 fn shows_rows<C: ClubStore>(rt: &impl Host, store: &mut C) {
     let amy = name(rt, "amy");
     let account = MemberAccount {

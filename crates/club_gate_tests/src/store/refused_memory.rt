@@ -1,6 +1,6 @@
 //! Openings of a store while memory is refused. `tests/desk/refused_memory_tests.py` refuses one
-//! allocation per run. An opening that is out of memory leaves the database unchanged, and a second
-//! opening succeeds.
+//! allocation per run. An opening that runs out of memory leaves the database unchanged, and a
+//! second opening succeeds.
 
 use super::databases::{Contents, database, version};
 use super::files::{do_in_file, make_file, path_of, remove};
@@ -54,7 +54,7 @@ fn store_in_memory(rt: HostRuntime) {
     shows(&rt, &mut new_store(&rt), Contents::Nothing);
 }
 
-/// The second opening must succeed if the first is out of memory.
+/// The second opening must succeed if the first runs out of memory.
 fn opens_at(host: &HostRuntime, rt: &impl Host, path: &str, contents: Contents) {
     if let Err((fault, _)) = do_in_file(host, rt, path, &contents) {
         expect_eq(rt, &fault, &StoreFault::Memory);

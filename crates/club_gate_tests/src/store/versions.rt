@@ -1,4 +1,5 @@
-//! Tables of version 1, tables of version 2 without the index of the bookings, and other databases.
+//! Tables of version 1, tables of version 2 without the index `bookings_by_key`, and other
+//! databases.
 
 use super::databases::Contents::{self, First, Nothing, Unindexed};
 use super::databases::{database, runs, version};

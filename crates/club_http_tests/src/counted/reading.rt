@@ -59,7 +59,7 @@ fn endless_head(rt: HostRuntime) {
     is_read_so(&rt, &[(20_000, "x")], &ENDLESS, &IS_BAD);
 }
 
-/// Returns the expected `Reading` of a request of `len` bytes with five more bytes after it. A call
+/// Returns the expected `Reading` if five more bytes follow a request of `len` bytes. A call
 /// returns at most `step` bytes.
 fn by_steps(len: usize, step: usize) -> Reading {
     let calls = len.div_ceil(step.max(1));

@@ -1,5 +1,5 @@
 //! Exchanges over a connection that a listener accepted. Each test sets the clock. Only these tests
-//! fail if an exchange has other time limits, or reads or writes fewer bytes.
+//! fail if an exchange has wrong time limits, or reads or writes too few bytes.
 
 use super::{Journal, client_at, exchange, new_face, patience, slot_shown};
 use crate::desk::Desk;

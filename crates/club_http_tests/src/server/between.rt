@@ -9,7 +9,7 @@ use crate::expect::{Runtime, expect_eq, expect_row, noon};
 use desk_server::serve_logged;
 
 /// The steps of a client and of the office, the milliseconds that each command takes, and the
-/// server's calls with their times. The server has a patience of ten seconds.
+/// server's calls with their times. The server's patience (timeout) is ten seconds.
 struct Row {
     steps: &'static [Step<'static>],
     command_takes: u64,

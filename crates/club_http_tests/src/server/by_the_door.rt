@@ -1,4 +1,5 @@
-//! Commands that come through the office's door while the server waits for a client's request.
+//! Commands that come through the office's door (a Unix socket) while the server waits for a
+//! client's request.
 
 use super::{REPLY, REQUEST, client_at, desk_at_noon, exchange, new_face, patience};
 use crate::desk::{Desk, Sender};

@@ -1,5 +1,5 @@
-//! Tests of the local times that clocks show. No contract states which instant the clock shows. A
-//! program in another language computed the moments from the zone database.
+//! Tests of the local times that clocks show. No contract states which instant the machine's clock
+//! shows. A program in another language computed the moments from the zone database.
 
 use super::always;
 use super::doubles::{HandSet, Stopped};
@@ -51,7 +51,7 @@ pub fn clock_in<'c, C: time::Clock>(
     }
 }
 
-/// Returns a clock that always shows noon in UTC, and fails after `times` readings.
+/// Returns a clock that shows noon in UTC for `times` readings, and then fails.
 pub fn noons(times: u64) -> HandSet {
     let clock = HandSet::new(1_776_686_400_000_000, 0);
     clock.readable.set(times);

@@ -170,7 +170,7 @@ impl Handover for Letter<'_> {
     }
 }
 
-/// Arrivals in their order, with the journal's clock and a patience of ten seconds.
+/// Arrivals in their order, with the journal's clock and a patience (timeout) of ten seconds.
 #[derive(Drop)]
 pub struct Script<'a> {
     journal: &'a Journal,

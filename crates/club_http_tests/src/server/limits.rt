@@ -24,8 +24,8 @@ const UNWRITTEN: Option<AnswerFault> = Some(AnswerFault::Write(0));
 /// The milliseconds before each byte that a client sends, the milliseconds before each byte that
 /// the client receives, and the number of readings after which the clock fails.
 ///
-/// The request has 53 bytes and its reply 140. The patience is ten seconds for each. After ten
-/// seconds, the server tries one more read or write without a wait.
+/// The request has 53 bytes and its reply 140. The patience (timeout) is ten seconds for each.
+/// After ten seconds, the server tries one more read or write without a wait.
 static OUTCOMES: [((u64, u64, u64), Outcome); 10] = [
     ((0, 0, ALWAYS), (None, 53, 140, 0)),
     ((100, 50, ALWAYS), (None, 53, 140, 12_300)),
@@ -78,7 +78,7 @@ fn a_client_that_dawdles_is_cut_off(rt: HostRuntime) {
 }
 
 /// The number of waits that a signal interrupts. Each signal comes halfway through a pause of one
-/// second. The patience is a minute, the time of 53 whole pauses and 14 half pauses.
+/// second. The patience (timeout) is a minute, the time of 53 whole pauses and 14 half pauses.
 static INTERRUPTED: [(u32, Outcome); 3] = [
     (1, (None, 54, 140, 53_500)),
     (14, (None, 67, 140, 60_000)),
@@ -98,7 +98,7 @@ fn goes_on_after_a_signal(rt: HostRuntime) {
 }
 
 /// The milliseconds before each byte, the number of reads, and the milliseconds that passed. The
-/// patience is ten seconds, and each wait lasts at most 200 milliseconds.
+/// patience (timeout) is ten seconds, and each wait lasts at most 200 milliseconds.
 static RESTS: [(u64, u64, u64); 5] = [
     (0, 54, 0),
     (100, 54, 5_300),

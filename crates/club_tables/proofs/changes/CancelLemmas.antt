@@ -177,7 +177,7 @@ module _ (club : Club) (sound : IsSound club) (booking : Booking) (cancels : IsT
       ]
 
   -- If the booking is in the slot, a cancellation lowers the slot's number of persons by the
-  -- booking's persons.
+  -- booking's number of persons.
   pub taken_back : (s : Slot) → taken_in s next.bookings + (if same_slot booking.slot s then persons_of booking else 0) ≡ taken_in s club.bookings
   taken_back s =
       let sums = picked_changed (is_numbered key number) change (other_stays key number refund) persons_of (is_in s) club.bookings booking alone cancels.0 in

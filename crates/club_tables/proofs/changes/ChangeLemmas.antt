@@ -219,8 +219,8 @@ module _ (rows : Rows) (once : AreNamedOnce rows.members) (name : List ℕ) wher
         let wide : Implies is_owner is_named = λ row passes. (and_parts (is_named row) is_owned passes).0 in
         search (rules, low_named)
 
-    -- If the statement that changes the spent points of a member writes a row, the key belongs to
-    -- the member.
+    -- If the statement that changes a member's spent points writes a row, the key belongs to the
+    -- member.
     pub owner_found : AreKeysOnce rows.keys
         → WhenRan (ADD_USED.now, used_params) rows (λ old new count. 1 ≤ count → (k : Key) × StoresKey key rows.keys k × (k.member ≡ name))
     owner_found unique old new count holds_rows ran some =
@@ -295,8 +295,7 @@ module _ (rows : Rows) (once : AreKeysOnce rows.keys) (name : List ℕ) where
         let wide : Implies has_root has_name = λ key passes. (and_parts (has_name key) _ passes).0 in
         search (rules, low_keys)
 
-    -- If the statement that sets a key's root writes a row, the key had the former root from the
-    -- parameters.
+    -- If the statement that sets a key's root writes a row, the last parameter was the key's root.
     pub root_found : WhenRan (SET_ROOT.now, root_params) rows (λ old new count.
         1 ≤ count → (key : Key) × StoresKey name rows.keys key × (key.root ≡ was))
     root_found old new count holds_rows ran some =

@@ -1,4 +1,4 @@
--- Lemmas about searches for rows, and upper bounds for the persons in a slot.
+-- Lemmas about searches for rows, and about upper bounds on the number of persons in a slot.
 use Rattle.club_tables.proofs.Common.{rules, ◌≡◌, ℕ, ◌≤◌, pos, neg_ℤ, Bool, None, List, Option, Some, refl, sym, ◌∙◌, ◌≢◌, ◌+◌, ◌-◌, true, if◌then◌else◌, []}
 use Rattle.club_tables.proofs.Common.{◌∷◌, ◌++◌, map, Contains, ap, arith, zero, suc, All-contains, bytes_eq-Decides, find, option_map, bytes_eq, binary, Arith}
 use Rattle.club_tables.proofs.Common.{Add, ◌<◌, ◌^◌, cond, SlotUse, IsFacility, Int, Club, IsSound, taken_in, same_slot, IsBooking, Booking, Facility, Slot}

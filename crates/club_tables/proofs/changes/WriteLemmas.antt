@@ -88,8 +88,8 @@ changes {g = g} law change within {old = old} {new = new} {result = r} commits s
           }) (commits.fault clean);
     }
 
--- Assume that a change has a value outside its limits, and that such a change fits no club. Then a
--- call that runs no statement and returns `Storage` satisfies `ChangesClub`.
+-- Assume that a change has a value outside its limits, and that a change with such a value fits no
+-- club. Then a call that runs no statement and returns `Storage` satisfies `ChangesClub`.
 pub refuses : {S : Type 0} {g : Ghosts S} (change : Change) → ¬ InLimits change → ((club : Club) → FitsClub change club → InLimits change) → (held : Held S)
     → ChangesClub g change held held (Err Storage)
 refuses {g = g} change out within_if_fits held = record {

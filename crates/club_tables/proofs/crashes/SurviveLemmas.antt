@@ -1,4 +1,4 @@
--- Lemmas about the states that a crash may leave during a transaction.
+-- Lemmas about the states that a crash during a transaction may leave.
 use Rattle.club_tables.proofs.Common.{◌≡◌, ℕ, List, refl, arith, inl, Err, IsTrue, true, rules, Ghosts, Trees, Database, State, HasCleanDisk, Survives}
 use Rattle.club_tables.proofs.Common.{IsRolledBack, Shown, FailsToQuery, IsNotRun, IsTooLate, ExecutesInside, Held, state, survives_then, Row, Error}
 use Rattle.club_tables.proofs.Common.{StoreFault, BoundStatement, Ran, IsUntouched, MayCommit, IsAfterReadings, IsOpeningFault}

@@ -50,8 +50,8 @@ module _ {S : Type 0} (g : Ghosts S) (fewest : ℕ) where
   fails_last (statement ∷ all) a b c error fault before last is =
       inr (before.0, before.1, before.2, fails_last all before.0 b c error fault before.3 last is, before.4, before.5)
 
-  -- Whether or not the commit succeeds, a crash leaves a state that a crash could leave before the
-  -- transaction, or the effects of all statements.
+  -- Whether or not the commit succeeds, a crash leaves the effects of all statements, or a state
+  -- that a crash before the transaction could leave.
   pub commit_survives : (statements : List Statement) (at : ℕ) (old mid new : Held S) → length statements ≤ at
       → Survives (state g (transaction_start old)) (state g mid) (λ _. ⊥)
       → (HasCleanDisk (state g mid) → RanInTurn g fewest (map bound_statement (take at statements)) (transaction_start old) mid)

@@ -1,4 +1,4 @@
--- Lemmas about the rows after a row is inserted or updated by its key.
+-- Lemmas about the rows after a row is inserted or updated by its primary key.
 use Rattle.club_tables.proofs.Common.{◌≡◌, Bool, true, List, [], ◌∷◌, ◌++◌, map, if◌then◌else◌, Row, list_any}
 
 module _ {X : Type 0} (values : X → Row) (p : X → Bool) where

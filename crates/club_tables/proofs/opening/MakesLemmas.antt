@@ -53,8 +53,8 @@ pub never_ran : {S : Type 0} {g : Ghosts S} {old : Held S} {db : Database} {text
 unfolding ExecutesIn
 never_ran {text = text} ran has refused = true≢false (sym (ap is_ok ran.turns.2.1.is) ∙ ap (λ s. is_ok (understood s text)) has ∙ refused)
 
--- The index of the bookings can't be created if it exists, and can't be dropped if it doesn't
--- exist.
+-- The index of the bookings can be created only if it doesn't exist, and can be dropped only if it
+-- exists.
 pub indexes_again : (is_ok (understood club_schema MAKE_BOOKINGS_BY_KEY.now) ≡ false) × (is_ok (understood unindexed_schema DROP_BOOKINGS_BY_KEY.now) ≡ false)
 unfolding understood everything
 indexes_again = (refl, refl)

@@ -1,4 +1,5 @@
--- Lemmas about the queries that read a row by its key.
+-- Lemmas about the queries that read a row by its primary key, and about the query for the costs of
+-- a key's bookings.
 use Rattle.club_tables.proofs.Common.{◌≡◌, ℕ, ◌≤◌, List, [], ◌∷◌, length, map, codes, Option, Some, None, cond, subst, false, Bool, true, ◌&&◌, ◌≢◌, slice_get}
 use Rattle.club_tables.proofs.Common.{refl, sym, ap, ◌∙◌, arith, pos, not, ◌==◌, inl, inr, filter, find, option_map, AllPairs, IsPermutation, unwrap_or}
 use Rattle.club_tables.proofs.Common.{length-map, option_to_list, bytes_eq, bytes_eq-Decides, and-true, and_assoc, unsigned_Decides, and_parts, everything}

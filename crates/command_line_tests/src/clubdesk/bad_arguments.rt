@@ -141,7 +141,8 @@ fn arguments_that_clap_refuses(rt: HostRuntime) {
     }
 }
 
-// In Rust, `clap` itself prints this text for such arguments. `text_fault` makes the same text.
+// In Rust, `clap` itself prints this text for arguments that aren't UTF-8. `text_fault` makes the
+// same text.
 const NOT_TEXT: End = Prints(
     2,
     "error: invalid UTF-8 was detected in one or more arguments\n\nUsage: clubdesk <COMMAND>\n\nFor more information, try '--help'.\n",

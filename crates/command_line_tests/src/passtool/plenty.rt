@@ -10,8 +10,9 @@ use test_kit::{End, Output, Piece};
 
 const VERIFY: &str = "verify|--root|00112233445566778899aabbccddeeff";
 
-// An independent program computed these texts of amy's pass. Each entry has the text up to and with
-// the first caveat, one more caveat, the end after 63 caveats, and the end after 64 caveats.
+// An independent program computed these texts of amy's pass. Each entry has the text up to and
+// including the first caveat, one more caveat, the end after 63 caveats, and the end after 64
+// caveats.
 type Guests = [&'static str; 4];
 
 static GUESTS: [Guests; 3] = [

@@ -1,4 +1,5 @@
--- After each step, the loop has written the pieces of the arguments before the current argument.
+-- After each step, the loop has written the arguments before the current argument, each followed by
+-- a zero byte.
 use Rattle.std.proofs.Common.{◌≡◌, ◌++◌, take, map}
 use Rattle.clubdesk_commands.specs.HandedCommand.{pieces}
 use Rattle.clubdesk_commands.proofs.handed_command.push_pieces.Given as goal

@@ -1,5 +1,5 @@
--- At each step, the pieces of the decoded arguments and the rest of the text make up the whole
--- text.
+-- At each step, the decoded arguments, each followed by a zero byte, and the rest of the text make
+-- up the whole text.
 use Rattle.std.proofs.Common.{◌≡◌, ◌++◌, map, length}
 use denote.Text.{Utf8}
 use denote.Shadow.{shadow}
