@@ -5,9 +5,9 @@ The test also checks that the rules in Python (`tests/reference`) give the answe
 
 AUDIT lists the definitions that a reader must trust for each promise. AUDIT also marks the definitions that the vectors exercise. Each contract that
 PROMISES cites must exist. A computing definition computes what another definition states. PROMISES names the few computing definitions that its
-contracts may depend on. Neither a contract that PROMISES cites nor the value of a ghost may depend on any other computing definition. A ghost is a
-value that only contracts use. Each contract that COMPUTED cites must depend on a computing definition. Each step of a path in TOUR must cite the next
-step. Without an option, the program writes docs/AUDIT.md.
+contracts may depend on. The contracts that PROMISES cites, and the values of ghosts, may depend on no other computing definition. A ghost is a value
+that only contracts use. Each contract that COMPUTED cites must depend on a computing definition. Each step of a path in TOUR must cite the next step.
+Without an option, the program writes docs/AUDIT.md.
 
 The program reads the promises in docs/PROMISES.md, the clauses that state these promises, and the definitions that the clauses cite.
 tests/lib/definitions.py reads the definitions.

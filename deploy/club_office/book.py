@@ -16,7 +16,7 @@ from club_office.copies import clear_unnamed
 from club_office.faults import STORAGE, Fault, fault, storage_failed
 from club_office.texts import say
 
-# The greatest number of seconds that a command waits for its turn, and that the office waits until the journal accepts a line.
+# The greatest number of seconds that a command waits for its turn, and that the office waits for the journal to accept a line.
 WAITS_FOR_TURN = 60
 WAITS_FOR_JOURNAL = 2
 JOURNAL = "/run/systemd/journal/socket"

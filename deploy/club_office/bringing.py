@@ -1,4 +1,4 @@
-"""Restores a club from the place of its copies after the loss of its machine. Restores the configuration, the newest tested copy, the persons, the
+"""Restores a club from the place of its copies after the club's machine is lost. Restores the configuration, the newest tested copy, the persons, the
 reasons for closures, the season points, the book, and the files of old years. The restore leaves existing files unchanged, so it can be run again
 after an interruption."""
 

@@ -74,7 +74,7 @@ class Correction:
         raise meanwhile
 
     def asked(self):
-        """Plans the correction on a copy of the club, shows the plan, and asks. Returns the plan, or the reason for a refusal."""
+        """Plans the correction on a copy of the club, shows the plan, and asks the clerk. Returns the plan, or the reason for a refusal."""
         try:
             refuse_to_come(self.words)
             with snapshot(self.club) as db:
@@ -202,7 +202,7 @@ class Correction:
         raise fault(status, "command undone", order=" ".join(words), said=in_language(said) or f"status {done.returncode}")
 
     def look_again(self):
-        """Prints the bookings outside the new hours that members made after the correction copied the club. The new hours stay in force."""
+        """Prints each booking outside the new hours that a member made after the correction copied the club. The new hours stay in force."""
         try:
             with snapshot(self.club) as db:
                 self.plan(db, None)

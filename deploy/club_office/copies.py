@@ -173,7 +173,7 @@ def synced(path):
 
 
 def is_run(words):
-    """Runs another program, and returns whether it succeeded. Its error messages go to this program's standard error, which waits until the turn
+    """Runs another program, and returns whether it succeeded. The program's error messages appear on this process's standard error when the turn
     ends."""
     done = subprocess.run(words, check=False, stdin=subprocess.DEVNULL, stdout=subprocess.DEVNULL, stderr=subprocess.PIPE, text=True, errors="replace")
     print(done.stderr, end="", file=sys.stderr)

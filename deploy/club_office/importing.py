@@ -38,8 +38,8 @@ def read_given():
 
 
 def import_row(club, words):
-    """Imports a row, which has a member, a credit, a key and the member's personal data. Adds only those of the four that are missing. Prints the
-    pass of a new key.
+    """Imports a row, which has a member, a credit, a key and the member's personal data. Adds only those parts that are missing. Prints the pass of a
+    new key.
 
     Standard input has the personal data, and the roots that this import generated for the key. The newest root comes last. If the key already has one
     of these roots, this import made the key, and nobody has a pass of the key yet. In this case, the key gets the newest root.

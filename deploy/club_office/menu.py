@@ -131,7 +131,7 @@ def new_key_words(office):
 
 
 def lost_words(office):
-    """Returns the commands for a new pass in the file where the command `letters` looks for it, and for a letter with this pass."""
+    """Returns the commands that make a new pass and a letter with this pass. The pass goes to the file where the command `letters` looks for it."""
     key = key_of(office)
     return [["lost-pass", key, "--to", f"{PASSES}/{key}"], *letter_words(office, [key], f"letter-{key}-{office.today}")]
 
@@ -335,8 +335,8 @@ def menu_lines():
 
 
 def tasks_named(answer):
-    """Returns the task with a number, or the tasks whose title matches the text. The text may be the whole title, its beginning, one of its words, or
-    any other part of the title."""
+    """Returns the task with the typed number, or the tasks whose title matches the typed text. The text may be the whole title, its beginning, one of
+    its words, or any other part of the title."""
     if answer.isdigit():
         return [TASKS[int(answer) - 1]] if 0 < int(answer) <= len(TASKS) else []
     typed = plain(answer)

@@ -117,7 +117,7 @@ def too_old(names, day):
 
 
 def made_together(club):
-    """Makes a copy of the club, and an archive of the files next to the club from the same time. Tries again if a file next to the club has changed
+    """Makes a copy of the club and, from the same time, an archive of the files next to the club. Tries again if a file next to the club has changed
     in the meantime."""
     for _ in range(TRIES):
         beside = beside_of(club)

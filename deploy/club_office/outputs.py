@@ -1,5 +1,5 @@
-"""Makes a list of a key's bookings in the form that the page reads, the page's list of the club, and the board's page. The desk's side makes all
-three from a copy of the club."""
+"""Makes three outputs: the list of a key's bookings in the form that the page reads, the page's list of the club, and the board's page. The desk's
+side makes all three from a copy of the club."""
 
 import datetime
 import os
@@ -88,7 +88,7 @@ def page_again(club):
 
 
 def print_report(club, words):
-    """Prints the board's page of a year."""
+    """Prints the board's page for a year."""
     today = datetime.date.today()
     with snapshot(club) as db:
         year = words.year or today.year

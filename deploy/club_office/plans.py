@@ -330,8 +330,8 @@ def plan_new_year(db, words, now, club):
 
 
 def carry_forward(db, before):
-    """Returns rows that keep the cost of the removed bookings in the sums of spent points. Each row is a cancelled booking without a refund, under
-    one of the highest free numbers of its key."""
+    """Returns rows that replace the removed bookings, so that the sums of spent points stay the same. Each row is a cancelled booking without a
+    refund, under one of the highest free numbers of its key."""
     rows = []
     for key, cost, facility in db.execute(
         "SELECT pass_key, sum(charge - refund), min(facility) FROM bookings WHERE day < ? GROUP BY pass_key HAVING sum(charge - refund) > 0"

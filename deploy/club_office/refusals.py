@@ -45,15 +45,15 @@ REFUSALS = {
     "no club file": ("there is no file {path}; `office {club} new` makes it", "es gibt keine Datei {path}; `office {club} new` legt sie an"),
     "exists": ("the file {path} already exists", "die Datei {path} gibt es schon"),
     "old year": (
-        "{club} is an old year: only lists, sheets and records are possible",
+        "{club} is an old year: `office` can only print its lists, sheets and records",
         "{club} ist ein altes Jahr: davon gibt es nur Listen, Tageslisten und Buchungslisten",
     ),
-    "clerk's side": ("{command} runs only on the clerk's side", "{command} ist ein Befehl der anderen Seite"),
+    "clerk's side": ("{command} doesn't run with --desk or --own", "{command} läuft nicht mit --desk oder --own"),
     "root from input": (
-        "{command}: the desk's side reads the root from standard input, and writes no file",
-        "{command}: diese Seite liest die Wurzel von der Standardeingabe und schreibt keine Datei",
+        "{command}: with --desk or --own, give --root-stdin, without ROOT or --to",
+        "{command}: gib mit --desk oder --own auch --root-stdin an, ohne WURZEL und --to",
     ),
-    "club unread": ("the club can't be read", "die Datei des Vereins lässt sich nicht lesen"),
+    "club unread": ("the club's file can't be read", "die Datei des Vereins lässt sich nicht lesen"),
     "no pages": (
         "the configuration of {club} needs lines such as PAGES=/var/www/{club} and ZONE_NAME=Europe/Berlin",
         "die Einrichtung von {club} braucht Zeilen wie PAGES=/var/www/{club} und ZONE_NAME=Europe/Berlin",
@@ -78,8 +78,10 @@ REFUSALS = {
         "{member} und die Schlüssel haben noch die alten Namen: {why}. Gib den Befehl noch einmal ein",
     ),
     "debited otherwise": (
-        "the credits of {member} have changed since this was interrupted on {moment}: see `log {member}`. A repeated command starts from the beginning",
-        "{member} hat andere Gutschriften, seit das am {moment} unterbrochen wurde: sieh in `log {member}` nach. Gibst du den Befehl noch einmal ein, beginnt er von vorn",
+        "the credits of {member} have changed since this `debit` was interrupted on {moment}: see `log {member}`."
+        " If you repeat the command, it starts from the beginning",
+        "{member} hat andere Gutschriften, seit dieses `debit` am {moment} unterbrochen wurde: sieh in `log {member}` nach."
+        " Gibst du den Befehl noch einmal ein, beginnt er von vorn",
     ),
     "order failed": ("{order}: status {status}", "{order}: Status {status}"),
     "journal unread": ("the journal can't be read: {fault}", "das Journal lässt sich nicht lesen: {fault}"),
@@ -92,15 +94,15 @@ REFUSALS = {
     "faults": ("{count} faults", "{count} Fehler"),
     # Corrections.
     "changed since": (
-        "the club has changed since this was shown; nothing was done. Repeat the command",
-        "beim Verein hat sich etwas geändert, seit das gezeigt wurde; nichts getan. Gib den Befehl noch einmal ein",
+        "the club has changed since the planned changes were shown; nothing was done. Repeat the command",
+        "beim Verein hat sich etwas geändert, seit die geplanten Änderungen gezeigt wurden; nichts getan. Gib den Befehl noch einmal ein",
     ),
     "file taken": (
         "another program has used {path} for {seconds} seconds; nothing changed. {said}",
         "ein anderes Programm benutzt {path} seit {seconds} Sekunden; nichts geändert. {said}",
     ),
     "other rows": ("{done} rows would change instead of {rows}; nothing changed", "{done} Zeilen statt {rows} würden sich ändern; nichts geändert"),
-    "other sums": ("the sums would change; nothing changed", "die Summen würden sich ändern; nichts geändert"),
+    "other sums": ("this correction would change the club's sums; nothing changed", "die Summen des Vereins würden sich ändern; nichts geändert"),
     "balance is": ("the balance of {member} is {balance}", "{member} hat {balance} Punkte"),
     "nothing to set": (
         "set-facility: nothing to set: give --price, --places or --hours",
@@ -116,11 +118,11 @@ REFUSALS = {
     "booking unknown": ("{key} has no booking {number}", "Buchung {number} von {key} gibt es nicht"),
     "opens then": ("{facility} is open from {opens} to {shuts}", "{facility} ist von {opens} bis {shuts} Uhr offen"),
     "all closed": ("all these slots are already closed", "alle diese Zeiten sind schon gesperrt"),
-    "no such weekday": ("none of these days falls on that weekday", "keiner dieser Tage fällt auf diesen Wochentag"),
+    "no such weekday": ("none of the given days falls on the given weekday", "keiner dieser Tage fällt auf diesen Wochentag"),
     "nobody booked": ("nobody has booked these slots", "diese Zeiten hat niemand gebucht"),
     "is to come": ("{day} is in the future", "{day} liegt in der Zukunft"),
     "nothing carried": (
-        "the file has nothing from before {day} except what was carried forward",
+        "the file has nothing from before {day}, except points that were carried forward",
         "aus der Zeit vor dem {day} hat die Datei nur noch, was vorgetragen wurde",
     ),
     "no undo": (
@@ -128,12 +130,15 @@ REFUSALS = {
         "es gibt keine Korrektur, die sich zurücknehmen lässt; `office {club} copies` zeigt die Kopien von vorher",
     ),
     "touched since": (
-        "{row} has changed since; `office {club} copies` lists the copy from before the correction",
+        "{row} has changed since the correction; `office {club} copies` lists the copy from before the correction",
         "jemand hat {row} seither geändert; `office {club} copies` zeigt die Kopie von vorher",
     ),
     # Copies.
     "back-up unsound": ("the copy of the club is damaged; nothing changed", "die Kopie des Vereins ist beschädigt; nichts geändert"),
-    "log uncopied": ("the log can't be copied into the file; nothing changed", "das Log lässt sich nicht in die Datei übernehmen; nichts geändert"),
+    "log uncopied": (
+        "SQLite's log can't be copied into the club's file; nothing changed",
+        "das Log von SQLite lässt sich nicht in die Datei des Vereins übernehmen; nichts geändert",
+    ),
     "uncopied": ("{path} can't be copied to {to}; nothing changed", "{path} lässt sich nicht nach {to} kopieren; nichts geändert"),
     "unkept": ("{path} can't be copied; nothing changed", "{path} lässt sich nicht kopieren; nichts geändert"),
     "no copy": ("there is no copy {called}; `office {club} copies` lists the copies", "es gibt keine Kopie {called}; `office {club} copies` zeigt sie"),
@@ -141,16 +146,16 @@ REFUSALS = {
     "copy unopened": ("clubdesk can't open the copy {called}: {said}", "clubdesk kann die Kopie {called} nicht öffnen: {said}"),
     "copy unsound": ("the copy {called} has a fault: {fault}", "die Kopie {called} hat einen Fehler: {fault}"),
     "no copy made": ("no copy can be made: {said}", "es lässt sich keine Kopie machen: {said}"),
-    "not mounted": ("{place}: {fault}: is it mounted?", "{place}: {fault}: ist der Ordner eingehängt?"),
+    "not mounted": ("{place}: {fault}: is the folder mounted?", "{place}: {fault}: ist der Ordner eingehängt?"),
     "own disk": (
-        "{place} is on the disk of the club or of the system: is it mounted?",
+        "{place} is on the disk of the club or of the system: is the folder mounted?",
         "{place} ist auf der Platte des Vereins oder des Systems: ist der Ordner eingehängt?",
     ),
     "no answer there": ("{place}: no answer within {seconds} seconds", "{place}: keine Antwort in {seconds} Sekunden"),
     "said there": ("{place}: {said}", "{place}: {said}"),
     "not asked": ("{fault}; the copies there aren't listed", "{fault}; die Kopien von dort fehlen hier"),
     "file unread": (
-        "the club's file can't be read, and is kept next to the new one if it exists: {fault}",
+        "the club's file can't be read, and is kept next to the new one if the old file exists: {fault}",
         "die Datei des Vereins lässt sich nicht lesen und bleibt, falls es sie gibt, neben der neuen: {fault}",
     ),
     "file unsound": (
@@ -161,10 +166,10 @@ REFUSALS = {
     "place without copy": ("{place} has no copy {called}", "{place} hat keine Kopie {called}"),
     "place without tested": ("{place} has no tested copy", "{place} hat keine geprüfte Kopie"),
     "place without conf": ("{place} has only copies, and no configuration", "{place} hat nur die Kopien, keine Einrichtung"),
-    "place of several": ("{place} doesn't have the configuration of exactly one club", "{place} hat nicht die Einrichtung genau eines Vereins"),
+    "place of several": ("{place} must have the configuration of exactly one club", "{place} muss die Einrichtung genau eines Vereins haben"),
     "other copy": ("{why}; --copy chooses another copy", "{why}; --copy wählt eine andere Kopie"),
     "beside unread": (
-        "the archive of the files next to the club can't be read: {fault}",
+        "the archive with the club's other files can't be read: {fault}",
         "das Archiv der Dateien neben dem Verein lässt sich nicht lesen: {fault}",
     ),
     # Refusals about passes, and about the clerk's files.
@@ -234,15 +239,15 @@ REFUSALS = {
     "no person": ("standard input has no personal data", "in der Standardeingabe sind keine Angaben zur Person"),
     "desk silent": ("the desk on port {port} doesn't answer: {fault}", "der Server an Port {port} antwortet nicht: {fault}"),
     "desk says": ("the desk says: {text}", "der Server sagt: {text}"),
-    "no office key": ("no name is free for an office key of {member}", "für einen Büroschlüssel von {member} ist kein Name frei"),
+    "no office key": ("no name is free for the key that the office needs to book for {member}", "für einen Büroschlüssel von {member} ist kein Name frei"),
     "booked already": (
         "{slot} is already booked for {member}: {booking}; --again books once more",
         "{slot} ist für {member} schon gebucht: {booking}; --again bucht noch einmal",
     ),
     "no booking of": ("{member} has no booking of {slot}", "{member} hat keine Buchung von {slot}"),
     "several bookings": (
-        "{member} has several bookings of {slot}: {bookings}; --number says which",
-        "{member} hat mehrere Buchungen von {slot}: {bookings}; --number sagt, welche",
+        "{member} has several bookings of {slot}: {bookings}; --number chooses one",
+        "{member} hat mehrere Buchungen von {slot}: {bookings}; --number wählt eine",
     ),
     "key revoked": (
         "the key {key} is revoked: `office {club} cancel {key} {number}` cancels the booking with a full refund",
@@ -255,8 +260,9 @@ REFUSALS = {
     ),
     "begun otherwise": ("{label} was started with {points} points", "{label} wurde mit {points} Punkten begonnen"),
     "credited otherwise": (
-        "the credits of {member} have changed since {label} was interrupted: see `log {member}`, and correct the line in {path}",
-        "{member} hat andere Gutschriften, seit {label} unterbrochen wurde: sieh in `log {member}` nach und berichtige die Zeile in {path}",
+        "the credits of {member} have changed since {label} was interrupted: see `log {member}`, and correct the last line with `{label} {member}` in {path}",
+        "{member} hat andere Gutschriften, seit {label} unterbrochen wurde: sieh in `log {member}` nach und berichtige die letzte Zeile mit `{label} {member}`"
+        " in {path}",
     ),
     "not credited": (
         "crediting {member} failed: status {status}; fix the problem, and repeat the command",
@@ -272,14 +278,14 @@ REFUSALS = {
     ),
     "no passes given": ("standard input has no passes", "in der Standardeingabe sind keine Pässe"),
     "no one-line pass": ("the file has no one-line pass", "darin ist kein Pass in einer Zeile"),
-    "no key's pass": ("the file has no pass of a key", "darin ist kein Pass eines Schlüssels"),
-    "pass of another": ("the file has a pass of the key {key}", "darin ist ein Pass von {key}"),
+    "no key's pass": ("the pass in the file names no key", "darin ist kein Pass eines Schlüssels"),
+    "pass of another": ("the file has a pass of another key, {key}", "darin ist der Pass eines anderen Schlüssels, {key}"),
     "no such key": ("the club has no key {key}, or it is revoked", "der Verein hat keinen Schlüssel {key}, oder er ist widerrufen"),
-    "no zone name": ("{zone} is not the name of a zone", "{zone} ist kein Name einer Zone"),
-    "no zone": ("there is no zone {zone} in {path}", "es gibt keine Zone {zone} in {path}"),
+    "no zone name": ("{zone} is not the name of a time zone", "{zone} ist kein Name einer Zeitzone"),
+    "no zone": ("there is no time zone {zone} in {path}", "es gibt keine Zeitzone {zone} in {path}"),
     "other zone": (
-        "the rule of {zone} is {found}, but the server's rule is {rule}: one of the two zones is wrong",
-        "die Regel von {zone} ist {found}, aber die des Servers ist {rule}: eine der beiden Zonen ist falsch",
+        "the rule of {zone} is {found}, but the server's rule is {rule}: one of the two time zones is wrong",
+        "die Regel von {zone} ist {found}, aber die des Servers ist {rule}: eine der beiden Zeitzonen ist falsch",
     ),
     "no file": ("there is no file {path}", "es gibt keine Datei {path}"),
     "no UTF-8": (
@@ -289,8 +295,8 @@ REFUSALS = {
     "club without": ("the club has no facility {name}", "der Verein hat keine Anlage {name}"),
     "titled already": ("{name} already has a title, in line {line}", "{name} hat schon einen Titel, in Zeile {line}"),
     "no sentence": (
-        "the sentence is missing, has an unprintable character, or has more than {most} characters",
-        "der Satz fehlt, hat ein Zeichen, das sich nicht drucken lässt, oder mehr als {most} Zeichen",
+        "the sentence after | is missing, has an unprintable character, or has more than {most} characters",
+        "der Satz nach | fehlt, hat ein Zeichen, das sich nicht drucken lässt, oder mehr als {most} Zeichen",
     ),
     "no title": ("{name} has no title", "{name} hat keinen Titel"),
     "title unprinted": ("the title has an unprintable character", "der Titel hat ein Zeichen, das sich nicht drucken lässt"),

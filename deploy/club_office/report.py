@@ -77,7 +77,7 @@ def number_of(day):
 
 
 def use_of(club, db, first, last):
-    """Returns the use in a span of days. Each day is in the club's file, or in the file of an old year."""
+    """Returns the club's use in a span of days: the bookings and the offered slots. Each day is in the club's file, or in the file of an old year."""
     use, before, files = Use(first, last), datetime.date.min, [(datetime.date.fromisoformat(day), path) for day, path in old_files(club.file)]
     use.add(db, files[-1][0] if files else before, datetime.date.max)
     for until, path in files:
@@ -233,7 +233,7 @@ def page(title, use, before, today, has_names):
 
 
 def report_of(club, db, year, today, has_names):
-    """Returns the page of a year, compared with the same days of the year before. In the current year, today is the last day."""
+    """Returns the page for a year. The page compares the year with the same days of the year before. In the current year, today is the last day."""
     last = min(datetime.date(year, 12, 31), today)
     before = datetime.date(year - 1, last.month, 28 if (last.month, last.day) == (2, 29) else last.day)
     use, then = use_of(club, db, datetime.date(year, 1, 1), last), use_of(club, db, datetime.date(year - 1, 1, 1), before)

@@ -204,8 +204,8 @@ def preview_of_copy(club, words):
 
 
 def put_in_place(club, words, lines, shown, lost):
-    """Replaces the club with a copy. If the changes differ from the shown changes, doesn't change the club. Adds the changes to `lines`, and the
-    season's credits that the restore takes away to `lost`."""
+    """Replaces the club with a copy. If the changes differ from the shown changes, doesn't change the club. Adds the changes to `lines`. Adds to
+    `lost` the season's credits that the restore takes away."""
     try:
         with copy_opened(club, words.copy) as copy:
             lost |= points_lost(club, copy)

@@ -5,7 +5,7 @@ from club_office.faults import STORAGE, Fault, fault
 from club_office.values import name, number
 
 MOST_SPARES = 9
-PASSES = "passes"  # the folder in which letters look for passes
+PASSES = "passes"  # the folder where the command `letters` looks for passes
 LONGEST_NAME = 24
 
 

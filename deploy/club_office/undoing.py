@@ -62,7 +62,7 @@ def row_of(db, table, key):
 
 
 def rows_edited(db, edits):
-    """Returns the rows of a copy that the edits of commands change, in the same form as `rows_changed`. For a slot that has no row yet, the rowid is
+    """Returns the rows that the commands' edits change in a copy, in the same form as `rows_changed`. For a slot that has no row yet, the rowid is
     None."""
     found = {}
     for it in edits:
@@ -180,8 +180,8 @@ class Record:
 
 
 def with_sums(row, cancelled):
-    """Returns the row with corrected old sums, because members may have booked between the two runs. The old sums are the current sums plus the sums
-    of the cancelled bookings."""
+    """Returns the row with corrected old sums, because members may have booked since the interrupted run. The old sums are the current sums plus the
+    sums of the cancelled bookings."""
     table, rowid, was, is_now = row
     if table == "slots":
         persons = sum(it[5] + 1 for it in cancelled if it[2:5] == is_now[:3])
@@ -199,7 +199,7 @@ def row_place(row):
 
 
 def rows_of_member(db, member):
-    """Returns the rows that contain the name of a member or of one of its keys, by table and rowid."""
+    """Returns the rows that contain the name of a member or of one of the member's keys, by table and rowid."""
     of_keys = "pass_key IN (SELECT name FROM keys WHERE member = ?)"
     tables = (("members", "name = ?"), ("keys", "member = ?"), ("bookings", of_keys), ("old_roots", of_keys))
     return {

@@ -7,8 +7,8 @@ planted in the rules.
 The test compares replies byte for byte. The test compares rows and totals each time a server has ended. The rules in Python come only from the pages
 on the desk, passes and caveats, and not from the desk's code. A seed determines the requests. The passes have three forms, and are signed with
 current, older and unknown roots. A root is the secret of a key. Some passes are truncated, or have one changed byte. Other passes have caveats with
-values at a limit. Some passes have a third-party caveat. Heads and bodies vary in the case of letters, line ends, lengths, fields and paths. The test
-runs many servers one after the other, each with its clock at a random moment. Before each server starts, the test runs commands of the office.
+values at a limit. Some passes have a third-party caveat. Heads and bodies vary in letter case, line ends, lengths, fields and paths. The test runs
+many servers one after the other, each with its clock at a random moment. Before each server starts, the test runs commands of the office.
 
     tests/desk/hostile.py [--seed N] [--count M] [--plant FAULT | --self-test]
 """
@@ -277,7 +277,7 @@ def begin(world):
 
 
 def run(seed, count, desk, plant=None):
-    """Sends a number of requests. After every 10,000 requests, continues with a new club."""
+    """Sends `count` requests. After every 10,000 requests, continues with a new club."""
     with tempfile.TemporaryDirectory(dir=programs.IN_MEMORY) as folder:
         for done in programs.paced(count, AT_ONE_SERVER, "requests"):
             if done % AT_ONE_CLUB == 0:

@@ -12,7 +12,7 @@ import desk
 # request.
 FAILURES = ["silent", "answer 502 <html>bad gateway</html>", "answer 504 <html>gateway timeout</html>", "answer 200 <html>a page</html>",
             'answer 500 {"error":"proxy"}', 'answer 503 {"fault":22,"text":"unavailable"}', "swallowed", "head-cut", "body-cut"]
-CUT_AT = {"swallowed": 0, "head-cut": 40, "body-cut": -5}  # of the desk's reply
+CUT_AT = {"swallowed": 0, "head-cut": 40, "body-cut": -5}  # where the desk's reply is cut
 
 
 def request_from(client):

@@ -223,7 +223,7 @@ class Book:
         return None
 
     def declared(self, module, name):
-        """Returns the type, the variant or the constant of the code that a name in a generated module refers to."""
+        """Returns the item of the code (a type, a variant or a constant) that a name in a generated module refers to."""
         crate, _, place = module.partition(".specs.declared.")
         parts = place.split(".")
         start = next((at for at, part in enumerate(parts) if part[0].isupper()), len(parts))

@@ -23,7 +23,7 @@ SCENARIOS = "scenarios"
 # An edit's line with the crate and the name of a test. If no contract refuses the edit, this test must fail.
 TEST = re.compile(r"^test: (\w+) ([\w:]+)$", re.MULTILINE)
 # The message of the compiler, rattle, about a goal with a counterexample. The message is on the line that reports the goal, or on the line that
-# reports a missing answer, which is a handwritten proof.
+# reports a missing answer. An answer is a handwritten proof.
 FALSE = re.compile(r"the facts known there allow values at which this goal is false|may be false: the known facts allow")
 # The messages of rattle about a proof file with an unknown name, and about proofs that depend on this file.
 NAMES = re.compile(r"has no field|is not in scope|has no `|was not admitted|no item `")
@@ -45,7 +45,7 @@ class NoVerdict(Exception):
 
 
 class Edit(NamedTuple):
-    """A mutant: its name, the folder or file of the crate that contains it, and its text."""
+    """A mutant: its name, the crate's folder or file that contains it, and its text."""
     name: str
     place: str
     text: str
@@ -177,7 +177,7 @@ def without_answers(crate, lines):
 
 
 def open_goal(lines, gone):
-    """Returns the line of a goal that is open for another reason than a missing name. An answer is a handwritten proof of a goal. Either the goal's
+    """Returns the line of a goal that is open for a reason other than a missing name. An answer is a handwritten proof of a goal. Either the goal's
     answer fails, or the goal has no answer although no answer was removed from its file."""
     failing = {line for line, path, _, is_error, is_name in faults_in(lines) if path.startswith("proofs/") and is_error and not is_name}
     return next((line for line in lines if line in failing or (wanted := WANTED.search(line)) and wanted[1] not in gone), None)

@@ -357,7 +357,7 @@ class Reader:
         self.asked([it for line in below for it in self.pieces(line)], columns[1:])
 
     def pieces(self, line):
-        """Yields the pieces of a request's line of bytes. The line names the holder of a pass between < and >."""
+        """Yields the pieces of a request's line of bytes. Between < and >, the line names the holder of a pass."""
         for plain, holder in re.findall(r"([^<]+)|<([^>]*)>", line):
             yield self.repeated(plain) if plain else self.holder(holder)
 

@@ -115,7 +115,7 @@ def week():
     same("a price", rows("SELECT price, opens, places FROM facilities WHERE name = 'court-2'"), [(250, 7, 4)])
     task("quota of", ("Member", "bob"), ("Open", "7"), ("Shall", "y"))
     same("a quota", rows("SELECT quota FROM members WHERE name = 'mueller-bob'"), [(7,)])
-    for called, pairs, text in (("what a member has", [("Member", "karl")], "office club money baecker-karl"), ("balances of all", [], "mueller-bob"),
+    for called, pairs, text in (("what a member has", [("Member", "karl")], "office club money baecker-karl"), ("everyone's balances", [], "mueller-bob"),
                                 ("what is closed", [], str(day)), ("are the sums", [], "the stored totals match the sums"), ("who comes", [], "day  hour"),
                                 ("what was done", [("A word", "bob")], "set-quota mueller-bob 7"), ("the copies", [], "before a correction")):
         task(called, *pairs).has(called, text)
@@ -175,7 +175,7 @@ def calls():
     task("a lost list", ("Member", "bob"), ("none: ", "2")).has("a lost list", "record of mueller-bob-office")
     task("another key", ("Member", "bob"), ("Do it", ENTER)).has("one more key", "the pass is in the file passes/mueller-bob-2", "are in letter-mueller-bob-2.html")
     task("the sheet", ("Day", "+2")).has("a sheet", "Day sheet", "mueller-bob-office")
-    task("who has booked a day", ("Day", "+2")).has("a day", "mueller-bob-office")
+    task("a day's bookings", ("Day", "+2")).has("a day", "mueller-bob-office")
     task("who has booked a facility", ("Court", "court-2")).has("a court", "mueller-bob-office")
     task("a member leaves", ("Member", "karl"), ("Shall", "y")).has("a member leaves", "renames member baecker-karl to 1")
 
@@ -199,12 +199,12 @@ def season_start():
     task("close slots each week", ("First", "+7"), ("Last", "+28"), ("Hours", "18-20"), ("The reason", "Training"), ("Which", "court-1"), ("Shall", "y")).has(
         "training", f"office club close {first}..{TODAY + datetime.timedelta(28)} 18-20 court-1 --weekday {first:%A} --why Training".lower().replace("training", "Training"), "in all: 8 slots closed")
     task("a new facility", ("Short", "court-3"), ("Kind", "court"), ("Places", "2"), ("Points", "100"), ("Opening", "8-22"), ("Do it", ENTER)).has("a new court", "office club add-facility court-3 court 2 100 8 22")
-    task("the page's list").has("the page's list", "club.json: done")
-    task("the board's page").has("the board's page", f"report-{TODAY.year}.html")
+    task("the booking page's list").has("the page's list", "club.json: done")
+    task("a report for the board").has("the board's page", f"report-{TODAY.year}.html")
     done("close", str(TODAY - datetime.timedelta(3)), "10", "court-3", "--yes")
     task("a new year", ("Shall", "n")).has("a new year that isn't confirmed", "not confirmed")
     task("a new year", ("Shall", "y")).has("a new year", "office club new-year", "copies the whole file to", "done")
-    task("put a copy", ("Number", "1"), ("Shall", "n")).has("a restore that isn't confirmed", "not confirmed")
+    task("restore the club", ("Number", "1"), ("Shall", "n")).has("a restore that isn't confirmed", "not confirmed")
     task("all facilities").has("all courts", "court-3")
 
 

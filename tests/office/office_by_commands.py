@@ -286,7 +286,7 @@ def credited_meanwhile(correction):
     words, _ = correction.next()
     killed("3 before", [*words, "--yes"])
     done("credit", "zoe", "7")
-    refused([*words, "--yes"], 1, "refused: the credits of zoe have changed since this was interrupted")
+    refused([*words, "--yes"], 1, "refused: the credits of zoe have changed since this `debit` was interrupted")
     before = rows(correction.sql)[0][0]
     done(*words, "--yes")
     same(f"{words} starts over", rows(correction.sql), [(before - int(words[-1]),)])

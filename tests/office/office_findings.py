@@ -99,8 +99,8 @@ def orders_that_cannot_be_read():
 
 
 def programs_of_a_clerk():
-    """A clerk can't choose the programs or folders of the office's part that runs as the desk's user. This holds even if sudo passes on
-    the clerk's environment."""
+    """A part of the office runs as the desk's user. A clerk can't choose the programs or folders of this part, even if sudo passes on the
+    clerk's environment."""
     home, lax = Path("/home/anna"), Path("/etc/sudoers.d/zz-lax")
     (home / "bin").mkdir()
     (home / "conf").mkdir()

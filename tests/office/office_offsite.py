@@ -226,8 +226,8 @@ def restored_from_there():
     same("a booking after the copy", book(15, 15)[0], 200)
     done("debit", "amy", "7", "--yes")
     shown = done("restore", name, "--yes").splitlines()
-    same("the changes, and whom to tell", [it for it in shown if it[:5] in ("loses", "done", "To te", "    A")], [
-        f"loses the booking court-1 {DAY} 15:00, 1 person, 1 points: amy-1 15, amy", "done", "To tell:", "    Amy Möller  amy@example.org  +49 1"])
+    same("the changes, and whom to tell", [it for it in shown if it[:5] in ("loses", "done", "Membe", "    A")], [
+        f"loses the booking court-1 {DAY} 15:00, 1 person, 1 points: amy-1 15, amy", "done", "Members to inform:", "    Amy Möller  amy@example.org  +49 1"])
     same("the club of the copy", rows_now(), wanted)
     soon(60, lambda: rows_of(FOLDER / copies()[-1]) == rows_now())
     broken = FOLDER / copies()[0]
@@ -286,8 +286,8 @@ def nobody_looks(keeper):
 
 
 def kept_by_rule():
-    """The test adds files with the names of copies from random moments of the last 420 days. The service keeps exactly the copies that the test's own
-    rule selects."""
+    """The test adds files with names like those of copies, for random moments in the last 420 days. The service keeps exactly the copies that the
+    test's own rule selects."""
     chance, now, made = random.Random(7), datetime.datetime.now(datetime.timezone.utc), set(copies())
     for back in range(0, 420):
         for _ in range(chance.choice((0, 1, 3)) if back < 20 else chance.choice((0, 0, 0, 1))):
@@ -374,9 +374,9 @@ def mounted():
     place.mkdir()
     configure(OFFSITE=place)
     status, _, errors = once()
-    same("a folder on the club's own disk", (status, "is it mounted?" in errors), (5, True))
+    same("a folder on the club's own disk", (status, "is the folder mounted?" in errors), (5, True))
     configure(OFFSITE="/var/lib/none")
-    same("a missing folder", (once()[0], "is it mounted?" in once()[2]), (5, True))
+    same("a missing folder", (once()[0], "is the folder mounted?" in once()[2]), (5, True))
     run("mount", "-t", "tmpfs", "-o", "uid=0,mode=777", "tmpfs", place)
     configure(OFFSITE=place)
     same("a mounted folder", once()[0], 0)

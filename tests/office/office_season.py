@@ -128,7 +128,7 @@ def in_use_of_persons(server, lines_of, day):
         'moeller-kaethe,800,5,1,2,"Möller, Käthe"', 'oez-ali,1000,5,0,2,"Öz, =Ali"', 'ray-bob,1000,5,0,1,"Ray, Bob"'])
     same("the file", mode(HOME / "club-people.csv"), "clubdesk 100600")
     shown = done("close", str(day), "18", "court-1", "--yes").splitlines()
-    same("whom to tell", shown[-3:], ["done", "To tell:", "    Möller, Käthe  k.m@example.org  +49 171 22"])
+    same("whom to tell", shown[-3:], ["done", "Members to inform:", "    Möller, Käthe  k.m@example.org  +49 171 22"])
     mailer = ROOM / "sendmail"
     mailer.write_text(f"#!/bin/sh\ncat >>{ROOM}/mails\n")
     mailer.chmod(0o755)
@@ -152,7 +152,8 @@ def in_use_of_persons(server, lines_of, day):
     same("no personal data in a copy", [it.name for it in (HOME / "club-before").iterdir() if b"example.org" in it.read_bytes()], [])
     copy = [it for it in lines("copies", "--csv") if "-close" in it][-1].split(",")[0]
     shown = done("restore", copy, "--yes").splitlines()
-    same("whom to tell after a restore", shown[shown.index("done"):], ["done", "To tell:", "    Möller, Käthe  k.m@example.org  +49 171 22", "    Bob Ray  b@example.org  +1"])
+    same("whom to tell after a restore", shown[shown.index("done"):], [
+        "done", "Members to inform:", "    Möller, Käthe  k.m@example.org  +49 171 22", "    Bob Ray  b@example.org  +1"])
     done("leave", "ray-bob", "--yes")
     same("no personal data of a former member", "ray-bob" in (HOME / "club-people.csv").read_text(encoding="utf-8"), False)
 
@@ -213,7 +214,7 @@ def season(pages, day):
     copy = [it for it in lines("copies", "--csv") if "-reopen-slot" in it][-1].split(",")[0]
     done("restore", copy, "--yes")
     same("a restore makes the page's list again", json.loads((pages / "club.json").read_text(encoding="utf-8"))["closures"], closures)
-    refused(["close", f"{first}..{first}", "9", "boat-1", "--weekday", "wed", "--yes"], 1, "none of these days falls on that weekday")
+    refused(["close", f"{first}..{first}", "9", "boat-1", "--weekday", "wed", "--yes"], 1, "none of the given days falls on the given weekday")
     for wrong in ("2026-12-09..2026-12-01", "2026-01-01..2028-01-01", "2026-12-01.."):
         refused(["close", wrong, "9", "boat-1", "--yes"], 3, "bad value")
     text = run_as("anna", "cat", "season/oez-ali-1")[1]
@@ -291,8 +292,8 @@ def old_years(server):
     same("the board's page of a year is the same after new-year", second == first, True)
     lightness = [int(it) for it in re.findall(r"hsl\(156 59% ([0-9]+)%\)", first)]
     same("the heat map is light enough for dark letters", (len(lightness) > 100, min(lightness) >= 40, "#fff" in first.partition("</style>")[2]), (True, True, False))
-    same("its numbers", re.findall("<tr><td>(bookings|points kept|points refunded|slots used|of them cancelled)</td><td>([0-9,]+)</td>", first),
-         [("bookings", "2"), ("of them cancelled", "1"), ("slots used", "1"), ("points refunded", "100"), ("points kept", "500")])
+    same("its numbers", re.findall("<tr><td>(bookings|points used|points refunded|slots used|cancelled bookings)</td><td>([0-9,]+)</td>", first),
+         [("bookings", "2"), ("cancelled bookings", "1"), ("slots used", "1"), ("points refunded", "100"), ("points used", "500")])
     done("report", str(year - 1), "--no-names", "--to", "nobody.html")
     same("its names", ["oez-ali" in run_as("anna", "cat", it)[1] for it in ("after.html", "nobody.html")], [True, False])
     old = f"club@{year - 1}"
@@ -300,6 +301,6 @@ def old_years(server):
          [[str(datetime.date(year - 1, 5, 4)), "10", "court-1", "oez-ali"], [str(datetime.date(year - 1, 5, 11)), "10", "court-1", "oez-ali"]])
     same("its sheet", office("sheet", f"{year - 1}-05-04", club=old)[1].splitlines()[1].split()[:2], ["court-1", "10:00"])
     for words in (["credit", "oez-ali", "5"], ["debit", "oez-ali", "5", "--yes"], ["add-key", "x-1", "oez-ali"], ["new"], ["import", "season.csv"], ["credit-all", "5", "--as", "x", "--yes"]):
-        same(f"{old} {words}", office(*words, club=old)[::2], (1, f"refused: {old} is an old year: only lists, sheets and records are possible\n"))
+        same(f"{old} {words}", office(*words, club=old)[::2], (1, f"refused: {old} is an old year: `office` can only print its lists, sheets and records\n"))
     same("no such year", office("members", club="club@2099")[0], 1)
     same("an invalid year", office("members", club="club@x")[0], 3)

@@ -1,5 +1,5 @@
-"""Compares the copies that the script OLD_COPIES keeps with those that a rule in Python selects, on each day of three years: jobs_hold.py OLD_COPIES
-FOLDER. jobs_hold.sh runs this program.
+"""On each day of three years, compares the copies that the script OLD_COPIES keeps and the copies that a rule in Python selects: jobs_hold.py
+OLD_COPIES FOLDER. jobs_hold.sh runs this program.
 
 Each day, the program creates at most two empty files with the names of copies. Then the program removes the files that OLD_COPIES prints."""
 

@@ -281,10 +281,12 @@ holds 'a wrong credit' office anna credit amy 500
 same 'its correction' 'balance of amy changes from 10470 to 9970 done' "$(office anna debit amy 500 --yes | xargs)"
 holds 'a price' office anna set-facility court-1 --price 12 --yes
 same 'the price' 'price 12' "$(office anna show-slot court-1 "$week" 10 | grep price)"
-same 'a tournament' "cancels court-1 $week 10:00, 2 persons, 20 points back: amy-1 1, amy closes court-1 $week 10:00 in all: 1 booking cancelled, 20 points back to amy, 1 slot closed done To tell: Amy" \
+ending='1 booking cancelled, 20 points back to amy, 1 slot closed done Members to inform: Amy'
+same 'a tournament' "cancels court-1 $week 10:00, 2 persons, 20 points back: amy-1 1, amy closes court-1 $week 10:00 in all: $ending" \
     "$(office anna close "$week" 10-11 court-1 --yes | xargs)"
 same 'its slot' '{"fault":17,"text":"slot closed"}' "$(asks passes/amy-1 PUT "slots/court-1/$week/10/bookings/3" '{"guests":0}')"
-same 'rain' "cancels court-1 $week 12:00, 1 person, 10 points back: mueller-bob-1 1, mueller-bob done To tell: Müller, Bob" "$(office anna rain "$week" court-1 12 --yes | xargs)"
+same 'rain' "cancels court-1 $week 12:00, 1 person, 10 points back: mueller-bob-1 1, mueller-bob done Members to inform: Müller, Bob" \
+    "$(office anna rain "$week" court-1 12 --yes | xargs)"
 holds 'a lost pass' office anna rotate-key amy-1 2000-01-01T00:00 --to amy-1-new
 same 'the lost pass' '{"fault":9,"text":"not verified"}' "$(asks passes/amy-1 GET account)"
 same 'the new pass' '{"member":"amy","balance":9990,"quota":5,"open":1,"spent":10}' "$(asks amy-1-new GET account)"

@@ -47,8 +47,9 @@ def everything():
 
 
 def refused():
-    for words, line in ((["--zone", "Nowhere/None"], "there is no zone"), (["--domain", "desk"], "is not an address"), (["--clerk", "Anna;"], "is not a user name"),
-                        (["--mail", "it"], "is not a mail address"), (["--title", "a\nb"], "is not a title"), (["--club", "../x"], "not the name of a club")):
+    for words, line in ((["--zone", "Nowhere/None"], "there is no time zone"), (["--domain", "desk"], "is not an address"),
+                        (["--clerk", "Anna;"], "is not a user name"), (["--mail", "it"], "is not a mail address"),
+                        (["--title", "a\nb"], "is not a title"), (["--club", "../x"], "not the name of a club")):
         status, _, errors = set_up(*words)
         same(f"{words}: refused", (status, line in errors), (1, True))
     same("no answer", set_up(line=["clubdesk-setup"])[0], 1)

@@ -26,8 +26,8 @@ def rotations(passes, front, between):
         check("The page doesn't know whether this slot is booked" in page.run("return byName('to-come').innerText"), "a booking in an unknown state")
         page.visit(f"#{new}", "isShown('day') && state.entries.every((each) => unfinished(each) === null && each.stopped === undefined)", "the new pass")
         check(same_record(page, "amy-son") == 1, "one booking")
-        # A booking without a reply waits while the member uses another key's pass. The page sends it again when the member returns
-    # to the booking's pass.
+        # A booking without a reply waits while the member uses another key's pass. When the member returns to the booking's pass, the page sends the
+        # request again.
         between.fates["PUT"] = ["silent"] * 100
         page.go(day(12))
         page.book("court-1", 10)
@@ -349,8 +349,9 @@ def letters(passes):
                                     ("amy-1", passes["amy-1"] + "\nmore", address), ("amy-1", passes["amy-1"], 'https://x"><b>')]:
         refused("^letter: ", letter, key, given=given, DESK=its_address)
     club_json = f"{TOP}/deploy/club_json"
-    for words, fault in [(["club", "Etc/GMT+9" if AHEAD != -9 else "Etc/GMT+8"], "one of the two zones is wrong"), (["club", "Nowhere/None"], "no zone"),
-                         (["club", "../passwd"], "not the name of a zone"), (["missing", ZONE], "there is no file")]:
+    for words, fault in [(["club", "Etc/GMT+9" if AHEAD != -9 else "Etc/GMT+8"], "one of the two time zones is wrong"),
+                         (["club", "Nowhere/None"], "no time zone"), (["club", "../passwd"], "not the name of a time zone"),
+                         (["missing", ZONE], "there is no file")]:
         refused(fault, club_json, *words, RULE=RULE)
     refused("there is no file missing", club_json, "club", ZONE, RULE=RULE, CLUB="Rowing & tennis", TITLES="missing")
     pathlib.Path("odd").write_text("court-9 Nowhere\n")

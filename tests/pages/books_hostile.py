@@ -96,8 +96,8 @@ def odd_fragments(passes, own):
 
 
 def nothing_by_itself(page, passes, between, server):
-    """Unless the member presses a button, no URL fragment, message, stored value or forged reply makes the page send a PUT or a DELETE, or change
-    stored data."""
+    """The page sends a PUT or a DELETE, or changes stored data, only if the member presses a button. URL fragments, messages, stored values and
+    forged replies never have this effect."""
     page.enter(passes["lists-1"], 31, "Keep it")
     own = page.booked("court-1", 9)
     page.visit("", "isShown('day') && dayIsThere() && allAnswered(1)", "a member's page")

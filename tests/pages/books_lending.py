@@ -232,9 +232,9 @@ def text_of(page, script):
 
 
 def lends_what_the_pass_opens(address):
-    """Lends a part of a pass in the trial club. A loan uses a spare pass of the same member that the desk accepts. If the desk accepts no spare pass,
-    the page tells the member so before it makes a loan. Under a pass with limits, the page offers only what the pass allows. A second press makes no
-    second loan. Without the club's list, the page still offers to cancel a booking and to invite somebody."""
+    """Lends a part of a pass in the trial club. A loan uses a spare pass that belongs to the same member and that the desk accepts. If the desk
+    accepts no spare pass, the page tells the member so before it makes a loan. Under a pass with limits, the page offers only what the pass allows. A
+    second press makes no second loan. Without the club's list, the page still offers to cancel a booking and to invite somebody."""
     def opens(page, end=""):
         opens_lend(page, address + end)
 
@@ -252,7 +252,8 @@ def lends_what_the_pass_opens(address):
             which = page.run("return shownText('lend-which')")
             check((wanted is None) == ("None of your spare passes can be used." in which and "can cancel your bookings" in which), "which spare pass is used", wanted, which)
             check(made(page)[0] == (wanted or "anna-1"), "the lent pass", wanted)
-        # Stores the spare pass that the office has replaced. Now the page learns only after the press that the desk refuses this pass.
+        # Stores the spare pass that the office has replaced. This time, the page learns of the desk's refusal only after the member presses the
+        # button.
         page.run("localStorage.removeItem('demo loans'); localStorage['demo spares'] = JSON.stringify([arguments[0]])", renewed)
         opens(page)
         page.run("unfit.clear(); showChosen()")
@@ -318,7 +319,8 @@ def says_what_it_keeps(address):
         check(page.run("return byName('loans').children.length") == 3, "three loans are listed", page.run("return shownText('loans')"))
         opens_lend(page, address)
         check(made(page)[0] == "anna-lend-1" and page.run("return byName('loans').children.length") == 1, "after a reload, as the note says")
-        # The page shows the points that the desk counts if the pass allows viewing the account. Otherwise, it shows the points spent in this browser.
+        # If the pass allows viewing the account, the page shows the points that the desk counts. Otherwise, it shows the points spent in this
+        # browser.
         page.run("byName('to-day').click(); showDay(daysLater(clubMoment().slice(0, 10), 20))")
         time.sleep(1)
         page.run("cellAt('court-1', 20).button.click(); byName('dialog').querySelector('.main').click()")

@@ -9,7 +9,7 @@ part also runs in Firefox and WebKitGTK. The test covers:
 - pages, tabs and browsers that the test closes at several points of a request
 - 200 bookings and cancellations while the test kills the server 30 times; afterwards the page's list must match the desk's table
 - odd passes, an odd or missing club.json, a browser that stores nothing, a wrong clock, and replies that another server sends
-- hostile links, lists, messages, stored values and replies; the page changes nothing unless the member presses a button
+- hostile links, lists, messages, stored values and replies; the page makes a change only if the member presses a button
 - lending a part of a pass: the page's sentence, the link, the QR code, the receiver's page, and the time that lending takes
 - several passes in one browser, and the page without a network
 - the transfer of the list of bookings to another device, and the comparison of this list with the points that the desk counts

@@ -1,12 +1,12 @@
 #!/usr/bin/env -S /usr/bin/python3 -B
 """Desks in C, Go and Python with SQLite's library reply as clubdesk does. The test compares their times with clubdesk's.
 
-The test measures with 100 and with 100,000 bookings in the file. In both cases, the test measures requests of a member with 10,000 bookings, and of a
-member without bookings. The desk beside_c/desk.c has its own server. The desk beside_go uses net/http and database/sql. The desk beside_flask.py uses
-Flask under gunicorn with one worker. All desks use the same file, the same transactions and pragmas, and the SQL statements of crates/club_tables.
-For each reply, all desks read the same rows. The desk in C replies with the same bytes as clubdesk. The replies of Go and Flask have the same status
-line and body, and the same header fields in another order. gunicorn adds the fields Date and Server. The test also measures a minimal server in C,
-which reads once and writes 133 bytes.
+The test measures requests of 50 members, in a file with 100 past bookings and in a file with 100,000. In the second file, the test also measures
+requests of a member with 10,000 bookings of her own, and of a member without bookings. The desk beside_c/desk.c has its own server. The desk
+beside_go uses net/http and database/sql. The desk beside_flask.py uses Flask under gunicorn with one worker. All desks use the same file, the same
+transactions and pragmas, and the SQL statements of crates/club_tables. For each reply, all desks read the same rows. The desk in C replies with the
+same bytes as clubdesk. The replies of Go and Flask have the same status line and body, and the same header fields in another order. gunicorn adds the
+fields Date and Server. The test also measures a minimal server in C, which reads once and writes 133 bytes.
 
 The test prints the median times in microseconds for a booking, a repeated booking, an account, a slot, a refused pass and a forged pass. The test
 also prints the ratio of clubdesk's median to each other desk's median. The time of a request runs from before the client connects until the end of
@@ -95,7 +95,8 @@ class Asker:
 
 
 def make_file(clubdesk, path, rows, has_big):
-    """Makes a club with 50 courts and as many past bookings as `rows` says. Then adds a member with 10,000 bookings and a member without bookings."""
+    """Makes a club with 50 courts and as many past bookings as `rows` says. If `has_big`, adds a member with
+    10,000 bookings and a member without bookings."""
     subprocess.run([clubdesk, "add-member", path, "x", "1"], check=True, stdout=subprocess.DEVNULL)
     numbers = "WITH n(i) AS (SELECT 1 UNION ALL SELECT i + 1 FROM n WHERE i < {})".format
     statements = [f"{numbers(50)} INSERT INTO facilities SELECT 'court-' || i, 'court', 50, 1, 0, 24 FROM n"]

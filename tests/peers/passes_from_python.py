@@ -2,9 +2,9 @@
 """The library of passes, called from Python, agrees with `passtool` on 100,000 random or damaged texts.
 
 A seed determines the texts. The texts are passes with random bytes in V1, V2 or JSON, with up to 64 caveats.
-The test damages some of the texts. In some of these, the test changes, inserts, removes or doubles bytes of
-the text, or of the bytes that the text encodes. The test truncates others, writes them in another alphabet
-of base64, or changes names in JSON. For each text, the test runs one command of passtool (`show`, `convert`,
+The test damages some of the texts. In some of these, the test changes, inserts, removes or doubles bytes in
+the text, or in the data that the text encodes. The test truncates others, writes them in another alphabet of
+base64, or changes names in JSON. For each text, the test runs one command of passtool (`show`, `convert`,
 `narrow` or `verify`), and makes the corresponding calls of the library. The test compares the output, the
 fault number, and whether the pass is signed. Most caveats are valid or almost valid lines of the caveat
 language, and the others are random bytes. The library must understand exactly the caveats that `narrow`

@@ -1,5 +1,5 @@
 #!/bin/sh
-# libFuzzer finds no input with which a function of clubpass.h doesn't do what the header says.
+# The functions of clubpass.h do what the header says, with each input that libFuzzer tries.
 #
 # libFuzzer runs for ten minutes, or for as many seconds as the first argument says. The test runs tests/peers/passes_from_c/fuzz.c with
 # AddressSanitizer, in a process for each processor. The fuzzer begins with the texts of docs/vectors.json, with the bytes that these texts encode in

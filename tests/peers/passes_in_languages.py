@@ -1,5 +1,5 @@
 #!/usr/bin/env -S /usr/bin/python3 -B -m pytest -q -p no:cacheprovider
-"""The library of passes agrees with docs/vectors.json from C, Python, Go and Node.js. The library exchanges passes with libmacaroons and pymacaroons.
+"""The library of passes, called from C, Python, Go and Node.js, agrees with docs/vectors.json. The library exchanges passes with libmacaroons and pymacaroons.
 
 docs/vectors.json has each pass in V1, V2 and JSON, other texts of the same passes, and texts that aren't passes. The file also says for each caveat
 and each request whether the caveat allows the request. The test also mints and narrows each pass again. libmacaroons and pymacaroons narrow and

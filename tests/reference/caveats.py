@@ -15,8 +15,7 @@ FIRST_DAY, LAST_DAY = (date(2000, 1, 1) - EPOCH).days, (date(2099, 12, 31) - EPO
 
 @dataclass
 class Ask:
-    """The values of a request that the caveats of a pass test. `slot` is a facility, a day and an hour, or None. `kind` is the kind of the
-    facility."""
+    """The values of a request that a pass's caveats check. `slot` is a facility, a day and an hour, or None. `kind` is the kind of the facility."""
 
     action: str
     slot: tuple | None

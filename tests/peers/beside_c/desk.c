@@ -310,8 +310,8 @@ static struct booking booking_of(const char *key, int number) {
     return it;
 }
 
-// Returns the number of the first caveat that denies, or minus the number of the first caveat that isn't understood. Returns 0 if all caveats
-// allow.
+// Returns the number of the first caveat that denies the request, or minus the number of the first caveat that isn't understood. Returns 0 if all
+// caveats allow the request.
 static int first_fault(const struct pass *pass, const struct request *request, const struct row *row, int owed) {
     static const char *const actions[] = {"view", "book", "account"};
     for (int n = 0; n < pass->count; n++) {
