@@ -165,7 +165,7 @@ function lostFault(number, day) {
 // slot that can't exist. The desk's reply shows whether the key has used the number, and no booking changes.
 async function isUsed(number) {
   const nowhere = { facility: "none-such", day: "2000-01-01", hour: 0 };
-  // The pass doesn't allow this request.
+  // If the pass doesn't allow this request, the page can't find out.
   if (denial("cancel", nowhere) > 0) return true;
   try {
     const reply = await ask(state.text, "cancel", { ...nowhere, key: state.key, number });

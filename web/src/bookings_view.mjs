@@ -32,9 +32,8 @@ export function showBookings(whenDone) {
   put("bookings-count", ...(count > 0 ? [String(count)] : []));
 }
 
-// The page compares the points of the listed bookings with the spent points that the desk reports. A difference shows that the
-// list is incomplete or outdated.
-// The booking numbers of the bookings that may have been cancelled elsewhere.
+// The booking numbers of the bookings that may have been cancelled elsewhere. The page compares the points of the bookings in the
+// list with the spent points that the desk reports. A difference shows that the list is incomplete or outdated.
 let doubtful = new Set();
 
 function showComparison(own, moment) {

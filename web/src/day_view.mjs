@@ -24,7 +24,7 @@ let isFinding = false; // whether the page shows the search over a week
 let isEarlierShown = false; // whether today's past hours are shown
 // For each facility and hour, the slot, its button, and the desk's last reply.
 let cells = new Map();
-// The number of the latest load of a day. The page drops replies to older loads.
+// The number of the latest load of a day. The page drops a reply if its request belongs to an older load.
 let round = 0;
 let lookedAt = 0;
 let waiting = []; // the cells whose slots aren't requested yet
@@ -264,7 +264,7 @@ export async function look() {
   const all = waiting.length;
   let done = 0;
   if (!navigator.onLine) {
-    // This makes the page load the day again when the network returns.
+    // With this value, the page loads the day again when the network returns.
     lookedAt = 0;
     waiting = [];
     showProgress(0, 0);

@@ -25,7 +25,7 @@ export function lastDayOf(pass) {
   return time === "00:00" ? daysLater(day, -1) : day;
 }
 
-// Returns the most points that all bookings under the pass's key may cost, or null if the pass has no such limit.
+// Returns the most points that all bookings under the pass's key may cost together, or null if the pass has no such limit.
 export function limitOf(pass) {
   const limits = caveatsOf(pass, "spend").map(({ most }) => most);
   return limits.length > 0 ? Math.min(...limits) : null;

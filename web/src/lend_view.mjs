@@ -126,7 +126,7 @@ async function accountOfSpare(text, member) {
 }
 
 // Returns the pass to narrow, and the points that its key has spent. The pass is a spare pass that the desk accepts and that isn't lent. If there is
-// no such spare pass, it is the pass in use. If the desk refuses the pass in use, the function returns this refusal.
+// no such spare pass, the function returns the pass in use. If the desk refuses the pass in use, the function returns this refusal.
 async function basisOf() {
   const own = denial("account") > 0 ? null : await ask(state.text, "account", {}, 2);
   if (own?.fault !== undefined) return { refusal: own };

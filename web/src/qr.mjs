@@ -27,7 +27,7 @@ function alignmentPlaces(version) {
   return [6, ...Array.from({ length: count - 1 }, (_, place) => last - (count - 2 - place) * step)];
 }
 
-// Returns how many modules carry data or error correction in a code of a version.
+// Returns how many modules carry data or error correction in a code of the given version.
 function carriers(version) {
   const alignments = alignmentPlaces(version).length;
   const patterns = version === 1 ? 0 : (25 * alignments - 10) * alignments - 55;
@@ -42,7 +42,7 @@ function dataLength(version) {
   return codewords(version) - CORRECTION[version - 1] * BLOCKS[version - 1];
 }
 
-// Returns the smallest version that can contain a number of bytes, or null.
+// Returns the smallest version that can contain `count` bytes, or null.
 function versionFor(count) {
   for (let version = 1; version <= LARGEST_VERSION; version += 1) {
     if (4 + (version < 10 ? 8 : 16) + 8 * count <= 8 * dataLength(version)) return version;

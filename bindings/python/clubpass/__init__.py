@@ -186,7 +186,8 @@ class Ask:
 
 @dataclass(frozen=True)
 class CaveatFault:
-    """The first caveat that isn't understood or that denies a request. `number` counts from 1. `understood` is true if the caveat denies."""
+    """The first caveat that isn't understood or that denies a request. `number` counts from 1. `understood` is true if the caveat denies the
+    request."""
 
     number: int
     understood: bool

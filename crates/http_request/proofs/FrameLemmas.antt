@@ -1,4 +1,4 @@
--- Lemmas about a request's head and body at the front of bytes.
+-- Lemmas about bytes that begin with a request's head and body.
 use Rattle.http_request.proofs.Common.{◌≡◌, ℕ, ◌<◌, ◌≤◌, inl, inr, false, List, [], ◌++◌, length, take, drop, nat_eq, sym, ap, ◌∙◌, arith, length-append}
 use Rattle.http_request.proofs.Common.{ends_with, cases_order, take-append-le, take-append-drop, length-take-le, HeaderSpan, RequestHead, Head, empty_line}
 use Rattle.http_request.proofs.Common.{IsHeadOf, IsPiece, AsksForBody, IsFramed, IsOneRequest, IsRefusedHead, HasNoPiece, IsHeadAt}

@@ -5,7 +5,7 @@ use Rattle.std.proofs.Common.{option_and_then}
 use Rattle.club_values.specs.Number.{number_of_digits}
 use Rattle.http_request.specs.Length.{body_length, declared_length, where_allowed, unless_coded}
 
--- The length is missing, or is at most the length of the longest body.
+-- The length is missing, or is within the limit for a body.
 abbrev IsFew : Option ℕ → Type 0
 IsFew found = (n : ℕ) → found ≡ Some n → n ≤ 256
 

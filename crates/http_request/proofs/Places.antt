@@ -1,4 +1,4 @@
--- Lemmas about paths with more parts than the path of any place.
+-- Lemmas about paths that have more parts than any place's path.
 use Rattle.http_request.proofs.Common.{◌≡◌, List, ◌∷◌, ℕ, Bor, Option, Some, None, true, refl, is_some, following_parts, at_slot, account_at}
 use Rattle.http_request.proofs.Segments.{first_part}
 use Rattle.club_values.specs.declared.slot.Slot.{Slot}

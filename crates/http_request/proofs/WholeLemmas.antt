@@ -1,4 +1,4 @@
--- Lemmas about complete requests at the front of bytes.
+-- Lemmas about bytes that begin with a complete request.
 use Rattle.http_request.proofs.Common.{◌≡◌, ◌⊎◌, ℕ, ◌-◌, ◌<◌, ◌≤◌, ◌↔◌, inl, inr, List, ◌++◌, length, take, drop, sym, ap, ◌∙◌, arith, append_assoc}
 use Rattle.http_request.proofs.Common.{length-append, take-append-le, take-append-drop, length-drop, HeaderSpan, RequestHead, Head, IsFramed, IsOneRequest}
 use Rattle.http_request.proofs.Common.{IsRefusedHead, HasNoPiece, IsWhole, has_frame, endless, bad_head, IsHeadAt, IsHeadResultOf, OneReading, ReadsPlaces}

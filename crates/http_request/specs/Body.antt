@@ -12,8 +12,7 @@ only_named name (member key value members) = bytes_eq key name && only_named nam
 abbrev pub has_only_name : List ℕ → Data → Bool
 has_only_name name value = unwrap_or (option_map (only_named name) (as_object value)) false
 
--- The value as a number. The number is `None` unless the value is a whole number that isn't
--- negative.
+-- The value as a number. The result is `None` if the value is negative or isn't a whole number.
 abbrev pub whole_number : Option Data → Option ℕ
 whole_number value = option_and_then as_u64 (option_and_then as_number value)
 

@@ -13,7 +13,7 @@ abbrev pub values_of : List ℕ → List (List ℕ × List ℕ) → List (List �
 values_of name [] = []
 values_of name (field ∷ fields) = if same_word field.0 name then field.1 ∷ values_of name fields else values_of name fields
 
--- The values of the fields with the given name, for fields that are spans of a head.
+-- The values of the fields with the given name. The fields are given as spans of the head.
 abbrev pub values_in_head : List ℕ → List ℕ → List HeaderSpan → List (List ℕ)
 values_in_head head name fields = values_of name (map (header_bytes head) fields)
 

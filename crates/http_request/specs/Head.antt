@@ -1,4 +1,4 @@
--- This file defines the head of a request at the front of bytes.
+-- This file defines the head of a request.
 use Rattle.std.specs.{List.ends_with, Prelude.{◌≡◌, ℕ, ◌<◌, ◌≤◌, true, false, List, [], length, take, nat_eq, codes}}
 use Rattle.httparse.specs.Grammar.{RequestHead, ReadsRequest}
 use Rattle.http_request.specs.Limits.{max_fields, max_head_len}

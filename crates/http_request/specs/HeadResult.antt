@@ -1,4 +1,4 @@
--- This file defines the result of looking for a head at the front of bytes.
+-- This file defines the result of looking for a head at the start of the given bytes.
 use Rattle.std.specs.Prelude.{◌≤◌, ℕ, List, length, take}
 use Rattle.httparse.specs.{Grammar.RequestHead, Spans.{IsRequestWithin, IsRequestAt}, declared.spans.HeaderSpan.HeaderSpan}
 use Rattle.http_request.specs.{Frame.{AsksForBody, HasNoPiece, IsRefusedHead}, Head.IsPiece, declared.head_result.HeadResult.HeadResult}
@@ -13,7 +13,7 @@ pub record IsHeadAt (bytes : List ℕ) (fields : List HeaderSpan) (found : Head)
   pub within : IsRequestWithin (take found.len bytes) fields found.spans
   pub spans : IsRequestAt (take found.len bytes) fields found.spans head
 
--- The result of looking for a head at the front of the bytes. Either no head ends within the first
+-- The result of looking for a head at the start of the bytes. Either no head ends within the first
 -- `max_head_len` bytes, or the desk refuses the head, or the head announces a body of a known
 -- length.
 abbrev pub IsHeadResultOf : List ℕ → List HeaderSpan → HeadResult → Type 0
@@ -21,6 +21,6 @@ IsHeadResultOf bytes fields NoPiece = HasNoPiece bytes
 IsHeadResultOf bytes fields Refused = IsRefusedHead bytes
 IsHeadResultOf bytes fields (Asking found) = IsHeadAt bytes fields found
 
--- The scan has the result of looking for a head at the front of the bytes.
+-- The scan has the result of looking for a head at the start of the bytes.
 abbrev pub Covers : HeadScan → List ℕ → Type 0
 Covers scan bytes = IsHeadResultOf bytes scan.fields scan.front

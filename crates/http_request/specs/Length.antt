@@ -19,8 +19,8 @@ declared_length [] = Some 0
 declared_length (value ∷ []) = length_in value
 declared_length (value ∷ other ∷ more) = None
 
--- The given length of a body, or `None` if the method doesn't allow a body of this length. The desk
--- allows a body that isn't empty only with the method PUT.
+-- The given length of a body, or `None` if the method doesn't allow a body of this length. Only the
+-- method PUT allows a body that isn't empty.
 abbrev pub where_allowed : List ℕ → Option ℕ → Option ℕ
 where_allowed method None = None
 where_allowed method (Some n) = if n == 0 || bytes_eq method (codes "PUT") then Some n else None

@@ -13,7 +13,7 @@ pub const MAX_HEAD_LEN: usize = 16_384;
 /// The maximum number of fields in a head.
 pub const MAX_FIELDS: usize = 32;
 
-/// Returns the length of the head at the front of the bytes. A head ends with the first empty line,
+/// Returns the length of the head at the start of the bytes. A head ends with the first empty line,
 /// CR LF CR LF. The caller has searched the first `searched` bytes already, and no head ends there.
 /// This function therefore doesn't search these bytes again.
 pub(crate) fn piece_len(bytes: &[u8], searched: usize) -> Option<usize>

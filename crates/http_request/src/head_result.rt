@@ -1,4 +1,4 @@
-//! Looks for a head at the front of bytes.
+//! Looks for a head at the start of the given bytes.
 
 ghost use Rattle.std.specs.Prelude.{◌≡◌, ◌≤◌, length, map, take, All};
 ghost use Rattle.http_request.specs.{Frame.HasNoPiece, HeadResult.IsHeadResultOf};
@@ -7,7 +7,7 @@ use crate::head::{MAX_FIELDS, piece_len, read_head};
 use crate::length::asked_length;
 use httparse::spans::{HeaderSpan, RequestSpans};
 
-/// A head at the front of bytes.
+/// A head at the start of the given bytes.
 #[derive(Clone, Copy)]
 pub(crate) struct Head {
     /// The number of bytes of the head.
@@ -18,7 +18,7 @@ pub(crate) struct Head {
     pub(crate) body_len: usize,
 }
 
-/// The result of looking for a head at the front of bytes.
+/// The result of looking for a head at the start of the given bytes.
 #[derive(Clone, Copy)]
 pub(crate) enum HeadResult {
     /// No head ends within the first `MAX_HEAD_LEN` bytes.
@@ -29,7 +29,7 @@ pub(crate) enum HeadResult {
     Asking(Head),
 }
 
-/// Looks for a head at the front of the bytes. The caller has searched the first `searched` bytes
+/// Looks for a head at the start of the bytes. The caller has searched the first `searched` bytes
 /// already, and no head ends there. Writes the positions of the head's fields to `fields`.
 pub(crate) fn head_result_of(
     bytes: &[u8],

@@ -12,8 +12,9 @@ use httparse::spans::{EMPTY_HEADER_SPAN, HeaderSpan};
 /// The maximum number of bytes in a request.
 pub const MAX_REQUEST_LEN: usize = MAX_HEAD_LEN + MAX_BODY_LEN;
 
-/// A scan for the head of a request. A scan covers bytes if it holds the result of a search for a
-/// head at their start. The scan parses the head once, after the end of the head has arrived.
+/// A scan for the head of a request. A scan covers bytes if it holds the result of looking for a
+/// head at the start of these bytes. The scan parses the head once, after the end of the head has
+/// arrived.
 #[derive(Drop)]
 pub struct HeadScan {
     pub(crate) front: HeadResult,

@@ -38,8 +38,8 @@ object_text members = codes "{" ++ join_by member_text (codes ",") members ++ co
 abbrev pub booking_member : List ℕ → ℕ → Member
 booking_member key n = (codes "booking", text (key ++ codes "/" ++ decimal n))
 
--- The member with the number of the caveat that refused the request, as a list. If no caveat
--- refused the request, the list is empty.
+-- A list with one member: the number of the caveat that refused the request. If no caveat refused
+-- the request, the list is empty.
 abbrev pub caveat_member : Option ℕ → List Member
 caveat_member None = []
 caveat_member (Some n) = (codes "caveat", number n) ∷ []

@@ -107,8 +107,8 @@ fn keeps_the_last_of_many_keys(rt: HostRuntime) {
     is_derived_anew(&rt, &mut keys, &name(&rt, b"00"), &root, DERIVED);
 }
 
-// The first of 64 keys is stored again, and then a new key is stored. The cache keeps the first key
-// and drops the second key.
+// The first of 64 keys is stored again, and then a 65th key is stored. The cache keeps the first
+// key and drops the second key.
 #[test]
 fn keeps_a_key_that_is_used_again(rt: HostRuntime) {
     let root = root(&rt, ROOT);

@@ -9,7 +9,8 @@ abbrev pub found_bytes : Option Data → ℕ
 found_bytes None = 0
 found_bytes (Some d) = data_bytes d
 
--- The number of bytes in the strings of the named member's value, or 0 if there is no such member.
+-- The total length in bytes of the strings in the named member's value, or 0 if there is no such
+-- member.
 abbrev pub bytes_at : List ℕ → Data → ℕ
 bytes_at k value = found_bytes (get k value)
 

@@ -1,4 +1,4 @@
--- Lemmas for the first fault in a list of caveats.
+-- Lemmas for the proof about the first fault in a list of caveats.
 use Rattle.std.proofs.Common.{◌≡◌, ℕ, List, [], ◌∷◌, map, Option, None, Some, refl, arith}
 use Rattle.club_values.specs.Reading.{Reads}
 use Rattle.pass_caveats.specs.{Caveat.Understood, Fault.AreUnderstoodAs, Laws.ReadsWhatIsUnderstood, computed.CaveatOf.caveat_of, declared.caveat.Caveat.Caveat}

@@ -1,4 +1,5 @@
--- Defines the ask that an object of plain numbers represents.
+-- Defines the ask that an object of plain numbers represents. An ask has those values of a request
+-- that caveats test.
 use Rattle.std.specs.{Int.is_in_range, Prelude.{◌≡◌, ℕ, ◌==◌, if◌then◌else◌, take, List, Option, None, Some, ◌≤◌, MatchOption, option_and_then, option_map}}
 use Rattle.club_values.specs.{Day.{first_day, last_day}, Moment.{first_moment, last_moment}, Name.{IsName, max_name_len}, Reading.Reads}
 use Rattle.club_values.specs.declared.{action.Action.{Action, TheVariants.{View, Book, Cancel, Account}}, kind.Kind.{Kind, TheVariants.{Court, Boat, Room}}}

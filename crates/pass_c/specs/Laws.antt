@@ -1,4 +1,4 @@
--- States the laws of the definitions.
+-- States a law about the definitions of this crate.
 use Rattle.std.specs.{List.sum_by, Prelude.{ℕ, ◌+◌, ◌≤◌, List, length, Ok}}
 use Rattle.pass_forms.specs.{Pass.Plain, declared.form.Form.Form}
 use Rattle.pass_json.specs.AnyForm.{IsAnyReading}

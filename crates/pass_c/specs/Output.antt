@@ -26,16 +26,16 @@ IsWrittenAs form pass (Ok text) =
     IsWritableText (IsTextIn form) pass text × IsAnyReading text (Ok (form, pass))
 IsWrittenAs form pass (Err fault) = fault ≢ Memory → IsRefusedIn form pass fault
 
--- The call copied the text of the pass in this form to the buffer, or returned the code of a fault.
--- The possible faults are a buffer that is too short and the faults of writing the pass.
+-- The call copied the pass's text in this form to the buffer, or returned the code of a fault. The
+-- possible faults are a buffer that is too short and the faults of writing the pass.
 pub record IsTextCopied (form : Form) (pass : Plain) (old new : List ℕ) (len code : ℕ) : Type 0 where
   pub writing : Result (List ℕ) FormFault
   pub written : IsWrittenAs form pass writing
   pub copied : MatchResult writing (λ text. IsCopied text old new len code) (λ fault. IsLeft (fault_code fault) old new len code)
 
--- The call copied the text of the pass in the form with this number to the buffer, or returned the
--- code of a fault. If no form has this number, the buffer is unchanged, the length is 0 and the
--- code is `no_form_code`.
+-- The call copied the pass's text to the buffer, or returned the code of a fault. The text has the
+-- form with this number. If no form has this number, the buffer is unchanged, the length is 0 and
+-- the code is `no_form_code`.
 pub record WritesForm (number : ℕ) (pass : Plain) (old new : List ℕ) (len code : ℕ) : Type 0 where
   pub known : (form : Form) → number ≡ number_of_form form → IsTextCopied form pass old new len code
   pub unknown : ((form : Form) → number ≢ number_of_form form) → IsLeft no_form_code old new len code

@@ -1,4 +1,4 @@
-//! An ask as an object of plain numbers.
+//! An ask as an object of plain numbers. An ask has those values of a request that caveats test.
 
 ghost use Rattle.std.specs.Prelude.{◌≡◌};
 ghost use Rattle.pass_c.specs.Ask as spec;
@@ -6,7 +6,8 @@ ghost use Rattle.club_values.specs.{Day.{first_day, last_day}, Moment.{first_mom
 
 use pass_caveats::{Action, Ask, Day, Hour, Kind, MAX_NAME_LEN, Moment, Name, Slot};
 
-/// An ask as an object of plain numbers, which C code fills in.
+/// An ask as an object of plain numbers, which C code fills in. An ask has those values of a
+/// request that caveats test.
 #[repr(C)]
 #[derive(Drop)]
 pub struct AskObject {

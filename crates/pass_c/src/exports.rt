@@ -26,7 +26,7 @@ use pass_caveats::laws::reads_what_is_understood;
 use pass_forms::Form;
 use std::alloc::Global;
 
-/// Reads a pass from a text in any form. A call that fails empties the object.
+/// Reads a pass from a text in any form. If the call fails, it empties the object.
 #[unsafe(no_mangle)]
 pub extern "C" fn clubpass_read(alloc: Global, text: &[u8], pass: &mut PassObject) -> u32
     ensures spelling { UnlessMemory (IsAnyReading text.now) (filled (result_of result) pass.new) }

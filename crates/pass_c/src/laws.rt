@@ -1,4 +1,5 @@
-//! Laws of the definitions. Each law is the contract of a function with an empty body.
+//! Laws about the definitions in `specs/`. Each law is the contract of a function with an empty
+//! body.
 
 ghost use Rattle.pass_c.specs.Laws.{ReadablePassesFit};
 

@@ -12,9 +12,9 @@ use std::alloc::{AllocError, Global};
 /// The maximum total length of a pass's location, identifier and caveats, in bytes.
 pub const ROOM: usize = 8192;
 
-/// A pass as an object of plain data. C code can store, copy and drop the object without a call. In
-/// contracts, `held` returns the pass that an object represents. Every object represents a pass,
-/// whatever its bytes are.
+/// A pass as an object of plain data. C code can store, copy and drop the object without calling a
+/// function. In contracts, `held` returns the pass that an object represents. Every object
+/// represents a pass, whatever its bytes are.
 #[repr(C)]
 #[derive(Drop)]
 pub struct PassObject {

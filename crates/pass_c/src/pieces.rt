@@ -87,8 +87,8 @@ pub fn copy_pieces(
     copy_pieces(alloc, list, others, rest)
 }
 
-/// Reads the pieces as caveats, and returns the first fault. In a fault, the first piece has the
-/// number `number`.
+/// Reads the pieces as caveats, and returns the first fault. A fault states the number of its
+/// piece. The first piece has the number `number`.
 pub fn first_fault_in(lens: &[u16], bytes: &[u8], number: usize, ask: &Ask) -> Option<CaveatFault>
     requires { number + length lens.now ≤ 65 }
     ensures { result

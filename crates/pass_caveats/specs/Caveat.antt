@@ -1,5 +1,5 @@
 -- Defines the lines of the caveat language, and the requests that each line allows. This project
--- chose the caveat language.
+-- designed the caveat language.
 use Rattle.std.specs.{Fmt.decimal, Prelude.{◌≡◌, ◌≢◌, ◌⊎◌, ℕ, ◌+◌, ◌<◌, ◌≤◌, IsTrue, List, [], ◌∷◌, ◌++◌, length, Contains, Some, IsSomeAnd, codes, ⊤}}
 use Rattle.pass_caveats.specs.{Actions.{has_action, action_texts}, Names.AreNames, Parts.comma_list, Weekdays.{has_weekday, weekday_texts}}
 use Rattle.pass_caveats.specs.declared.{ask.Ask.Ask, caveat.Caveat.{Caveat, TheVariants.{Facility, Kind, Hours, Days, Weekdays, Until, Guests, Spend, Actions}}}

@@ -37,8 +37,8 @@ pub enum Caveat<'a> {
     Until(Moment),
     /// The booking has at most this number of guests. The number is between 0 and 49.
     Guests(u8),
-    /// The request charges nothing, or the points that the key has spent, including this charge,
-    /// are at most this number. The number is between 0 and 999,999,999.
+    /// The request charges nothing, or the key's spent points and the request's charge together are
+    /// at most this number. The number is between 0 and 999,999,999.
     Spend(u32),
     /// The requested action is in the set.
     Actions(Actions),

@@ -1,4 +1,4 @@
-//! Texts whose form is detected.
+//! Tests of texts in any form. The reader detects the form.
 
 use crate::calls::read_any;
 use crate::read::Refused;

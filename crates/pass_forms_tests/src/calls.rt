@@ -1,5 +1,5 @@
-//! Wrappers of the tested functions. A wrapper has no contract, so a test that calls it is proved
-//! in a fraction of the time.
+//! Wrappers of the tested functions. A wrapper has no contract, so the proof of a test that calls a
+//! wrapper takes much less time.
 
 use pass_forms::{Form, FormFault, MAX_BYTES, Pass, Unwrapped, V1Fields, V2Fields};
 use std::alloc::Global;

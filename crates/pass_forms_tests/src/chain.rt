@@ -7,8 +7,8 @@ use pass_mac::{Chain, derive, same};
 
 type Mac = (&'static [u8], &'static [u8], &'static [u8; 32]);
 
-// RFC 4231, section 4. Then values from an independent program for keys of 64 bytes, which is the
-// block's length, and of 65 bytes.
+// Cases of RFC 4231, section 4, and two cases from an independent program. In these two cases, the
+// keys have 64 bytes (a block's length) and 65 bytes.
 static CASES: [Mac; 8] = [
     (
         &[0x0b; 20],

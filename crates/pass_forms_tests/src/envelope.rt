@@ -73,8 +73,8 @@ fn refuses_other_texts(rt: HostRuntime) {
     expect_outcomes(&rt, &OTHER_TEXTS, Err(FormFault::Malformed));
 }
 
-// Base64 of the bytes `0`, `9`, `a` and `f`. No form begins with the bytes in `OTHER_BYTES`. All of
-// those but `A` are next to bytes with which a form begins.
+// Base64 of the bytes `0`, `9`, `a` and `f`. `OTHER_BYTES` has bytes with which no form begins:
+// `A`, and neighbours of bytes with which a form begins.
 static V1_BYTES: [&[u8]; 4] = [b"MA", b"OQ", b"YQ", b"Zg=="];
 
 static OTHER_BYTES: [&[u8]; 8] = [b"AQ", b"Aw", b"Lw", b"Og", b"QQ", b"YA", b"Zw", b"fA"];

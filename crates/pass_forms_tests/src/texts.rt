@@ -1,4 +1,4 @@
-//! Known passes, each as its texts in V1, V2 and JSON.
+//! Known passes, each with its texts in V1, V2 and JSON.
 
 use pass_forms::Form;
 
@@ -29,7 +29,7 @@ pub(crate) static UNLOCATED: [&str; 3] = [
     "{\"c\":[],\"i\":\"keyid\",\"s64\":\"BwcHBwcHBwcHBwcHBwcHBwcHBwcHBwcHBwcHBwcHBwc\",\"v\":2}",
 ];
 
-/// An independent program computed the passes of the keys with 1 letter and with 24 letters.
+/// An independent program computed the passes of two keys, whose names have 1 and 24 letters.
 pub(crate) static OF_1_LETTER: [&str; 3] = [
     "MDAxN2xvY2F0aW9uIGNsdWItZGVzawowMDE1aWRlbnRpZmllciBrZXk6YQowMDJmc2lnbmF0dXJlINUNOO5RwGYyFrLLxURCWimOR2Ke7JygR9qsvDKEn0veCg",
     "AgEJY2x1Yi1kZXNrAgVrZXk6YQAABiDVDTjuUcBmMhayy8VEQlopjkdinuycoEfarLwyhJ9L3g",

@@ -1,4 +1,4 @@
--- States the laws of the commands, their arguments and their answers.
+-- States laws about the commands, their arguments and their answers.
 use Rattle.std.specs.Prelude.{◌≡◌, ◌↔◌, ℕ, List, Result, Ok, codes}
 use Rattle.pass_forms.specs.{Pass.{IsSigned, Plain}, declared.{fault.FormFault.FormFault, form.Form.Form}}
 use Rattle.passtool_commands.specs.{Answer.{IsAnswer, OutcomeText, ReadsPass, narrowing, new_pass}, Application.passtool, Arguments.ReadsCommand}

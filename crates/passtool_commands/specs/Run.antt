@@ -1,4 +1,4 @@
--- Defines the effect of a run of the program on its reader and its writer.
+-- Defines how a run of the program affects its reader and its writer.
 use Rattle.std.specs.{Io.{StartsWith, KnownBytes.{Appends, Keeps}}, Prelude.{◌≡◌, ◌⊎◌, ℕ, List, [], Option, Result, Ok, Err, Bool, false, true}}
 use Rattle.clap.specs.Words.{Text}
 use Rattle.pass_forms.specs.declared.fault.FormFault.TheVariants.{Memory}

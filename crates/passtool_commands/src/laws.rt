@@ -1,5 +1,5 @@
-//! Laws of the definitions. Each law is the contract of a function. The function's body only calls
-//! other laws that the proof needs.
+//! Laws about the definitions in `specs/`. Each law is the contract of a function. The function's
+//! body only calls other laws that the proof needs.
 
 ghost use Rattle.passtool_commands.specs.Laws.{AnswersOnce, AskForOneCommand, MintSigns};
 ghost use Rattle.passtool_commands.specs.Laws.{NarrowingKeepsSigned, VerifyDecidesSigned};

@@ -1,5 +1,5 @@
 //! A player that uses the reference machine. The machine can't read bytes, so the player decodes
-//! each request. The player also finds the roots of the club's keys under which the request's pass
+//! each request. The player also finds out under which roots of the club's keys the request's pass
 //! is signed.
 
 use crate::fault::Fault;
@@ -75,7 +75,7 @@ fn key_in(identifier: &[u8]) -> Option<Name> {
     Name::read(identifier.strip_prefix(b"key:")?)
 }
 
-/// Adds the roots of a key under which the pass is signed.
+/// Adds each of the key's roots under which the pass is signed.
 fn push_roots(roots: &mut Vec<Root>, key: &Key, pass: &SentPass) -> Result<(), AllocError> {
     if pass.is_signed(key.root.as_bytes()) {
         roots.push(key.root)?;

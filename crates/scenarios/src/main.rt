@@ -3,8 +3,8 @@
 //!
 //! - The reference machine.
 //! - The desk over tables in memory.
-//! - The desk with exchanges from bytes to bytes. The player plays the file three times, once for
-//!   each form of pass.
+//! - The desk with exchanges, which read the bytes of a request and write the bytes of the reply.
+//!   The player plays the file three times, once for each form of pass.
 //!
 //! For each file, the program prints the numbers of clubs and lines, or the first fault.
 #![tactic(auto)]
@@ -56,8 +56,8 @@ fn names(rt: &HostRuntime) -> Result<Vec<String>> {
     Ok(names)
 }
 
-/// Plays lines with each player. `keeps` is true if a line that a crash stops takes effect before
-/// the crash.
+/// Plays lines with each player. If a crash stops a line, `keeps` decides whether the line takes
+/// effect before the crash.
 fn play_each(alloc: Global, lines: &[&str], keeps: bool) -> Result<Count, Found> {
     let form = Form::V2;
     let way = Way { form, keeps };
@@ -79,8 +79,8 @@ fn lines_of<'a>(alloc: Global, text: &'a str) -> Result<Vec<&'a str>, AllocError
     text.lines().collect(alloc)
 }
 
-/// Plays a text. If the text has a crash, plays the text once more. This time, each line that a
-/// crash stops takes effect before the crash.
+/// Plays a text. If the text has a crash, plays the text once more. This time, if a crash stops a
+/// line, the line takes effect before the crash.
 fn play_text(alloc: Global, lines: &[&str]) -> Result<Count, Found> {
     let count = play_each(alloc, lines, false)?;
     if lines.iter().any(|line| line.starts_with("crash")) {

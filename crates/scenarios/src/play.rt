@@ -27,7 +27,7 @@ const NO_CLUB: &str = "no club before it";
 pub(crate) struct Way {
     /// The form of a pass if its line names no form.
     pub(crate) form: Form,
-    /// True if a line that a crash stops takes effect before the crash.
+    /// True if a line takes effect before the crash that stops the line.
     pub(crate) keeps: bool,
 }
 
@@ -435,8 +435,8 @@ where
 
     /// Plays all lines of a file.
     fn plays_all(&mut self, lines: &[&str]) -> Result<(), FaultAt> {
-        // The number of lines that were played. The number includes the indented lines after the
-        // last line.
+        // The number of lines that were played. The number includes the indented lines that belong
+        // to the played lines.
         let mut played = 0;
         for number in 0..lines.len() {
             let text = lines[number];

@@ -28,8 +28,8 @@ pub(crate) trait Player {
 
 /// Makes players. Each player begins with an empty club.
 pub(crate) trait Maker {
-    /// The type of the players. Callers require that the type is `Player + Drop`. The requirement
-    /// isn't here, because Rattle then couldn't check the impl for `InMemory`, whose player is
+    /// The type of the players. Callers require that the type is `Player + Drop`. If the
+    /// requirement were here, Rattle couldn't check the impl for `InMemory`, whose player is
     /// generic.
     type Made;
 

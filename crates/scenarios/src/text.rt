@@ -89,7 +89,7 @@ pub(crate) fn repeated(text: &str) -> (u32, &str) {
 }
 
 /// Decodes a text's escapes, and adds the decoded text to the bytes. A count in the text states how
-/// often.
+/// many times the decoded text is added.
 pub(crate) fn push_repeated(bytes: &mut Vec<u8>, text: &str) -> Result<(), Fault> {
     let (count, what) = repeated(text);
     for _ in 0..count {

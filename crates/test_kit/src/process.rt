@@ -1,4 +1,5 @@
-//! A test double of a process, with what the process printed on standard error.
+//! A test double of a process. The double records the text that the process prints on standard
+//! error.
 
 use std::alloc::Global;
 use std::cell::RefCell;

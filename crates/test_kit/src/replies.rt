@@ -7,13 +7,13 @@ use club_values::{Kind, Name};
 
 #[derive(Clone, Copy)]
 pub enum PlainReply {
-    /// The persons who have booked `court-1` at 18, and whether the slot is closed.
+    /// The number of persons in the slot of `court-1` at 18, and whether the slot is closed.
     SlotShown(u64, bool),
     /// The key, the number, the charge, and the places that are still free.
     Booked(&'static str, u32, u32, u8),
     /// The key, the number, and the refund.
     Cancelled(&'static str, u32, u32),
-    /// The balance, the open bookings, and the spent points of amy, who has quota 5.
+    /// The balance, the number of open bookings, and the spent points of amy, who has quota 5.
     AccountShown(u32, u64, u64),
     Refused(Refusal),
 }

@@ -1,5 +1,5 @@
--- The proof unfolds `decoded_of`, because the code and `decoded_of` have different proofs that each
--- engine constant is valid.
+-- The proof unfolds `decoded_of`, because the code and `decoded_of` contain different proofs that
+-- each engine constant is valid.
 use Rattle.pass_forms.proofs.{Base64Decoding.from_base64_is, Common.{refl, ◌∙◌, arith, decoded_of, by_decoders}}
 use Rattle.pass_forms.proofs.envelope.decode.Goals as goal
 

@@ -1,4 +1,4 @@
--- Setting the remaining fields gives the same pass before and after each iteration.
+-- Setting the remaining fields in `pass` gives the same result before and after each iteration.
 use Rattle.pass_forms.proofs.Common.{◌≡◌, length, with_fields}
 use Rattle.pass_forms.proofs.layout.Fields.into_pass.Given as goal
 
