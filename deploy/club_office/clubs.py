@@ -183,8 +183,8 @@ def clubdesk(club, command, words, options=(), root=None):
 
 def ended_by_itself(line, given=None, **how):
     """Runs a command, and waits until it ends, even after Ctrl-C. Returns the command's status, and the output that the command wrote into a pipe.
-    The command itself must handle Ctrl-C, because a clerk's process can't end sudo's process. After Ctrl-C, raises KeyboardInterrupt for a command
-    that only reads. For any other command, the status shows whether the command succeeded."""
+    The command may run under sudo. A clerk's process can't end sudo's process, so the command itself must handle Ctrl-C. After Ctrl-C, raises
+    KeyboardInterrupt for a command that only reads. For any other command, the status shows whether the command succeeded."""
     command = subprocess.Popen(line, **how)
     text, is_interrupted = given, False
     while True:

@@ -277,7 +277,7 @@ REFUSALS = {
         "der Pass in {path} ist veraltet, denn {key} hat einen neueren; `lost-pass {key} --to {path}` macht einen neuen",
     ),
     "no passes given": ("standard input has no passes", "in der Standardeingabe sind keine Pässe"),
-    "no one-line pass": ("the file has no one-line pass", "darin ist kein Pass in einer Zeile"),
+    "no one-line pass": ("the file has no pass on a single line", "darin ist kein Pass in einer Zeile"),
     "no key's pass": ("the pass in the file names no key", "darin ist kein Pass eines Schlüssels"),
     "pass of another": ("the file has a pass of another key, {key}", "darin ist der Pass eines anderen Schlüssels, {key}"),
     "no such key": ("the club has no key {key}, or it is revoked", "der Verein hat keinen Schlüssel {key}, oder er ist widerrufen"),

@@ -1,5 +1,5 @@
 #!/usr/bin/env -S /usr/bin/python3 -B
-"""A command of the office that is killed at a random moment is done once or not at all. A killed import can be repeated.
+"""If a command of the office is killed at a random moment, it takes effect once or not at all. A killed import can be repeated.
 
 A desk runs while the test kills the commands, and no total is wrong afterwards. The test needs root, because it covers the machine's
 folders with temporary overlays (tests/lib/office_room.sh).
