@@ -258,7 +258,7 @@ REFUSALS = {
         "{label} was already given: {points} points to each of {members} members",
         "{label} wurde schon gutgeschrieben: {points} Punkte für jedes von {members} Mitgliedern",
     ),
-    "begun otherwise": ("{label} was started with {points} points", "{label} wurde mit {points} Punkten begonnen"),
+    "begun otherwise": ("{label} was started with another number of points: {points}", "{label} wurde mit einer anderen Punktzahl begonnen: {points}"),
     "credited otherwise": (
         "the credits of {member} have changed since {label} was interrupted: see `log {member}`, and correct the last line with `{label} {member}` in {path}",
         "{member} hat andere Gutschriften, seit {label} unterbrochen wurde: sieh in `log {member}` nach und berichtige die letzte Zeile mit `{label} {member}`"
