@@ -71,7 +71,7 @@ def clauses_of(book, function, labels=()):
 
 
 def below_all(book, function):
-    """Returns the definitions that all clauses of a function cite, directly or through other definitions."""
+    """Returns each definition that any clause of a function cites, directly or through other definitions."""
     cited = []
     for file, _, _, text, start in clauses_of(book, function):
         found, unknown = file.cited_by(start, text)

@@ -50,8 +50,8 @@ pub fn shows_amy_new_numbers()
     ensures { ShowsAmyNewNumbers }
 {}
 
-/// An example: the office cancels another member's booking, which frees the places for the member.
-/// The office then cancels the member's booking, and the member gets the points back.
+/// An example: the office cancels another member's booking, which frees its places for Amy. The
+/// office then cancels Amy's booking, and Amy gets the points back.
 pub fn shows_amy_her_cancellation()
     ensures { ShowsAmyHerCancellation }
 {}

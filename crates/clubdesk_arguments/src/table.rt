@@ -228,7 +228,7 @@ const SERVE_ARGUMENTS: &[Argument] = &[
     Argument::Or(
         "patience",
         "SECONDS",
-        "Seconds for each step (send, read, stop sending), 1 to 3600",
+        "A client's seconds for each step (send, read, stop sending), 1 to 3600",
         "10",
     ),
     Argument::Flag("log", "Writes a line for each connection to standard error"),

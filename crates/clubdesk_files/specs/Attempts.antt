@@ -5,7 +5,7 @@ use Rattle.std.specs.Prelude.{ℕ, ◌+◌, ◌<◌, Option, Some, None, MatchOp
 abbrev pub Gains : Type 0 → Type 0 → Type 1
 Gains Trier Gain = Trier → Option Gain → Trier → Type 0
 
--- This number of attempts was made, and all attempts failed.
+-- `AreInVain Gained first n last`: `n` attempts in a row, starting in the state `first`, all failed, and led to the state `last`.
 pub data AreInVain {Trier Gain : Type 0} (Gained : Gains Trier Gain) (first : Trier) : ℕ → Trier → Type 0 where
   no_attempt : AreInVain Gained first 0 first
   one_more : (n : ℕ) (before after : Trier) → AreInVain Gained first n before → Gained before None after → AreInVain Gained first (n + 1) after
