@@ -1,4 +1,4 @@
-// A service worker that caches the pages and the club's list, so that they open without a network. If there is a network, the worker loads them from
+// A service worker that caches the pages and club.json, so that they open without a network. If there is a network, the worker loads them from
 // the server, so that the browser shows a new page immediately. The worker neither handles other requests nor caches the desk's replies. bin/pages
 // makes this file from web/src/worker.js.
 "use strict";
@@ -7,7 +7,7 @@ const CACHE = `pages ${VERSION}`;
 const PAGES = ["/book.html", "/pass.html", "/app.webmanifest", "/club.json"];
 const PATIENCE = 4000; // milliseconds that the worker waits for the network before it uses the cache
 
-// If a file is missing, such as the club's list, the worker caches the other files. The page itself tells the user about a missing list.
+// If a file is missing, such as club.json, the worker caches the other files. The page itself tells the user about a missing list.
 async function keepAll() {
   const cache = await caches.open(CACHE);
   await Promise.all(PAGES.map(async (path) => keepIn(cache, path, await fetch(path, { cache: "no-cache" }).catch(() => null))));

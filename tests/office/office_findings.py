@@ -167,7 +167,7 @@ def slow_clubdesk():
 
 
 def terminals_that_stop():
-    """Neither Ctrl-Z nor a closed terminal stops a command that already runs clubdesk."""
+    """Once a command of `office` has started clubdesk, neither Ctrl-Z nor closing the terminal stops the command."""
     with slow_clubdesk():
         for number in (signal.SIGTSTP, signal.SIGHUP, signal.SIGTTOU):
             command = begun("credit", "amy", "3")

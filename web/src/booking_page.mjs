@@ -136,7 +136,7 @@ function reportTrouble(fault) {
 
 // ---- Loading
 
-// Loads the club's list. If this fails, the page keeps the old list, and the function returns the key of the text that explains the failure.
+// Loads club.json. If this fails, the page keeps the old list, and the function returns the key of the text that explains the failure.
 // Otherwise, the function returns "".
 async function fetchClub() {
   if (location.protocol === "file:" && !isToTry()) return "club-missing";

@@ -1,4 +1,4 @@
-// The page that narrows a pass. The page sends nothing. It loads only the club's list, if the page's server has this list.
+// The page that narrows a pass. The page sends nothing. It loads only club.json, if the page's server has this file.
 import { bytesOf, shown } from "./bytes.mjs";
 import { readClub } from "./club.mjs";
 import { showClub } from "./club_view.mjs";

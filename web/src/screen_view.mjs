@@ -57,7 +57,7 @@ function askToKeep() {
     button("", say("keep-yes"), answer(true)), button("", say("keep-no"), answer(false))));
 }
 
-// `loadClub` loads the club's list. If this fails, the screen keeps the old list.
+// `loadClub` loads club.json. If this fails, the screen keeps the old list.
 async function runScreen(loadClub) {
   for (;;) {
     await loadClub();
