@@ -175,7 +175,7 @@ def compare(kind, replies):
 
 
 def measure(clubdesk, path, askers, count, rounds, desks):
-    """Returns the median times of the rounds for each asker, kind of request and server. Also returns the number of compared replies."""
+    """Returns the median time of each round, for each asker, kind of request and server. Also returns the number of compared replies."""
     for name in (OURS, *desks):
         desk.copy(path, name)
     found = {title: {kind: defaultdict(list) for kind in KINDS} for title in askers}
