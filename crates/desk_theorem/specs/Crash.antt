@@ -48,11 +48,10 @@ abbrev pub leaves_sound_in : {S : Type 0} → Ghosts S → S → Club → List C
 leaves_sound_in g store club others =
     All IsSound (club ∷ others) × IsTrue (g.view store).is_numbered × LeavesOneOf g store (club ∷ others)
 
--- After a run and a crash, a reopened store represents exactly one club, and no later crash changes
--- the club. The store's club is the club after the answered events, or another club that a crash
--- after the run may leave. Suppose that the store's club is the club after the answered events, or
--- after one more event. Then an accepted repeat of a served request gets the first reply and
--- changes nothing.
+-- After a run and a crash, a reopened store represents exactly one club, which no later crash
+-- changes. This club is the club after the answered events, or another club that the crash may have
+-- left. If it is the club after the answered events, or the club after one more event, then an
+-- accepted repeat of a served request gets the first reply and changes nothing.
 pub record RecoversAfterRun {E : Type 0} {e : disk.Ghosts E} (opened : Held (FileStore E e)) (club : Club) (others : List Club) (events : List machine.Event)
     (returned : List DeskResponse) : Type 0 where
   pub now : Club

@@ -25,7 +25,7 @@ abbrev pub exit_status : Result Outcome Fault → ℕ
 exit_status (Ok outcome) = outcome_status outcome
 exit_status (Err fault) = fault_status fault
 
--- The number in the line for a fault of a pass. The fault `Memory` has no number.
+-- The number that the program prints for a fault of a pass. The fault `Memory` has no number.
 abbrev pub form_number : FormFault → Option ℕ
 form_number form.TooLong = Some 1
 form_number form.Malformed = Some 2
@@ -33,7 +33,8 @@ form_number form.ThirdParty = Some 3
 form_number form.TooMany = Some 4
 form_number form.Memory = None
 
--- The line for a fault of a pass. The number comes before the text, if the fault has a number.
+-- The line that the program prints for a fault of a pass. If the fault has a number, the number comes
+-- before the text.
 abbrev pub with_number : Option ℕ → List ℕ → List ℕ
 with_number None text = text
 with_number (Some number) text = codes "fault " ++ (decimal number ++ (codes ": " ++ text))
