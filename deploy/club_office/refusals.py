@@ -260,9 +260,10 @@ REFUSALS = {
     ),
     "begun otherwise": ("{label} was started with another number of points: {points}", "{label} wurde mit einer anderen Punktzahl begonnen: {points}"),
     "credited otherwise": (
-        "the credits of {member} have changed since {label} was interrupted: see `log {member}`, and correct the last line with `{label} {member}` in {path}",
-        "{member} hat andere Gutschriften, seit {label} unterbrochen wurde: sieh in `log {member}` nach und berichtige die letzte Zeile mit `{label} {member}`"
-        " in {path}",
+        "the credits of {member} have changed since {label} was interrupted: see `log {member}`, and in {path} correct the last line that"
+        " contains `{label} {member}`",
+        "{member} hat andere Gutschriften, seit {label} unterbrochen wurde: sieh in `log {member}` nach und berichtige in {path} die letzte Zeile, die"
+        " `{label} {member}` enthält",
     ),
     "not credited": (
         "crediting {member} failed: status {status}; fix the problem, and repeat the command",

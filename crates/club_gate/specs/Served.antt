@@ -102,8 +102,8 @@ pub record IsLawful (club : Club) (text : List ℕ) (request : Request) (moment 
 abbrev pub IsJson : List ℕ → Type 0
 IsJson text = (bytes : List ℕ) × IsUnwrapped text (Ok (Json, bytes))
 
--- If a text isn't JSON and doesn't encode a pass, the reply is always the text's fault, and never
--- `Unavailable`.
+-- If a text isn't JSON and doesn't encode a pass, the reply always states the fault in the text, and
+-- is never `Unavailable`.
 abbrev pub RefusesByFormFault : List ℕ → Reply → Type 0
 RefusesByFormFault text reply =
     (fault : FormFault) → ¬ IsJson text → IsAnyReading text (Err fault) → reply ≡ Refused (form_refusal (fault_of fault))
