@@ -279,7 +279,7 @@ REFUSALS = {
     ),
     "no passes given": ("standard input has no passes", "in der Standardeingabe sind keine Pässe"),
     "no one-line pass": ("the file has no pass on a single line", "darin ist kein Pass in einer Zeile"),
-    "no key's pass": ("the pass in the file names no key", "darin ist kein Pass eines Schlüssels"),
+    "no key's pass": ("the file has a pass that isn't for a key", "darin ist kein Pass eines Schlüssels"),
     "pass of another": ("the file has a pass of another key, {key}", "darin ist der Pass eines anderen Schlüssels, {key}"),
     "no such key": ("the club has no key {key}, or it is revoked", "der Verein hat keinen Schlüssel {key}, oder er ist widerrufen"),
     "no zone name": ("{zone} is not the name of a time zone", "{zone} ist kein Name einer Zeitzone"),
@@ -330,7 +330,7 @@ REFUSALS = {
     "limit hours": ("the opening hour isn't before the closing hour: {row}", "öffnet nicht vor dem Schließen: {row}"),
     "limit places": ("more persons than places: {row}", "mehr Personen als Plätze: {row}"),
     "limit refund": ("refund without a cancellation, or above the charge: {row}", "Erstattung ohne Absage oder über dem Preis: {row}"),
-    "limit reference": ("reference to a missing row: {row}", "Verweis auf eine fehlende Zeile: {row}"),
+    "limit reference": ("this row refers to a missing row: {row}", "diese Zeile verweist auf eine fehlende: {row}"),
 }
 
 # German translations of clubdesk's fixed texts about a command, and of the desk's fixed texts about a request.

@@ -119,8 +119,8 @@ def command_of(attempt):
 
 
 def hold_book(commands):
-    """In the book, a command has status 0 if it is done, and a question mark if it was interrupted. The club must have all credits and debits with
-    status 0. It may have those with a question mark, and no others."""
+    """In the book, a command has status 0 if it is done, and a question mark if it was interrupted. The club must contain each credit and
+    debit that has status 0 in the book. It may also contain those with a question mark, but no others."""
     book = [line.split() for line in done("log", "zoe").splitlines()]
     book = [(status, command, words) for _, _, status, command, *words in book if command in ("credit", "debit")]
     sums, counts = {0}, Counter(status for status, _, _ in book)
