@@ -178,7 +178,7 @@ def test_vectors(library, language):
 
 @pytest.mark.parametrize("language", ["c", "python", "go", "node"])
 def test_lent_pass_of_the_page(library, language):
-    """The example narrows the pass of README, and prints the pass and `signed`."""
+    """The example narrows the pass in README, and prints the narrowed pass and the word `signed`."""
     page = (desk.ROOT / "README.md").read_text(encoding="utf-8")
     text = next(it for it in page.split() if it.startswith("AgEJ"))
     folder = {"c": "c", "python": "python", "go": "go", "node": "node"}[language]

@@ -87,8 +87,9 @@ impl<S: ClubStore + Drop> Bench<S> {
         )
     }
 
-    // Returns the time in which the desk answers all requests, and the time of writing the replies'
-    // texts. Fails if the last text doesn't begin with `last`, the last reply of the desk `whole`.
+    // Returns how long the desk takes to answer all requests, and how long it takes to write the
+    // replies' texts. Fails if the last text doesn't begin with `last`. This argument must be the
+    // last reply of the desk `whole`.
     fn decided_and_written(
         &mut self,
         rt: &(impl Clock + AllocGlobal),
