@@ -237,7 +237,7 @@ def status_of(test, output, root, variables, seconds):
         finally:
             if process.returncode is None:
                 end(process)
-                output.write(b"\nended with all that it began: a run may take %g minutes\n" % (test.seconds / 60))
+                output.write(b"\nkilled with its child processes: a run may take %g minutes\n" % (test.seconds / 60))
 
 
 def status_with_fault(test, output, seconds):

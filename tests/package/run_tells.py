@@ -103,7 +103,7 @@ def test_one_that_takes_too_long(tree, by):
         without_pytest(tree)
     status, found, counts, _ = run(tree, "sleeps", "passes")
     assert (status, counts) == (1, "1 passed, 1 failed, 0 skipped")
-    assert found["sleeps"].startswith("failed: ended")
+    assert found["sleeps"].startswith("failed: killed")
     assert all_are_gone((tree / "begun").read_text().split())
 
 

@@ -1,5 +1,5 @@
 #!/usr/bin/env -S /usr/bin/python3 -B
-"""Desks in C, Go and Python with SQLite's library reply as clubdesk does. The test compares their times with clubdesk's.
+"""Desks written in C, Go and Python, which use SQLite's library, reply as clubdesk does. The test compares their times with clubdesk's.
 
 The test measures requests of 50 members, in a file with 100 past bookings and in a file with 100,000. In the second file, the test also measures
 requests of a member with 10,000 bookings of her own, and of a member without bookings. The desk beside_c/desk.c has its own server. The desk

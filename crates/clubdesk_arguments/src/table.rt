@@ -118,7 +118,8 @@ Example:
 
 const CANCEL_BOOKING_HELP: &str =
     "NUMBER is the booking's number, 1 to 999999999. Refunds the whole charge, even
-if the slot has begun or the key is revoked. A cancelled booking stays as it is.
+if the slot has begun or the key is revoked. Changes nothing if the booking is
+already cancelled.
 
 Example:
   clubdesk cancel-booking club.db amy-1 7";
