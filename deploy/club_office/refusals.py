@@ -239,7 +239,7 @@ REFUSALS = {
     "no person": ("standard input has no personal data", "in der Standardeingabe sind keine Angaben zur Person"),
     "desk silent": ("the desk on port {port} doesn't answer: {fault}", "der Server an Port {port} antwortet nicht: {fault}"),
     "desk says": ("the desk says: {text}", "der Server sagt: {text}"),
-    "no office key": ("no name is free for the key that the office needs to book for {member}", "für einen Büroschlüssel von {member} ist kein Name frei"),
+    "no office key": ("to book for {member}, the office needs a key, but no name is free for it", "für einen Büroschlüssel von {member} ist kein Name frei"),
     "booked already": (
         "{slot} is already booked for {member}: {booking}; --again books once more",
         "{slot} ist für {member} schon gebucht: {booking}; --again bucht noch einmal",
