@@ -195,8 +195,9 @@ module _ {Log : Type 0} (Begins : Log → Log → Type 0) (Noted : Notes Log) wh
   IsBegun log event begun = Begins log begun
 
   -- The effect of a turn on the log. If the server accepted a client or a command, the log first
-  -- notes that the turn begins. Then the log notes the beginning and the event of each command
-  -- during the turn. At the end of the turn, the log notes the turn's own event.
+  -- notes that the turn begins. Then, for each command during the turn, the log notes that the
+  -- command begins, and later the command's event. At the end of the turn, the log notes the turn's
+  -- own event.
   pub record IsNoted (log : Log) (turn : Turn) (log' : Log) : Type 0 where
     pub begun : Log
     pub awaited : Log
