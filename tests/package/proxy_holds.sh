@@ -96,7 +96,7 @@ cp /etc/clubdesk/club.conf configured
 sed -i 's/^ZONE=.*/ZONE=GMT0BST,M3.5.0\/1,M10.5.0/' /etc/clubdesk/club.conf
 holds 'the zone of the server' club_json Europe/London
 if club_json Europe/Berlin >told 2>&1; then fail "club_json accepts a zone that isn't the server's"; fi
-same 'the reason of the refusal' 1 "$(grep -c 'one of them is another zone' told)"
+same 'the reason of the refusal' 1 "$(grep -c 'one of the two time zones is wrong' told)"
 cp configured /etc/clubdesk/club.conf
 
 # ---- A certificate, and a site with this certificate.

@@ -23,9 +23,9 @@ use pass_forms::FieldSource;
 
 impl<S: ClubStore> Desk<S> {
     /// Reads the booking with the request's number, and the facility of the request's slot. But if
-    /// the booking exists, this method reads the facility only if a caveat depends on the facility's
-    /// kind. The only other value of the club that caveats depend on is the number of points that
-    /// the key has spent. The source yields the fields of the pass.
+    /// the booking exists, this method reads the facility only if a caveat depends on its kind. The
+    /// only other value of the club that caveats depend on is the number of points that the key has
+    /// spent. The source yields the fields of the pass.
     pub(crate) fn first_view<'a, F: FieldSource<'a> + Drop>(
         &mut self,
         source: &F,

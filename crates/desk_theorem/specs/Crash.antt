@@ -50,8 +50,8 @@ leaves_sound_in g store club others =
 
 -- After a run and a crash, a reopened store represents exactly one club, which no later crash
 -- changes. This club is the club after the answered events, or another club that the crash may have
--- left. If it is the club after the answered events, or the club after one more event, then an
--- accepted repeat of a served request gets the first reply and changes nothing.
+-- left. Suppose that it is the club after the answered events, or the club after one more event.
+-- Then an accepted repeat of a served request gets the first reply and changes nothing.
 pub record RecoversAfterRun {E : Type 0} {e : disk.Ghosts E} (opened : Held (FileStore E e)) (club : Club) (others : List Club) (events : List machine.Event)
     (returned : List DeskResponse) : Type 0 where
   pub now : Club
