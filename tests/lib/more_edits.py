@@ -3,7 +3,10 @@
 
 Most edits change the body of a single function. The proof of a function depends only on its own body and on the contracts of the functions that it
 calls. Therefore, one check can try edits of several functions together. If this check gives no verdict on one of the functions, the program tries
-the edit of that function alone."""
+the edit of that function alone.
+
+Other edits change a constant, such as an SQL text. One check can try edits of several constants, too: a lemma that cites only one of these constants
+fails because of that constant's edit."""
 import os
 import re
 import shutil
@@ -34,8 +37,13 @@ WANTED = re.compile(r"no proof: expected answers in (?:\./)?(\S+);")
 HEAD = re.compile(r"(?:pub )?([^\s:]+) : ")
 # The first line of a function, and of a block that contains functions, in the layout of `rt fmt`.
 FUNCTION = re.compile(r"(?P<indent> {4})?(?:pub(?:\([^)]*\))? )?(?:const )?(?:extern \"C\" )?fn (?P<name>\w+)")
+# The first line of a constant at the top level of a file, and of a declaration in a proof file.
+CONSTANT = re.compile(r"(?:pub(?:\([^)]*\))? )?(?:const|static) (?P<name>\w+)")
+DECLARATION = re.compile(r"\s*(?:pub )?([^\s:]+) : ")
+# The message of rattle about declarations that it didn't check because they depend on another declaration.
+UNCHECKED = re.compile(r"declarations? that depends? on")
 BLOCK = re.compile(r"(?:impl(?:<.*?>)? |(?:pub(?:\([^)]*\))? )?trait )(?:(?:\w+::)*(?P<trait>\w+)(?:<.*?>)? for )?(?:\w+::)*(?P<type>\w+)")
-AT_ONCE = 10  # the most edits that one check tries
+AT_ONCE = 30  # the most edits that one check tries
 # The message of rattle when it reaches its own limit and gives no verdict.
 LIMIT = re.compile(r"antt ran out of (stack|the (steps|memory) that the check of one declaration may)|outgrew the memory limit|stopped at the step limit")
 
@@ -106,23 +114,35 @@ def function_at(path, text, offset):
     return (*words, head["name"]), first + 1, last + 1
 
 
-def edited_function(crate, edit):
-    """Returns the file and the function whose body contains all changes of an edit, or None."""
+def constant_at(text, offset):
+    """Returns the constant whose declaration contains a place in a file, as its name after "const", its first line and its last line. Returns None if
+    no declaration of a constant contains the place."""
+    lines = text.split("\n")
+    place = text.count("\n", 0, offset)
+    first = next(it for it in range(place, -1, -1) if it == 0 or lines[it][:1].strip())
+    head = CONSTANT.match(lines[first])
+    last = next((it for it in range(first, len(lines)) if lines[it].endswith(";")), -1)
+    return (("const", head["name"]), first + 1, last + 1) if head and place <= last else None
+
+
+def edited_item(crate, edit):
+    """Returns the file and the function whose body contains all changes of an edit, or the file and the constant whose declaration contains them.
+    Returns None if there is no such function or constant."""
     found = set()
     for path, old, _ in changes_of(edit):
         text = (crate / path).read_text(encoding="utf-8")
-        is_code = path.startswith("src/") and text.count(old) == 1
-        found.add((path, function_at(path, text, text.index(old)) if is_code else None))
-    path, function = found.pop() if len(found) == 1 else (None, None)
-    return (path, function) if function else None
+        offset = text.index(old) if path.startswith("src/") and text.count(old) == 1 else None
+        found.add((path, None if offset is None else function_at(path, text, offset) or constant_at(text, offset)))
+    path, item = found.pop() if len(found) == 1 else (None, None)
+    return (path, item) if item else None
 
 
 def groups_of(crate, edits):
-    """Groups the edits. No two edits of a group change the same function. An edit that doesn't change exactly one function body is alone in its
-    group."""
+    """Groups the edits. No two edits of a group change the same function or constant. An edit that doesn't change exactly one function body or constant
+    is alone in its group."""
     groups = []
     for edit in edits:
-        place = edited_function(crate, edit)
+        place = edited_item(crate, edit)
         open_one = next((it for it in groups if place and None not in it and place not in it and len(it) < AT_ONCE), None)
         if open_one is None:
             groups.append(open_one := {})
@@ -183,6 +203,31 @@ def open_goal(lines, gone):
     return next((line for line in lines if line in failing or (wanted := WANTED.search(line)) and wanted[1] not in gone), None)
 
 
+def declaration_at(text, number):
+    """Returns the text of the declaration of a proof file that contains this line. The text begins with the declaration's type."""
+    found, name = [], None
+    for place, line in enumerate(text.split("\n"), 1):
+        head = DECLARATION.match(line)
+        if head and head[1] != name:
+            if place > number:
+                break
+            found, name = [], head[1]
+        found.append(line)
+    return "\n".join(found)
+
+
+def lines_about(crate, constant, others, lines):
+    """Returns the lines of a check that report a fault in a declaration of a proof file, if the declaration cites this constant and none of the
+    others."""
+    found = []
+    for line, path, number, *_ in faults_in(lines):
+        if path.startswith("proofs/") and not UNCHECKED.search(line):
+            cited = set(re.findall(r"\w+", declaration_at((crate / path).read_text(encoding="utf-8"), number)))
+            if constant in cited and not cited & others:
+                found.append(line)
+    return found
+
+
 def lines_of(crate, path, function, lines):
     """Returns the lines of a check that are about this function. If a method is in another file than its type, rt names the method after the type's
     module."""
@@ -239,8 +284,8 @@ class Trial:
         return ("proved" if line.endswith((" ok", " lines")) else "test"), line
 
     def told_together(self, group):
-        """Checks the crate once with all edits of a group. Returns the results of those edits whose functions have a false or open goal and no
-        missing name."""
+        """Checks the crate once with all edits of a group. Returns the results of those edits whose functions or constants have a false or open goal and
+        no missing name."""
         for edit in group.values():
             with suppress(NoVerdict):
                 self.put(edited_texts(self.crate, edit))
@@ -248,9 +293,10 @@ class Trial:
         with suppress(NoVerdict):
             lines, _ = check(self.crate)
         self.restore()
-        told = {}
-        for (path, function), edit in group.items():
-            own = lines_of(self.crate, path, function, lines)
+        told, constants = {}, {words[1] for _, (words, *_) in group if words[0] == "const"}
+        for (path, item), edit in group.items():
+            kind, name = item[0][0], item[0][-1]
+            own = lines_about(self.crate, name, constants - {name}, lines) if kind == "const" else lines_of(self.crate, path, item, lines)
             if any(is_name for *_, is_name in faults_in(own)):
                 continue
             if false := next(filter(FALSE.search, own), None):
