@@ -111,7 +111,8 @@ fn a_command_beside_a_silent_client(rt: HostRuntime) -> Result<(), Fail> {
     Ok(())
 }
 
-/// A clock that makes a client send the rest of its request while the server sleeps.
+/// A clock that makes a client send the rest of its request when the server has slept for 30
+/// milliseconds.
 #[derive(Drop)]
 struct Sending<'s> {
     client: &'s TcpStream,
@@ -130,13 +131,15 @@ impl Clock for Sending<'_> {
 
     fn sleep(&self, duration: Duration) {
         self.slept.set(self.slept.get().saturating_add(duration));
-        let mut client = self.client;
-        let _ = client.write_all(self.rest.replace(b""));
+        if self.slept.get() >= Duration::from_millis(30) {
+            let mut client = self.client;
+            let _ = client.write_all(self.rest.replace(b""));
+        }
     }
 }
 
-// Each accept at the door fails. After a sleep, the server serves the client before it tries the
-// door again.
+// Each accept at the door fails. After each sleep, the server looks at the client and at the door
+// again.
 #[test]
 fn a_door_that_fails_beside_a_client(rt: HostRuntime) -> Result<(), Fail> {
     let path = new_path(&rt, "fails-beside-a-client")?;
@@ -156,7 +159,7 @@ fn a_door_that_fails_beside_a_client(rt: HostRuntime) -> Result<(), Fail> {
     drop(connection);
     fs::remove_file(&rt, path.as_str())?;
     expect_eq(&rt, &(outcome.is_ok(), desk.asked), &(true, 1));
-    expect_eq(&rt, &clock.slept.get(), &Duration::from_millis(10));
+    expect_eq(&rt, &clock.slept.get(), &Duration::from_millis(30));
     expect_reply(&rt, &mut client, REPLY);
     Ok(())
 }
