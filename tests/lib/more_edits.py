@@ -204,7 +204,7 @@ def open_goal(lines, gone):
 
 
 def declaration_at(text, number):
-    """Returns the text of the declaration of a proof file that contains this line. The text begins with the declaration's type."""
+    """Returns the lines of the declaration in a proof file that contains line `number`, from its name and type on."""
     found, name = [], None
     for place, line in enumerate(text.split("\n"), 1):
         head = DECLARATION.match(line)
