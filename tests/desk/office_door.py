@@ -4,14 +4,15 @@
 The door is the Unix socket through which the desk's server receives the office's commands. The test sends truncated, slow and invalid commands. The
 test also runs senders and servers that misbehave. The real server must go on serving.
 
-The test sends each prefix of a command, commands of 70,000 bytes, and commands that state a wrong number of words. Some commands have an unknown
-name, the name `serve`, or arguments that aren't UTF-8. Some senders close the connection before the greeting, are silent, or never read the answer.
+The test sends each prefix of a command, commands of 70,000 bytes, and JSON that isn't an array of texts. Some commands have an unknown name, the
+name `serve`, or arguments that aren't UTF-8. Some senders close the connection before the greeting, are silent, or never read the answer.
 Some servers don't greet or answer, are suspended for longer than a timeout, or end before they greet. Then the test runs 50 simultaneous commands,
 and runs a command as the user root on another user's desk. Some doors are stale, belong to root or to a stranger, or are behind a link. Other doors
 are in a folder that a server can't write to, or on a full disk. The parts with other users or a full disk must run as root.
 """
 
 import contextlib
+import json
 import os
 import shutil
 import signal
@@ -29,10 +30,9 @@ import kinds
 pytestmark = [pytest.mark.faults, pytest.mark.needs("clubdesk"), pytest.mark.wants("sqlite3")]
 
 
-def command_bytes(*words, root="", count=None):
-    """Returns the bytes of a command: its number of words, its root, and its words. A zero byte ends the number, the root and each word."""
-    pieces = [str(len(words) if count is None else count), root, *words]
-    return b"".join(it.encode() + b"\0" for it in pieces)
+def command_bytes(*words, root=""):
+    """Returns the JSON of a command: an array of its root and its words."""
+    return json.dumps([root, *words]).encode()
 
 
 CREDIT = ("clubdesk", "credit", "club", "amy", "1")
@@ -92,8 +92,8 @@ def test_cut_at_each_byte(club, serving):
 
 
 @pytest.mark.parametrize("data", [
-    command_bytes(*CREDIT, count=4), command_bytes(*CREDIT, count=6), b"05\0\0" + b"".join(it.encode() + b"\0" for it in CREDIT),
-    WHOLE + b"\0", WHOLE[:-1] + b"\0\0", b"5\0\0clubdesk\0credit\0club\0amy\xff\0" + b"1\0",
+    command_bytes(*CREDIT[:4], 1), command_bytes(*CREDIT, root=None), b"[" + WHOLE + b"]", WHOLE + WHOLE, WHOLE + b"\0",
+    WHOLE.replace(b"amy", b"am\xff"), b"5\0\0" + b"".join(it.encode() + b"\0" for it in CREDIT),
     command_bytes("clubdesk", "serve", "club", "--port", "0", "--count", "1"), command_bytes("clubdesk", "--help"), command_bytes(), b"\0" * 100])
 def test_no_command(club, serving, data):
     assert answer(club, data)[0] == 2

@@ -1,5 +1,5 @@
 -- Lemmas for comparing the servers of two desks.
-use Rattle.std.proofs.Common.{◌≡◌, ℕ, List, ◌∷◌, Option, Some, None, Result, Ok, Err, refl}
+use Rattle.std.proofs.Common.{◌≡◌, ℕ, List, Option, Some, None, Result, Ok, Err, refl}
 use Rattle.jiff_core.specs.declared.timestamp.Timestamp.{Timestamp}
 use Rattle.club_core.specs.declared.{reply.Reply.Reply, request.Request.Request}
 use Rattle.club_clock.specs.Moments.{GivesMoment, showing}

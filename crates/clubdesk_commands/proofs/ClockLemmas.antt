@@ -1,5 +1,5 @@
 -- Lemmas that reduce a server over a store and a clock to a server over the store.
-use Rattle.std.proofs.Common.{◌≡◌, ℕ, List, Option, Result, ◌∙◌, ap, refl}
+use Rattle.std.proofs.Common.{◌≡◌, ℕ, List, Option, Result, ◌∙◌, refl}
 use Rattle.jiff_core.specs.declared.timestamp.Timestamp.{Timestamp}
 use Rattle.club_core.specs.declared.{reply.Reply.Reply, request.Request.Request}
 use Rattle.club_http.specs.Replied.{AnswerRelation}

@@ -1,5 +1,5 @@
 -- Lemmas for comparing a server over a store with a server over a club.
-use Rattle.std.proofs.Common.{◌≡◌, ◌≢◌, ◌⊎◌, ℕ, false, List, ◌∷◌, Option, Some, None, Result, Ok, Err, inl, inr, refl, ap}
+use Rattle.std.proofs.Common.{◌≡◌, ◌≢◌, ◌⊎◌, ℕ, false, List, ◌∷◌, Option, Some, None, Result, inl, inr, refl, ap}
 use Rattle.std.specs.{Prelude.String, declared.alloc.Global.Global}
 use Rattle.clap.specs.Words.{Text}
 use Rattle.club_core.specs.{Answer.verdict_in, Club.Club, Pass.Words, Run.{Event, Asked, step, Response, ToMember}, declared.change.Change.Change}
@@ -7,21 +7,17 @@ use Rattle.club_core.specs.declared.{command.Command.Command, refusal.Refusal.Th
 use Rattle.club_core.specs.declared.{request.Request.Request, store.StoreFault.StoreFault}
 use Rattle.club_gate.specs.{Desk.{HasFailed, IsAnsweredBy, IsDecidedBy, IsRefusedBy, Steps}, Response.desk_presentation, declared.event.OfficeReply.OfficeReply}
 use Rattle.club_gate.specs.declared.fault.Fault.{Fault as DeskFault}
-use Rattle.club_http.specs.{Desk.AnswersBy, Replied.IsReplied, declared.fault.AnswerFault.{AnswerFault, TheVariants.{Read, Write}}}
-use Rattle.club_http.specs.Replied as replied
+use Rattle.club_http.specs.{Desk.AnswersBy}
 use Rattle.club_laws.specs.Failed.{IsStep, is_unavailable}
 use Rattle.clubdesk_arguments.specs.declared.{fault.Fault.Fault, task.{Service.Service, Task.{Task, TheVariants.{Give, Key, ShowAccount}}}}
 use Rattle.clubdesk_commands.specs.{Does.{DeskShows, Does, IsAnswered}, Machine.{Always, IsItself, machine_answers, machine_commands}}
-use Rattle.clubdesk_commands.specs.{OfficeDesk.{CarriesOutBy, DoesArguments}, Run.{FollowsMachine, RunsServer, over_socket}}
+use Rattle.clubdesk_commands.specs.{OfficeDesk.{CarriesOutBy, DoesArguments}, Run.{FollowsMachine, RunsServer}}
 use Rattle.clubdesk_commands.specs.Does as does
 use Rattle.clubdesk_commands.proofs.AlikeLemmas.{run_alike}
 use Rattle.jiff_core.specs.declared.timestamp.Timestamp.{Timestamp}
 use Rattle.clubdesk_commands.specs.OfficeDesk as spec
-use Rattle.clubdesk_commands.specs.Run as run
-use Rattle.desk_server.specs.{Served.{AreCommanded, AreServed, IsAttended, IsCarriedOut, IsExchanged, ServesOne, Turn}, declared.log.LogEvent.LogEvent}
-use Rattle.desk_server.specs.declared.{log.LogEvent.TheVariants.{Absent, Overrun, Unanswered, Exchanged, Commanded}, office.{Answer.Answer, Carried.Carried}}
-use Rattle.desk_server.specs.Served as served
-use Rattle.club_clock.specs.Moments.{GivesMoment}
+use Rattle.desk_server.specs.{Served.{Turn}}
+use Rattle.desk_server.specs.declared.{office.{Answer.Answer}}
 
 machine_steps : (club next : Club) (event : Event) (response : Response OfficeReply) → IsStep desk_presentation club event response next
     → Steps IsItself club next event response

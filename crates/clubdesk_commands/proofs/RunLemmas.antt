@@ -8,7 +8,7 @@ use Rattle.desk_server.specs.{Databases.Giving, Served.Turn, declared.databases.
 use Rattle.clubdesk_arguments.specs.{Arguments.{AskFor, ReadsArguments}, Fault.fault_of_opening, JobModel.JobModel, declared.fault.Fault.Fault}
 use Rattle.clubdesk_arguments.specs.declared.{fault.Fault.TheVariants.{Memory, ClockOutOfRange, InputOutput}, task.{Service.Service, Work.Work}}
 use Rattle.command_line.specs.declared.job.Asked.{Asked, TheVariants.Perform}
-use Rattle.clubdesk_commands.specs.{HandedCommand.command_bytes, Output.{EndsWork, Stream}, Run.{Announces, IsHandedOver, IsReply, Serves}}
+use Rattle.clubdesk_commands.specs.{HandedCommand.SpellsCommand, Output.{EndsWork, Stream}, Run.{Announces, IsHandedOver, IsReply, Serves}}
 use Rattle.clubdesk_commands.specs.Run as spec
 
 pub asks_for : (given arguments : List Text) (read : Asked JobModel) (job whole : JobModel) (work : Work) → given ≡ arguments → ReadsArguments given (Ok read)
@@ -18,10 +18,10 @@ asks_for given arguments read job whole work same reads is as_whole asked =
     subst (λ (it : Asked JobModel). ReadsArguments arguments (Ok it)) as_asked (subst (λ (texts : List Text). ReadsArguments texts (Ok read)) same reads)
 
 pub handed_reply : {V : Type 0} (Gives : Giving V) (visit : V) (root : Text) (arguments : List Text) (given bytes : List ℕ) (reply : Option (ℕ × List ℕ))
-    (answer : Result (List ℕ) Fault) → given ≡ bytes → bytes ≡ command_bytes root arguments → Gives visit given reply → IsReply reply answer
+    (answer : Result (List ℕ) Fault) → given ≡ bytes → SpellsCommand bytes root arguments → Gives visit given reply → IsReply reply answer
     → IsHandedOver Gives visit root arguments answer
 handed_reply Gives visit root arguments given bytes reply answer same made gives is =
-    spec.handed reply (subst (λ (text : List ℕ). Gives visit text reply) (same ∙ made) gives) is
+    spec.handed bytes reply made (subst (λ (text : List ℕ). Gives visit text reply) same gives) is
 
 pub not_opened : (Unwritten : Type 0) (fault : StoreFault) (result : Result Unit Fault) → result ≡ Err (fault_of_opening fault) → Unwritten
     → EndsWork Unwritten result

@@ -1,43 +1,22 @@
--- Defines the bytes that encode a command for a server.
-use Rattle.std.specs.{List.AllByRecursion, Prelude.{◌≡◌, ◌≢◌, ℕ, List, [], ◌∷◌, ◌++◌, length, map, Option, Some, None, decimal}, Str.{IsUtf8, Iter.LacksByte}}
-use Rattle.std.specs.String.{string_bytes}
+-- Defines the JSON that encodes a command for a server.
+use Rattle.std.specs.{Prelude.{◌≡◌, ℕ, List, ◌∷◌, map, Option, Some, None}, Str.IsUtf8, String.string_bytes}
+use Rattle.serde_json.specs.{Data.{Data, array, string}, Read.read, View.items_of}
 use Rattle.clap.specs.Words.{Text}
 use Rattle.clubdesk_commands.specs.declared.handed_command.HandedCommand.{HandedCommand}
 
--- A text followed by a zero byte. An argument has no zero byte, so the zero byte marks the end of
--- the argument.
-abbrev pub piece : Text → List ℕ
-piece text = text ++ 0 ∷ []
+-- An array of texts. The first text is the root, and the others are the arguments. The root is an
+-- empty text if the command gives no root to a key.
+abbrev pub command_data : Text → List Text → Data
+command_data root arguments = array (items_of (map string (root ∷ arguments)))
 
-abbrev pub pieces : List Text → List ℕ
-pieces [] = []
-pieces (text ∷ texts) = piece text ++ pieces texts
-
--- The encoding of a command. The encoding consists of the number of arguments in decimal, the root,
--- and the arguments. Each of these texts is followed by a zero byte. The root is an empty text if
--- the command gives no root to a key.
-abbrev pub command_bytes : Text → List Text → List ℕ
-command_bytes root arguments = piece (decimal (length arguments)) ++ (piece root ++ pieces arguments)
-
--- The text is valid UTF-8 without zero bytes, so it can be an argument or a root.
-abbrev pub IsPieceText : Text → Type 0
-IsPieceText text = IsUtf8 text × LacksByte 0 text
-
--- The bytes encode the command with this root and these arguments.
+-- The bytes are JSON for the command with this root and these arguments.
 pub record SpellsCommand (bytes : List ℕ) (root : Text) (arguments : List Text) : Type 0 where
-  pub spelled : bytes ≡ command_bytes root arguments
-  pub root_piece : IsPieceText root
-  pub all_pieces : AllByRecursion IsPieceText arguments
+  pub utf8 : IsUtf8 bytes
+  pub spelled : read bytes ≡ Some (command_data root arguments)
 
 -- The bytes encode no command.
 abbrev pub SpellsNoCommand : List ℕ → Type 0
 SpellsNoCommand bytes = (root : Text) (arguments : List Text) → SpellsCommand bytes root arguments → ⊥
-
--- The bytes are any number of arguments, each followed by a zero byte, and then one or more nonzero
--- bytes.
-abbrev pub EndsWithoutZero : List ℕ → Type 0
-EndsWithoutZero bytes =
-    (arguments : List Text) × (rest : List ℕ) × AllByRecursion IsPieceText arguments × LacksByte 0 rest × (rest ≢ []) × (bytes ≡ pieces arguments ++ rest)
 
 -- The bytes encode this command. `None` means that the bytes encode no command.
 abbrev pub IsCommandOf : List ℕ → Option HandedCommand → Type 0

@@ -15,7 +15,7 @@ use Rattle.clubdesk_arguments.specs.{Arguments.{AskFor, ReadsArguments}, Fault.{
 use Rattle.clubdesk_arguments.specs.declared.{fault.Fault.TheVariants.{Memory, ClockOutOfRange, InputOutput, NoAnswer, Answered}, task.KeyCommand.KeyCommand}
 use Rattle.clubdesk_arguments.specs.declared.task.{Service.Service, Task.{Task, TheVariants.Key}, Work.TheVariants.{Office, Rootless, Serve}}
 use Rattle.club_clock.specs.{Moments.showing, declared.clock.Clock.Clock}
-use Rattle.clubdesk_commands.specs.{Does.Does, HandedCommand.command_bytes, Input.TakesRoot, Machine.{machine_answers, machine_commands}}
+use Rattle.clubdesk_commands.specs.{Does.Does, HandedCommand.SpellsCommand, Input.TakesRoot, Machine.{machine_answers, machine_commands}}
 use Rattle.clubdesk_commands.specs.{OfficeDesk.CarriesOutBy, Output.{EndsWork, LogChange, Prints, Stream}}
 use Rattle.jiff_core.specs.declared.timestamp.Timestamp.{Timestamp}
 
@@ -107,7 +107,7 @@ IsReply reply (Err fault) = ⊥
 pub data IsHandedOver {Visit : Type 0} (Gives : Giving Visit) (visit : Visit) (root : Text) (arguments : List Text)
     (answer : Result (List ℕ) Fault) : Type 0 where
   not_handed : answer ≡ Err Memory → IsHandedOver Gives visit root arguments answer
-  handed : (reply : Option (ℕ × List ℕ)) → Gives visit (command_bytes root arguments) reply → IsReply reply answer
+  handed : (bytes : List ℕ) (reply : Option (ℕ × List ℕ)) → SpellsCommand bytes root arguments → Gives visit bytes reply → IsReply reply answer
       → IsHandedOver Gives visit root arguments answer
 
 module _ {D S R V Machine : Type 0} (databases : DatabasesWords D S R V) (visits : VisitWords V) (stores : StoreWords S)

@@ -1,13 +1,13 @@
-//! Encodes a command for a server as bytes, and decodes the bytes.
-
-ghost use Rattle.std.specs.List.{AllByRecursion};
-ghost use Rattle.std.specs.Prelude.{◌≡◌, ◌++◌, ◌∷◌, [], IfOk, MatchOption, OnOk, map};
+//! Encodes a command for a server as JSON, and decodes the JSON.
+ghost use Rattle.std.specs.Prelude.{◌≡◌, ◌∷◌, IfOk, List, MatchOption, map};
 ghost use Rattle.std.specs.String.{string_bytes};
+ghost use Rattle.clap.specs.Words.{Text};
+ghost use Rattle.serde_json.specs.{Data.string, View.view};
 ghost use Rattle.clubdesk_commands.specs.HandedCommand as spec;
 
+use serde_json::Value;
 use std::alloc::{AllocError, Global};
 use std::convert::AsStr;
-use std::str;
 
 /// A command that the program sends to a server: a key's root in hexadecimal, and the arguments.
 /// The root is empty if the command gives no root to a key. The first argument is the program's
@@ -18,49 +18,34 @@ pub struct HandedCommand {
     pub arguments: Vec<String>,
 }
 
-/// Encodes a command as bytes.
+/// Encodes a command as JSON, an array of the root and the arguments.
 ///
 /// # Errors
 ///
-/// Fails if memory for the bytes runs out.
+/// Fails if memory for the JSON runs out.
 pub fn command_bytes<S: AsStr>(
     alloc: Global,
     root: &str,
     arguments: &[S],
 ) -> Result<Vec<u8>, AllocError>
-    ensures { IfOk result (λ bytes. bytes.items ≡ spec.command_bytes root.now
+    ensures { IfOk result (λ bytes. spec.SpellsCommand bytes.items root.now
         (map S.text arguments.now)) }
 {
-    let count = arguments.len();
-    let count = format!(in alloc; "{count}")?;
-    let mut bytes = Vec::new(alloc);
-    push_piece(&mut bytes, count.as_str())?;
-    push_piece(&mut bytes, root)?;
-    push_pieces(&mut bytes, arguments)?;
-    Ok(bytes)
-}
-
-fn push_pieces<S: AsStr>(bytes: &mut Vec<u8>, arguments: &[S]) -> Result<(), AllocError>
-    ensures { OnOk result (bytes.new.items
-        ≡ bytes.old.items ++ spec.pieces (map S.text arguments.now)) }
-{
+    let mut texts = Vec::new(alloc);
+    texts.push(text_value(alloc, root)?)?;
     for argument in arguments {
-        push_piece(bytes, argument.as_str())?;
+        texts.push(text_value(alloc, argument.as_str())?)?;
     }
-    Ok(())
+    Value::Array(texts).to_vec(alloc)
 }
 
-fn push_piece(bytes: &mut Vec<u8>, text: &str) -> Result<(), AllocError>
-    ensures { OnOk result (bytes.new.items ≡ bytes.old.items ++ spec.piece text.now) }
+fn text_value(alloc: Global, text: &str) -> Result<Value, AllocError>
+    ensures { IfOk result (λ value. view value ≡ string text.now) }
 {
-    bytes.extend_from_slice(text.as_bytes())?;
-    bytes.push(0)?;
-    Ok(())
+    Ok(Value::String(format!(in alloc; "{text}")?))
 }
 
-/// Decodes a command, or returns `None` if the bytes encode no command. The root and the arguments
-/// must be valid UTF-8 without zero bytes. The number at the start of the bytes must be the number
-/// of arguments.
+/// Decodes a command from JSON, or returns `None` if the bytes encode no command.
 ///
 /// # Errors
 ///
@@ -68,42 +53,41 @@ fn push_piece(bytes: &mut Vec<u8>, text: &str) -> Result<(), AllocError>
 pub fn read_command(alloc: Global, bytes: &[u8]) -> Result<Option<HandedCommand>, AllocError>
     ensures { IfOk result (λ command. spec.IsCommandOf bytes.now command) }
 {
-    let Ok(text) = str::from_utf8(bytes) else {
+    let value = match Value::from_slice(alloc, bytes) {
+        Ok(value) => value,
+        Err(error) => {
+            return if error.is_memory() {
+                Err(AllocError)
+            } else {
+                Ok(None)
+            };
+        }
+    };
+    let Some(values) = value.as_array() else {
         return Ok(None);
     };
-    let Some(mut arguments) = split_arguments(alloc, text)? else {
+    let Some(mut arguments) = texts_of(alloc, values)? else {
         return Ok(None);
     };
-    if arguments.len() < 2 {
+    if arguments.is_empty() {
         return Ok(None);
     }
-    let count = arguments.remove(0);
     let root = arguments.remove(0);
-    let many = arguments.len();
-    let spelled = format!(in alloc; "{many}")?;
-    if spelled.as_str() == count.as_str() {
-        Ok(Some(HandedCommand { root, arguments }))
-    } else {
-        Ok(None)
-    }
+    Ok(Some(HandedCommand { root, arguments }))
 }
 
-// Splits a text into arguments. A zero byte ends each argument. Returns `None` if bytes remain
-// after the last zero byte.
-fn split_arguments(alloc: Global, text: &str) -> Result<Option<Vec<String>>, AllocError>
-    ensures { IfOk result (λ arguments. MatchOption arguments (spec.EndsWithoutZero text.now)
-        (λ arguments. (text.now ≡ spec.pieces (map string_bytes arguments.items))
-        × AllByRecursion spec.IsPieceText (map string_bytes arguments.items))) }
+// Copies the texts out of JSON values. Returns `None` if one of the values isn't a text.
+fn texts_of(alloc: Global, values: &[Value]) -> Result<Option<Vec<String>>, AllocError>
+    ensures { IfOk result (λ texts. MatchOption texts
+        ((others : List Text) → map view values.now ≡ map string others → ⊥)
+        (λ texts. map view values.now ≡ map string (map string_bytes texts.items))) }
 {
-    let mut arguments = Vec::new(alloc);
-    let mut rest = text;
-    while let Some((argument, after)) = rest.split_once('\0') {
-        arguments.push(format!(in alloc; "{argument}")?)?;
-        rest = after;
+    let mut texts = Vec::new(alloc);
+    for value in values {
+        let Some(text) = value.as_str() else {
+            return Ok(None);
+        };
+        texts.push(format!(in alloc; "{text}")?)?;
     }
-    if rest.is_empty() {
-        Ok(Some(arguments))
-    } else {
-        Ok(None)
-    }
+    Ok(Some(texts))
 }

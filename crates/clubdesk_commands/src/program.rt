@@ -1,7 +1,7 @@
 //! Runs the program with the caller's arguments, reader, writer and log.
 
 ghost use Rattle.std.specs.Prelude.{◌≡◌, IfErr, IfOk, map};
-ghost use Rattle.clubdesk_commands.specs.{HandedCommand.command_bytes, Output.EndsWork};
+ghost use Rattle.clubdesk_commands.specs.{HandedCommand.SpellsCommand, Output.EndsWork};
 ghost use Rattle.clubdesk_commands.specs.Output.{IsWorkFault, Prints, log_change, stream, text_of};
 ghost use Rattle.clubdesk_commands.specs.Run as spec;
 
@@ -149,7 +149,7 @@ fn handed_bytes<S: AsStr>(
     arguments: &[S],
     task: &Task<'_>,
 ) -> Result<Vec<u8>, AllocError>
-    ensures { IfOk result (λ bytes. bytes.items ≡ command_bytes (spec.handed_root task.now)
+    ensures { IfOk result (λ bytes. SpellsCommand bytes.items (spec.handed_root task.now)
         (map S.text arguments.now)) }
 {
     match task {

@@ -11,19 +11,18 @@ use std::test::Fail;
 
 /// The number of bytes that a server gets, and a row. The part after `=>` is the server's answer.
 static HANDED: [(usize, &str); 10] = [
-    // The bytes are `5`, an empty root, `clubdesk`, `add-member`, `club`, `amy` and `5`, with a
-    // zero byte after each.
-    (34, "add-member amy 5 => 0 done\n"),
-    (34, "add-member amy 5 => 1 refused: exists"),
-    (29, "debit amy 5 => 0 done\n"),
-    (33, "set-quota amy 5 => 0 done\n"),
-    (49, "open-slot court-1 2026-05-01 18 => 0 done\n"),
-    (34, "sheet 2026-05-02 => 0 Day sheet 2026-05-02\n"),
-    (34, "sheet 2026-05-02 => 4 out of memory"),
-    (34, "revoke-key amy-1 => 8 no answer"),
+    // The bytes are `["","clubdesk","add-member","club","amy","5"]`.
+    (45, "add-member amy 5 => 0 done\n"),
+    (45, "add-member amy 5 => 1 refused: exists"),
+    (40, "debit amy 5 => 0 done\n"),
+    (44, "set-quota amy 5 => 0 done\n"),
+    (62, "open-slot court-1 2026-05-01 18 => 0 done\n"),
+    (43, "sheet 2026-05-02 => 0 Day sheet 2026-05-02\n"),
+    (43, "sheet 2026-05-02 => 4 out of memory"),
+    (43, "revoke-key amy-1 => 8 no answer"),
     (0, "credit amy none => 3 bad value"),
     // The root from the input adds 32 bytes.
-    (80, "add-key amy-1 amy --root-stdin => 0 done\n"),
+    (93, "add-key amy-1 amy --root-stdin => 0 done\n"),
 ];
 
 // Status 8 means that the server doesn't answer.
@@ -51,27 +50,31 @@ fn hands_commands_over(rt: HostRuntime) -> Result<(), Fail> {
     Ok(())
 }
 
-/// The number of arguments, an empty root, and the arguments. A zero byte follows each of these.
-const WHOLE: &[u8] = b"5\0\0clubdesk\0add-member\0club\0amy\05\0";
+/// An empty root and the arguments.
+const WHOLE: &[u8] = br#"["","clubdesk","add-member","club","amy","5"]"#;
 
 /// Status 2 means that the bytes encode no command, and status 3 means a bad value. The second
-/// `WHOLE` is refused, because the member exists.
-static COMMANDS: [(&[u8], u8); 15] = [
-    (b"4\0\0clubdesk\0add-member\0club\0amy\05\0", 2),
-    (b"6\0\0clubdesk\0add-member\0club\0amy\05\0", 2),
-    (b"05\0\0clubdesk\0add-member\0club\0amy\05\0", 2),
-    (b"five\0\0clubdesk\0add-member\0club\0amy\05\0", 2),
-    (b"5\0\0clubdesk\0add-member\0club\0am\xff\05\0", 2),
-    (b"5\0\0clubdesk\0add-member\0club\0amy\05\0\0", 2),
-    (b"0\0\0", 2),
-    (b"1\0\0clubdesk\0", 2),
-    (b"2\0\0clubdesk\0fly\0", 2),
-    (b"2\0\0clubdesk\0--help\0", 2),
-    (b"5\0\0clubdesk\0serve\0club\0--port\x000\0", 2),
-    (b"5\0\0clubdesk\0add-member\0club\0amy\0none\0", 3),
-    (b"5\0\0clubdesk\0add-member\0club\0\xc3\x84\05\0", 3),
+/// complete command is refused, because the member exists.
+static COMMANDS: [(&[u8], u8); 19] = [
+    (br#"["","clubdesk","add-member","club","amy","5"],"#, 2),
+    (br#"["","clubdesk","add-member","club","amy",5]"#, 2),
+    (br#"["","clubdesk","add-member","club","amy","5",null]"#, 2),
+    (br#"[null,"clubdesk","add-member","club","amy","5"]"#, 2),
+    (br#"[["","clubdesk","add-member","club","amy","5"]]"#, 2),
+    (br#"{"":["clubdesk","add-member","club","amy","5"]}"#, 2),
+    (b"[\"\",\"clubdesk\",\"add-member\",\"club\",\"am\xff\",\"5\"]", 2),
+    (b"5\0\0clubdesk\0add-member\0club\0amy\05\0", 2),
+    (b"[]", 2),
+    (br#"[""]"#, 2),
+    (br#"["","clubdesk"]"#, 2),
+    (br#"["","clubdesk","fly"]"#, 2),
+    (br#"["","clubdesk","--help"]"#, 2),
+    (br#"["","clubdesk","serve","club","--port","0"]"#, 2),
+    (br#"["","clubdesk","add-member","club","amy","none"]"#, 3),
+    (br#"["","clubdesk","add-member","club","a\u0000","5"]"#, 3),
+    (b"[\"\",\"clubdesk\",\"add-member\",\"club\",\"\xc3\x84\",\"5\"]", 3),
     (WHOLE, 0),
-    (WHOLE, 1),
+    (br#" [ "", "clubdesk", "add-member", "club", "a\u006dy", "5" ] "#, 1),
 ];
 
 fn hand_over<S: ClubStore + Drop>(rt: &HostRuntime, store: S) -> Result<(), Fail> {

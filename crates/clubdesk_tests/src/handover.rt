@@ -14,7 +14,7 @@ use std::os::unix::fs::symlink;
 use std::os::unix::net::UnixStream;
 use std::test::Fail;
 
-const COMMAND: &[u8] = b"5\0\0clubdesk\0add-member\0club\0amy\05\0";
+const COMMAND: &[u8] = br#"["","clubdesk","add-member","club","amy","5"]"#;
 
 const NO_FILE: &str = "none";
 
