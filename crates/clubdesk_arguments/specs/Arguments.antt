@@ -7,7 +7,7 @@ use Rattle.command_line.specs.{Arguments.{is_set, value_in}, Job.{Answers, JobOf
 use Rattle.command_line.specs.declared.{errors.ArgumentsFault.ArgumentsFault, job.Asked.{Asked, TheVariants.Perform}}
 use Rattle.club_values.specs.declared.slot.Slot.{Slot}
 use Rattle.club_core.specs.declared.command.Command.TheVariants as office
-use Rattle.pass_forms.specs.declared.form.Form.{Form}
+use Rattle.pass_forms.specs.declared.form.Form.{Form, TheVariants.V2}
 use Rattle.clubdesk_arguments.specs.{Application.clubdesk, JobModel.JobModel, Readers.{ReadExactly, Readers}}
 use Rattle.clubdesk_arguments.specs.Values.{booking_number_of, count_of, parse_number, patience_of, port_of, key_root_of}
 use Rattle.clubdesk_arguments.specs.declared.{table.CommandName.CommandName, task.{KeyChange.TheVariants.{Add, Rotate}, KeyCommand.KeyCommand}}
@@ -42,9 +42,6 @@ rotation_moment_in rows = unwrap_or (first_of (codes "MOMENT") rows) (value_in (
 abbrev pub rotation_root_in : List Row → Option Text
 rotation_root_in rows = option_and_then (λ (moment : Text). first_of (codes "ROOT-OR-MOMENT") rows) (first_of (codes "MOMENT") rows)
 
-abbrev pub unless_bad : Option Work → Result Work (Refusal Unit)
-unless_bad work = ok_or work (bad_value tt)
-
 -- The root argument and the form, or the reason why the arguments are refused. The root must come
 -- either from the argument or from standard input. `by_input` is true if the flag `--root-stdin` is
 -- set. The root is checked before the form.
@@ -57,11 +54,16 @@ root_and_form argument by_input (Ok form) = Ok (argument, form)
 abbrev pub root_and_form_in : Option Text → List Row → Result (Option Text × Form) (Refusal Unit)
 root_and_form_in argument rows = root_and_form argument (is_set (codes "root-stdin") rows) (form_given rows)
 
--- Checks the root and the form before the other values.
+-- The root argument and the form of a command. Only `add-key` and `rotate-key` have them.
+abbrev pub root_and_form_of : CommandName → List Row → Result (Option Text × Form) (Refusal Unit)
+root_and_form_of command.AddKey rows = root_and_form_in (first_of (codes "ROOT") rows) rows
+root_and_form_of command.RotateKey rows = root_and_form_in (rotation_root_in rows) rows
+root_and_form_of name rows = Ok (None, V2)
+
 abbrev pub of_root_and_form : List Row → (Option Text → Form → List Row → Option Work) → Result (Option Text × Form) (Refusal Unit)
     → Result Work (Refusal Unit)
 of_root_and_form rows of (Err refusal) = Err refusal
-of_root_and_form rows of (Ok given) = unless_bad (of given.0 given.1 rows)
+of_root_and_form rows of (Ok given) = ok_or (of given.0 given.1 rows) (bad_value tt)
 
 abbrev pub over_file : Text → Result Work (Refusal Unit) → Result JobModel (Refusal Unit)
 over_file file (Err refusal) = Err refusal
@@ -72,93 +74,13 @@ module _ (read : Readers) where
   abbrev pub name_value : Text → List Row → Option Text
   name_value id rows = read.name (value_in id rows)
 
-  abbrev pub add_member_of : List Row → Option Work
-  add_member_of rows = do
-    name ← name_value (codes "NAME") rows
-    quota ← number_value (codes "QUOTA") rows
-    Some (Office (Give (office.AddMember name quota)))
-
-  abbrev pub credit_of : List Row → Option Work
-  credit_of rows = do
-    member ← name_value (codes "MEMBER") rows
-    points ← number_value (codes "POINTS") rows
-    Some (Office (Give (office.Credit member points)))
-
-  abbrev pub debit_of : List Row → Option Work
-  debit_of rows = do
-    member ← name_value (codes "MEMBER") rows
-    points ← number_value (codes "POINTS") rows
-    Some (Office (Give (office.Debit member points)))
-
-  abbrev pub set_quota_of : List Row → Option Work
-  set_quota_of rows = do
-    member ← name_value (codes "MEMBER") rows
-    quota ← number_value (codes "QUOTA") rows
-    Some (Office (Give (office.SetQuota member quota)))
-
-  abbrev pub add_facility_of : List Row → Option Work
-  add_facility_of rows = do
-    name ← name_value (codes "NAME") rows
-    of_kind ← read.kind (value_in (codes "KIND") rows)
-    places ← number_value (codes "PLACES") rows
-    price ← number_value (codes "PRICE") rows
-    opens ← number_value (codes "OPENS") rows
-    shuts ← number_value (codes "SHUTS") rows
-    Some (Office (Give (office.AddFacility name of_kind places price opens shuts)))
-
-  abbrev pub set_facility_of : List Row → Option Work
-  set_facility_of rows = do
-    name ← name_value (codes "NAME") rows
-    places ← number_value (codes "PLACES") rows
-    price ← number_value (codes "PRICE") rows
-    opens ← number_value (codes "OPENS") rows
-    shuts ← number_value (codes "SHUTS") rows
-    Some (Office (Give (office.SetFacility name places price opens shuts)))
-
-  abbrev pub add_key_of : Option Text → Form → List Row → Option Work
-  add_key_of root form rows = do
-    key ← name_value (codes "KEY") rows
-    member ← name_value (codes "MEMBER") rows
-    key_work (record { name = key; change = Add member; form = form }) root
-
-  abbrev pub revoke_key_of : List Row → Option Work
-  revoke_key_of rows = do
-    key ← name_value (codes "KEY") rows
-    Some (Office (Give (office.RevokeKey key)))
-
-  abbrev pub rotate_key_of : Option Text → Form → List Row → Option Work
-  rotate_key_of root form rows = do
-    key ← name_value (codes "KEY") rows
-    until ← read.moment (rotation_moment_in rows)
-    key_work (record { name = key; change = Rotate until; form = form }) root
-
+  -- The slot in the arguments `FACILITY DAY HOUR`.
   abbrev pub slot_in : List Row → Option Slot
   slot_in rows = do
     facility ← name_value (codes "FACILITY") rows
     day ← read.day (value_in (codes "DAY") rows)
     hour ← read.hour (value_in (codes "HOUR") rows)
     Some (record { facility = facility; day = day; hour = hour })
-
-  abbrev pub close_slot_of : List Row → Option Work
-  close_slot_of rows = do
-    slot ← slot_in rows
-    Some (Office (Give (office.CloseSlot slot)))
-
-  abbrev pub open_slot_of : List Row → Option Work
-  open_slot_of rows = do
-    slot ← slot_in rows
-    Some (Office (Give (office.OpenSlot slot)))
-
-  abbrev pub cancel_booking_of : List Row → Option Work
-  cancel_booking_of rows = do
-    key ← name_value (codes "KEY") rows
-    number ← booking_number_of (value_in (codes "NUMBER") rows)
-    Some (Office (Give (office.CancelBooking key number)))
-
-  abbrev pub sheet_of : List Row → Option Work
-  sheet_of rows = do
-    day ← read.day (value_in (codes "DAY") rows)
-    Some (Office (Sheet day))
 
   -- A clock that is fixed at the moment of `--at`. Without `--at`, the clock shows the machine's
   -- time in the zone.
@@ -168,45 +90,88 @@ module _ (read : Readers) where
     moment ← read.moment at
     Some (Fixed moment)
 
-  abbrev pub serve_of : List Row → Option Work
-  serve_of rows = do
+  -- The clock of the options `--zone` and `--at`.
+  abbrev pub clock_in : List Row → Option Clock
+  clock_in rows = do
+    zone ← zone_of (value_in (codes "zone") rows)
+    clock_of zone (first_of (codes "at") rows)
+
+  -- The work that a command's arguments ask for, or `None` if a value is invalid. Only `add-key` and
+  -- `rotate-key` use the root and the form.
+  abbrev pub work_in : CommandName → Option Text → Form → List Row → Option Work
+  work_in command.AddMember root form rows = do
+    name ← name_value (codes "NAME") rows
+    quota ← number_value (codes "QUOTA") rows
+    Some (Office (Give (office.AddMember name quota)))
+  work_in command.Credit root form rows = do
+    member ← name_value (codes "MEMBER") rows
+    points ← number_value (codes "POINTS") rows
+    Some (Office (Give (office.Credit member points)))
+  work_in command.Debit root form rows = do
+    member ← name_value (codes "MEMBER") rows
+    points ← number_value (codes "POINTS") rows
+    Some (Office (Give (office.Debit member points)))
+  work_in command.SetQuota root form rows = do
+    member ← name_value (codes "MEMBER") rows
+    quota ← number_value (codes "QUOTA") rows
+    Some (Office (Give (office.SetQuota member quota)))
+  work_in command.AddFacility root form rows = do
+    name ← name_value (codes "NAME") rows
+    of_kind ← read.kind (value_in (codes "KIND") rows)
+    places ← number_value (codes "PLACES") rows
+    price ← number_value (codes "PRICE") rows
+    opens ← number_value (codes "OPENS") rows
+    shuts ← number_value (codes "SHUTS") rows
+    Some (Office (Give (office.AddFacility name of_kind places price opens shuts)))
+  work_in command.SetFacility root form rows = do
+    name ← name_value (codes "NAME") rows
+    places ← number_value (codes "PLACES") rows
+    price ← number_value (codes "PRICE") rows
+    opens ← number_value (codes "OPENS") rows
+    shuts ← number_value (codes "SHUTS") rows
+    Some (Office (Give (office.SetFacility name places price opens shuts)))
+  work_in command.AddKey root form rows = do
+    key ← name_value (codes "KEY") rows
+    member ← name_value (codes "MEMBER") rows
+    key_work (record { name = key; change = Add member; form = form }) root
+  work_in command.RevokeKey root form rows = do
+    key ← name_value (codes "KEY") rows
+    Some (Office (Give (office.RevokeKey key)))
+  work_in command.RotateKey root form rows = do
+    key ← name_value (codes "KEY") rows
+    until ← read.moment (rotation_moment_in rows)
+    key_work (record { name = key; change = Rotate until; form = form }) root
+  work_in command.CloseSlot root form rows = do
+    slot ← slot_in rows
+    Some (Office (Give (office.CloseSlot slot)))
+  work_in command.OpenSlot root form rows = do
+    slot ← slot_in rows
+    Some (Office (Give (office.OpenSlot slot)))
+  work_in command.CancelBooking root form rows = do
+    key ← name_value (codes "KEY") rows
+    number ← booking_number_of (value_in (codes "NUMBER") rows)
+    Some (Office (Give (office.CancelBooking key number)))
+  work_in command.Sheet root form rows = do
+    day ← read.day (value_in (codes "DAY") rows)
+    Some (Office (Sheet day))
+  work_in command.Serve root form rows = do
     port ← port_of (value_in (codes "port") rows)
     count ← count_of (value_in (codes "count") rows)
-    zone ← zone_of (value_in (codes "zone") rows)
-    clock ← clock_of zone (first_of (codes "at") rows)
+    clock ← clock_in rows
     patience ← patience_of (value_in (codes "patience") rows)
     Some (Serve (record { port = port; count = count; clock = clock; patience = patience; log = is_set (codes "log") rows }))
-
-  abbrev pub show_account_of : List Row → Option Work
-  show_account_of rows = do
+  work_in command.ShowAccount root form rows = do
     key ← name_value (codes "KEY") rows
-    zone ← zone_of (value_in (codes "zone") rows)
-    clock ← clock_of zone (first_of (codes "at") rows)
+    clock ← clock_in rows
     Some (Office (ShowAccount key clock))
-
-  abbrev pub show_slot_of : List Row → Option Work
-  show_slot_of rows = do
+  work_in command.ShowSlot root form rows = do
     slot ← slot_in rows
     Some (Office (ShowSlot slot))
 
-  -- The work that a command's arguments ask for, or the reason why the arguments are refused.
+  -- The work that a command's arguments ask for, or the reason why the arguments are refused. The
+  -- root and the form are checked before the other values.
   abbrev pub work_named : CommandName → List Row → Result Work (Refusal Unit)
-  work_named command.AddMember rows = unless_bad (add_member_of rows)
-  work_named command.Credit rows = unless_bad (credit_of rows)
-  work_named command.Debit rows = unless_bad (debit_of rows)
-  work_named command.SetQuota rows = unless_bad (set_quota_of rows)
-  work_named command.AddFacility rows = unless_bad (add_facility_of rows)
-  work_named command.SetFacility rows = unless_bad (set_facility_of rows)
-  work_named command.AddKey rows = of_root_and_form rows add_key_of (root_and_form_in (first_of (codes "ROOT") rows) rows)
-  work_named command.RevokeKey rows = unless_bad (revoke_key_of rows)
-  work_named command.RotateKey rows = of_root_and_form rows rotate_key_of (root_and_form_in (rotation_root_in rows) rows)
-  work_named command.CloseSlot rows = unless_bad (close_slot_of rows)
-  work_named command.OpenSlot rows = unless_bad (open_slot_of rows)
-  work_named command.CancelBooking rows = unless_bad (cancel_booking_of rows)
-  work_named command.Sheet rows = unless_bad (sheet_of rows)
-  work_named command.Serve rows = unless_bad (serve_of rows)
-  work_named command.ShowAccount rows = unless_bad (show_account_of rows)
-  work_named command.ShowSlot rows = unless_bad (show_slot_of rows)
+  work_named name rows = of_root_and_form rows (work_in name) (root_and_form_of name rows)
 
   -- The job that a command's arguments ask for, or the reason why the arguments are refused.
   abbrev pub job_of : JobOf CommandName JobModel Unit

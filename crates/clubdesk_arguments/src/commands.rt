@@ -31,132 +31,117 @@ pub fn work_of<'a>(
     ensures { Answers (spec.work_named text_readers name (rows_of (found_of arguments.now)))
         result }
 {
-    match name {
-        CommandName::AddMember => or_bad_value(add_member(arguments)),
-        CommandName::Credit => or_bad_value(credit(arguments)),
-        CommandName::Debit => or_bad_value(debit(arguments)),
-        CommandName::SetQuota => or_bad_value(set_quota(arguments)),
-        CommandName::AddFacility => or_bad_value(add_facility(arguments)),
-        CommandName::SetFacility => or_bad_value(set_facility(arguments)),
-        CommandName::AddKey => match root_and_form(alloc, arguments, given(arguments, "ROOT")) {
-            Ok((root, form)) => or_bad_value(add_key(arguments, root, form)),
-            Err(fault) => Err(fault),
-        },
-        CommandName::RevokeKey => or_bad_value(revoke_key(arguments)),
-        CommandName::RotateKey => match root_and_form(alloc, arguments, rotation_root(arguments)) {
-            Ok((root, form)) => or_bad_value(rotate_key(arguments, root, form)),
-            Err(fault) => Err(fault),
-        },
-        CommandName::CloseSlot => or_bad_value(close_slot(arguments)),
-        CommandName::OpenSlot => or_bad_value(open_slot(arguments)),
-        CommandName::CancelBooking => or_bad_value(cancel_booking(arguments)),
-        CommandName::Sheet => or_bad_value(sheet(arguments)),
-        CommandName::Serve => or_bad_value(serve(arguments)),
-        CommandName::ShowAccount => or_bad_value(show_account(arguments)),
-        CommandName::ShowSlot => or_bad_value(show_slot(arguments)),
+    match root_and_form_of(alloc, name, arguments) {
+        Ok((root, form)) => read_work(name, root, form, arguments).ok_or(ArgumentsFault::BadValue(
+            (),
+        )),
+        Err(fault) => Err(fault),
     }
 }
 
-// Reads the arguments of `add-member FILE NAME QUOTA`.
-fn add_member<'a>(arguments: &ArgMatches<'a>) -> Option<Work<'a>>
-    ensures { result ≡ spec.add_member_of text_readers (rows_of (found_of arguments.now)) }
+// Returns the root argument and the form of a command. Only `add-key` and `rotate-key` have them.
+fn root_and_form_of<'a>(
+    alloc: Global,
+    name: CommandName,
+    arguments: &ArgMatches<'a>,
+) -> Result<(Option<&'a str>, Form), ArgumentsFault<()>>
+    ensures { spec.AnswersRoot
+        (spec.root_and_form_of name (rows_of (found_of arguments.now))) result }
 {
-    let name = name_of(arguments, "NAME")?;
-    let quota = number_at(arguments, "QUOTA")?;
-    Some(Work::Office(Task::Give(Command::AddMember { name, quota })))
+    match name {
+        CommandName::AddKey => root_and_form(alloc, arguments, given(arguments, "ROOT")),
+        CommandName::RotateKey => root_and_form(alloc, arguments, rotation_root(arguments)),
+        _ => Ok((None, Form::V2)),
+    }
 }
 
-// Reads the arguments of `credit FILE MEMBER POINTS`.
-fn credit<'a>(arguments: &ArgMatches<'a>) -> Option<Work<'a>>
-    ensures { result ≡ spec.credit_of text_readers (rows_of (found_of arguments.now)) }
-{
-    let member = name_of(arguments, "MEMBER")?;
-    let points = number_at(arguments, "POINTS")?;
-    Some(Work::Office(Task::Give(Command::Credit { member, points })))
-}
-
-// Reads the arguments of `debit FILE MEMBER POINTS`.
-fn debit<'a>(arguments: &ArgMatches<'a>) -> Option<Work<'a>>
-    ensures { result ≡ spec.debit_of text_readers (rows_of (found_of arguments.now)) }
-{
-    Some(Work::Office(Task::Give(Command::Debit {
-        member: name_of(arguments, "MEMBER")?,
-        points: number_at(arguments, "POINTS")?,
-    })))
-}
-
-// Reads the arguments of `set-quota FILE MEMBER QUOTA`.
-fn set_quota<'a>(arguments: &ArgMatches<'a>) -> Option<Work<'a>>
-    ensures { result ≡ spec.set_quota_of text_readers (rows_of (found_of arguments.now)) }
-{
-    let member = name_of(arguments, "MEMBER")?;
-    let quota = number_at(arguments, "QUOTA")?;
-    Some(Work::Office(Task::Give(Command::SetQuota { member, quota })))
-}
-
-// Reads the arguments of `add-facility FILE NAME KIND PLACES PRICE OPENS SHUTS`.
-fn add_facility<'a>(arguments: &ArgMatches<'a>) -> Option<Work<'a>>
-    ensures { result ≡ spec.add_facility_of text_readers (rows_of (found_of arguments.now)) }
-{
-    let name = name_of(arguments, "NAME")?;
-    let kind = Kind::read(value_of(arguments, "KIND").as_bytes())?;
-    let places = number_at(arguments, "PLACES")?;
-    let price = number_at(arguments, "PRICE")?;
-    let opens = number_at(arguments, "OPENS")?;
-    let shuts = number_at(arguments, "SHUTS")?;
-    Some(Work::Office(Task::Give(Command::AddFacility {
-        name,
-        kind,
-        places,
-        price,
-        opens,
-        shuts,
-    })))
-}
-
-// Reads the arguments of `set-facility FILE NAME PLACES PRICE OPENS SHUTS`.
-fn set_facility<'a>(arguments: &ArgMatches<'a>) -> Option<Work<'a>>
-    ensures { result ≡ spec.set_facility_of text_readers (rows_of (found_of arguments.now)) }
-{
-    Some(Work::Office(Task::Give(Command::SetFacility {
-        name: name_of(arguments, "NAME")?,
-        places: number_at(arguments, "PLACES")?,
-        price: number_at(arguments, "PRICE")?,
-        opens: number_at(arguments, "OPENS")?,
-        shuts: number_at(arguments, "SHUTS")?,
-    })))
-}
-
-// Reads the arguments of `add-key FILE KEY MEMBER ROOT [--form FORM]`. With `--root-stdin`, there
-// is no argument `ROOT`.
-fn add_key<'a>(arguments: &ArgMatches<'a>, root: Option<&str>, form: Form) -> Option<Work<'a>>
-    ensures { result ≡ spec.add_key_of text_readers (option_map (λ text. text.now) root.entry)
+// Reads the values of a command's arguments. Returns `None` if a value is invalid.
+fn read_work<'a>(
+    name: CommandName,
+    root: Option<&str>,
+    form: Form,
+    arguments: &ArgMatches<'a>,
+) -> Option<Work<'a>>
+    ensures { result ≡ spec.work_in text_readers name (option_map (λ text. text.now) root.entry)
         form (rows_of (found_of arguments.now)) }
 {
-    let name = name_of(arguments, "KEY")?;
-    let member = name_of(arguments, "MEMBER")?;
-    let change = KeyChange::Add { member };
-    key_work(KeyCommand { name, change, form }, root)
+    match name {
+        CommandName::AddMember => give(Command::AddMember {
+            name: name_of(arguments, "NAME")?,
+            quota: number_at(arguments, "QUOTA")?,
+        }),
+        CommandName::Credit => give(Command::Credit {
+            member: name_of(arguments, "MEMBER")?,
+            points: number_at(arguments, "POINTS")?,
+        }),
+        CommandName::Debit => give(Command::Debit {
+            member: name_of(arguments, "MEMBER")?,
+            points: number_at(arguments, "POINTS")?,
+        }),
+        CommandName::SetQuota => give(Command::SetQuota {
+            member: name_of(arguments, "MEMBER")?,
+            quota: number_at(arguments, "QUOTA")?,
+        }),
+        CommandName::AddFacility => give(Command::AddFacility {
+            name: name_of(arguments, "NAME")?,
+            kind: Kind::read(value_of(arguments, "KIND").as_bytes())?,
+            places: number_at(arguments, "PLACES")?,
+            price: number_at(arguments, "PRICE")?,
+            opens: number_at(arguments, "OPENS")?,
+            shuts: number_at(arguments, "SHUTS")?,
+        }),
+        CommandName::SetFacility => give(Command::SetFacility {
+            name: name_of(arguments, "NAME")?,
+            places: number_at(arguments, "PLACES")?,
+            price: number_at(arguments, "PRICE")?,
+            opens: number_at(arguments, "OPENS")?,
+            shuts: number_at(arguments, "SHUTS")?,
+        }),
+        CommandName::AddKey => {
+            let name = name_of(arguments, "KEY")?;
+            let member = name_of(arguments, "MEMBER")?;
+            let change = KeyChange::Add { member };
+            key_work(KeyCommand { name, change, form }, root)
+        }
+        CommandName::RevokeKey => give(Command::RevokeKey {
+            name: name_of(arguments, "KEY")?,
+        }),
+        CommandName::RotateKey => {
+            let name = name_of(arguments, "KEY")?;
+            let until = Moment::read(rotation_moment(arguments).as_bytes())?;
+            let change = KeyChange::Rotate { until };
+            key_work(KeyCommand { name, change, form }, root)
+        }
+        CommandName::CloseSlot => give(Command::CloseSlot(slot_of(arguments)?)),
+        CommandName::OpenSlot => give(Command::OpenSlot(slot_of(arguments)?)),
+        CommandName::CancelBooking => give(Command::CancelBooking {
+            key: name_of(arguments, "KEY")?,
+            number: booking_number_of(value_of(arguments, "NUMBER"))?,
+        }),
+        CommandName::Sheet => {
+            let day = Day::read(value_of(arguments, "DAY").as_bytes())?;
+            Some(Work::Office(Task::Sheet(day)))
+        }
+        CommandName::Serve => Some(Work::Serve(Service {
+            port: port_of(value_of(arguments, "port"))?,
+            count: count_of(value_of(arguments, "count"))?,
+            clock: clock_in(arguments)?,
+            patience: patience_of(value_of(arguments, "patience"))?,
+            log: is_set(arguments, "log"),
+        })),
+        CommandName::ShowAccount => {
+            let key = name_of(arguments, "KEY")?;
+            let clock = clock_in(arguments)?;
+            Some(Work::Office(Task::ShowAccount { key, clock }))
+        }
+        CommandName::ShowSlot => Some(Work::Office(Task::ShowSlot(slot_of(arguments)?))),
+    }
 }
 
-// Reads the arguments of `revoke-key FILE KEY`.
-fn revoke_key<'a>(arguments: &ArgMatches<'a>) -> Option<Work<'a>>
-    ensures { result ≡ spec.revoke_key_of text_readers (rows_of (found_of arguments.now)) }
+fn give<'a>(command: Command) -> Option<Work<'a>>
+    ensures { result ≡ Some (Work.Office (Task.Give command)) }
 {
-    let name = name_of(arguments, "KEY")?;
-    Some(Work::Office(Task::Give(Command::RevokeKey { name })))
-}
-
-// Reads the arguments of `rotate-key FILE KEY ROOT MOMENT [--form FORM]`. With `--root-stdin`,
-// there is no argument `ROOT`.
-fn rotate_key<'a>(arguments: &ArgMatches<'a>, root: Option<&str>, form: Form) -> Option<Work<'a>>
-    ensures { result ≡ spec.rotate_key_of text_readers (option_map (λ text. text.now) root.entry)
-        form (rows_of (found_of arguments.now)) }
-{
-    let name = name_of(arguments, "KEY")?;
-    let until = Moment::read(rotation_moment(arguments).as_bytes())?;
-    let change = KeyChange::Rotate { until };
-    key_work(KeyCommand { name, change, form }, root)
+    Some(Work::Office(Task::Give(command)))
 }
 
 // Returns the work for a `KeyCommand`. If `root` is `None`, the root comes from standard input
@@ -171,77 +156,6 @@ fn key_work<'a>(command: KeyCommand, root: Option<&str>) -> Option<Work<'a>>
             Some(Work::Office(Task::Key(command, root)))
         }
     }
-}
-
-// Reads the arguments of `close-slot FILE FACILITY DAY HOUR`.
-fn close_slot<'a>(arguments: &ArgMatches<'a>) -> Option<Work<'a>>
-    ensures { result ≡ spec.close_slot_of text_readers (rows_of (found_of arguments.now)) }
-{
-    let slot = slot_of(arguments)?;
-    Some(Work::Office(Task::Give(Command::CloseSlot(slot))))
-}
-
-// Reads the arguments of `open-slot FILE FACILITY DAY HOUR`.
-fn open_slot<'a>(arguments: &ArgMatches<'a>) -> Option<Work<'a>>
-    ensures { result ≡ spec.open_slot_of text_readers (rows_of (found_of arguments.now)) }
-{
-    let slot = slot_of(arguments)?;
-    Some(Work::Office(Task::Give(Command::OpenSlot(slot))))
-}
-
-// Reads the arguments of `cancel-booking FILE KEY NUMBER`.
-fn cancel_booking<'a>(arguments: &ArgMatches<'a>) -> Option<Work<'a>>
-    ensures { result ≡ spec.cancel_booking_of text_readers (rows_of (found_of arguments.now)) }
-{
-    Some(Work::Office(Task::Give(Command::CancelBooking {
-        key: name_of(arguments, "KEY")?,
-        number: booking_number_of(value_of(arguments, "NUMBER"))?,
-    })))
-}
-
-// Reads the arguments of `sheet FILE DAY`.
-fn sheet<'a>(arguments: &ArgMatches<'a>) -> Option<Work<'a>>
-    ensures { result ≡ spec.sheet_of text_readers (rows_of (found_of arguments.now)) }
-{
-    let day = Day::read(value_of(arguments, "DAY").as_bytes())?;
-    Some(Work::Office(Task::Sheet(day)))
-}
-
-// Reads the arguments of this command:
-// - `serve FILE --port P --count N [--zone RULE] [--at MOMENT] [--patience SECONDS] [--log]`
-fn serve<'a>(arguments: &ArgMatches<'a>) -> Option<Work<'a>>
-    ensures { result ≡ spec.serve_of text_readers (rows_of (found_of arguments.now)) }
-{
-    let port = port_of(value_of(arguments, "port"))?;
-    let count = count_of(value_of(arguments, "count"))?;
-    let zone = Zone::from_rule(value_of(arguments, "zone"))?;
-    let clock = clock_of(zone, given(arguments, "at"))?;
-    let patience = patience_of(value_of(arguments, "patience"))?;
-    Some(Work::Serve(Service {
-        port,
-        count,
-        clock,
-        patience,
-        log: is_set(arguments, "log"),
-    }))
-}
-
-// Reads the arguments of `show-account FILE KEY [--zone RULE] [--at MOMENT]`.
-fn show_account<'a>(arguments: &ArgMatches<'a>) -> Option<Work<'a>>
-    ensures { result ≡ spec.show_account_of text_readers (rows_of (found_of arguments.now)) }
-{
-    let key = name_of(arguments, "KEY")?;
-    let zone = Zone::from_rule(value_of(arguments, "zone"))?;
-    let clock = clock_of(zone, given(arguments, "at"))?;
-    Some(Work::Office(Task::ShowAccount { key, clock }))
-}
-
-// Reads the arguments of `show-slot FILE FACILITY DAY HOUR`.
-fn show_slot<'a>(arguments: &ArgMatches<'a>) -> Option<Work<'a>>
-    ensures { result ≡ spec.show_slot_of text_readers (rows_of (found_of arguments.now)) }
-{
-    let slot = slot_of(arguments)?;
-    Some(Work::Office(Task::ShowSlot(slot)))
 }
 
 // Returns the slot in the arguments `FACILITY DAY HOUR`.
@@ -259,22 +173,16 @@ fn slot_of(arguments: &ArgMatches<'_>) -> Option<Slot>
 }
 
 // Returns a clock that is fixed at the moment of `--at`. Without `--at`, the clock shows the
-// machine's time in the zone.
-fn clock_of<'a>(zone: Zone<'a>, at: Option<&str>) -> Option<Clock<'a>>
-    ensures { result ≡ spec.clock_of text_readers zone.entry
-        (option_map (λ text. text.now) at.entry) }
+// machine's time in the zone of `--zone`.
+fn clock_in<'a>(arguments: &ArgMatches<'a>) -> Option<Clock<'a>>
+    ensures { result ≡ spec.clock_in text_readers (rows_of (found_of arguments.now)) }
 {
-    match at {
+    let zone = Zone::from_rule(value_of(arguments, "zone"))?;
+    match given(arguments, "at") {
         None => Some(Clock::InZone(zone)),
         Some(text) => {
             let moment = Moment::read(text.as_bytes())?;
             Some(Clock::Fixed(moment))
         }
     }
-}
-
-fn or_bad_value(work: Option<Work<'_>>) -> Result<Work<'_>, ArgumentsFault<()>>
-    ensures { Answers (spec.unless_bad work.entry) result }
-{
-    work.ok_or(ArgumentsFault::BadValue(()))
 }
