@@ -30,7 +30,7 @@ const NO_COMMAND: u8 = 2;
 const OUT_OF_MEMORY: u8 = 4;
 
 /// The most bytes of a command's name that the server logs. No command has a longer name.
-const MAX_NAME_LEN: usize = 24;
+const MAX_LOGGED_NAME: usize = 24;
 
 /// A desk over an open store. The office's commands also need an allocator and the machine's clock.
 /// Contracts represent an `OfficeDesk` by the pair of the store and the clock.
@@ -142,7 +142,7 @@ fn answer_of(status: u8, name: Option<&String>, text: String) -> Answer
     if let Some(name) = name {
         let name = name.as_str().as_bytes();
         line.push(b"office ");
-        line.push(&name[..name.len().min(MAX_NAME_LEN)]);
+        line.push(&name[..name.len().min(MAX_LOGGED_NAME)]);
         line.push(b" ");
     }
     let line = RequestLine::of(line.as_bytes());

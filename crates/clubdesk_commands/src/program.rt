@@ -61,33 +61,25 @@ pub fn run<C: Instants + MonotonicClock, D: Databases, S: AsStr, R: Read, W: Wri
         Err(fault) => return Err(Fault::from(fault)),
     };
     let Job { file, work } = job;
-    match work {
-        Work::Office(task) => perform(
-            rt.alloc(),
-            machine,
-            databases,
-            arguments,
-            file,
-            task,
-            writer,
-        ),
+    let task = match work {
+        Work::Office(task) => task,
         Work::Rootless(command) => match read_root(reader) {
-            Ok(root) => {
-                let task = Task::Key(command, root);
-                perform(
-                    rt.alloc(),
-                    machine,
-                    databases,
-                    arguments,
-                    file,
-                    task,
-                    writer,
-                )
-            }
-            Err(fault) => Err(fault),
+            Ok(root) => Task::Key(command, root),
+            Err(fault) => return Err(fault),
         },
-        Work::Serve(service) => serve_file(rt, machine, databases, file, service, writer, log),
-    }
+        Work::Serve(service) => {
+            return serve_file(rt, machine, databases, file, service, writer, log);
+        }
+    };
+    perform(
+        rt.alloc(),
+        machine,
+        databases,
+        arguments,
+        file,
+        task,
+        writer,
+    )
 }
 
 // Carries out a task of the office. If a server has the database open, the server carries out the

@@ -1,7 +1,7 @@
 //! The door of a server. The door is a socket next to the database, and only the socket's owner can
 //! use it.
 
-use crate::beside::{IN_MEMORY, OWNERS_MODE, Place, SocketFile};
+use crate::place::{IN_MEMORY, OWNERS_MODE, Place, SocketFile};
 use desk_server::Door;
 use libc::{fchmod, net as c};
 use std::io::ErrorKind;

@@ -4,11 +4,11 @@ ghost use Rattle.std.specs.Prelude.{◌≡◌};
 ghost use Rattle.desk_server.specs.Served.{CountsOn};
 
 use crate::attempts::{ATTEMPTS_A_SECOND, gain};
-use crate::beside::fault_of;
 use crate::door::FileDoor;
+use crate::file_visit::FileVisit;
 use crate::named::NamedStore;
 use crate::openings::{FileClub, OfficeOpenings, ServerOpenings};
-use crate::visit::FileVisit;
+use crate::place::fault_of;
 use club_core::StoreFault;
 use desk_server::{Databases, Reached};
 
@@ -88,4 +88,25 @@ impl<'a> Databases for Files<'a> {
     fn make_door(&self, name: &str) -> Result<FileDoor<'a>, StoreFault> {
         FileDoor::make(self.rt, name).map_err(|error| fault_of(&error))
     }
+}
+
+/// Code that can use databases of any type.
+pub trait DatabasesUser {
+    type Outcome;
+
+    // The possible outcomes of a run.
+    ghost outcomes: { Self → Self.Outcome → Type 0 };
+
+    /// Runs this code with the given databases, and returns the outcome.
+    fn run_over<D: Databases>(self, databases: &mut D) -> Self::Outcome
+        ensures { outcomes self result };
+}
+
+/// Runs `user` with databases that are stored in files. `user` is code that is proved for databases
+/// of any type. Therefore, its proof doesn't involve the type of a store in a file, which contains
+/// the whole database engine.
+pub fn run_over_files<U: DatabasesUser>(rt: &HostRuntime, user: U) -> U::Outcome
+    ensures { U.outcomes user result }
+{
+    user.run_over(&mut Files::new(rt))
 }

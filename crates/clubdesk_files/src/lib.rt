@@ -4,24 +4,22 @@
 #![tactic(auto)]
 
 mod attempts;
-mod beside;
 mod door;
+mod file_visit;
 mod files;
 mod handover;
 mod named;
 mod open_file;
 mod openings;
+mod place;
 mod retried;
-mod user;
-mod visit;
 
 pub use attempts::{Attempts, gain};
-pub use beside::may_make_door;
 pub use door::FileDoor;
-pub use files::Files;
+pub use file_visit::{FileVisit, connect};
+pub use files::{DatabasesUser, Files, run_over_files};
 pub use handover::{CommandWriter, answered, greeted};
 pub use named::{NamedStore, Removable};
 pub use open_file::OpenFile;
+pub use place::may_make_door;
 pub use retried::{Servers, hand_over_to, hand_over_until_done};
-pub use user::{DatabasesUser, run_over_files};
-pub use visit::{FileVisit, connect};

@@ -1,7 +1,7 @@
 //! The file that a store has open.
 
-use crate::beside::IN_MEMORY;
 use crate::named::Removable;
+use crate::place::IN_MEMORY;
 use std::fs::File;
 use std::io::ErrorKind;
 use std::os::unix::fs::MetadataExt;

@@ -1,10 +1,10 @@
 //! Attempts to open a database that another program may have open.
 
 use crate::attempts::Attempts;
-use crate::beside::{fault_of, make_private};
+use crate::file_visit::{FileVisit, Found, find_server};
 use crate::named::NamedStore;
 use crate::open_file::OpenFile;
-use crate::visit::{FileVisit, Found, find_server};
+use crate::place::{fault_of, make_private};
 use club_core::StoreFault;
 use club_store::{FailedOpening, Store};
 use desk_server::Reached;

@@ -1,6 +1,7 @@
 use Rattle.std.proofs.Common.{Err, ap, refl}
 use Rattle.clubdesk_commands.specs.Run as spec
 use Rattle.clubdesk_commands.proofs.RunLemmas.{asks_for, serves_well}
+use Rattle.clubdesk_commands.proofs.program.run.Goals.{in-Office, in-Rootless+in-Ok}
 use Rattle.clubdesk_commands.proofs.program.run.Goals as goal
 
 pub returns-in-Ok-ShowText : goal.returns-in-Ok-ShowText
@@ -10,17 +11,17 @@ returns-in-Ok-ShowText g c =
 pub returns-in-Err : goal.returns-in-Err
 returns-in-Err g c = spec.arguments_refused c.in-Err.fault c.in-Err.ensures (ap Err c.from.ensures) refl refl refl refl
 
-pub returns-in-Office : goal.returns-in-Office
-returns-in-Office g c =
-    spec.task_asked _ c.in-Office.task
-    (asks_for _ _ _ _ _ _ refl c.in-Ok-Perform.ensures c.in-Ok-Perform.field-0-is c.job.view_is c.in-Office.is)
-    c.perform.ensures.performs c.perform.ensures.ends refl refl
-
-pub returns-in-Ok : goal.returns-in-Ok
-returns-in-Ok g c =
-    spec.key_asked _ c.in-Rootless.command c.in-Ok.root
-    (asks_for _ _ _ _ _ _ refl c.in-Ok-Perform.ensures c.in-Ok-Perform.field-0-is c.job.view_is c.in-Rootless.is)
-    c.in-Ok.ensures c.perform-in-Ok.ensures.performs c.perform-in-Ok.ensures.ends refl
+pub returns : goal.returns
+returns g c = elim c.match-work.branch [
+  | in-Office w ↦
+      rw w.reader-is (spec.task_asked _ w.in-Office.task
+      (asks_for _ _ _ _ _ _ refl c.in-Ok-Perform.ensures c.in-Ok-Perform.field-0-is c.job.view_is w.in-Office.is)
+      (rw w.task-is at c.perform.ensures.performs) c.perform.ensures.ends refl refl)
+  | in-Rootless+in-Ok w ↦
+      rw w.reader-is (spec.key_asked _ w.in-Rootless.command w.in-Ok.root
+      (asks_for _ _ _ _ _ _ refl c.in-Ok-Perform.ensures c.in-Ok-Perform.field-0-is c.job.view_is w.in-Rootless.is)
+      w.in-Ok.ensures (rw w.task-is at c.perform.ensures.performs) c.perform.ensures.ends refl)
+]
 
 pub returns-in-Err-read_root : goal.returns-in-Err-read_root
 returns-in-Err-read_root g c =

@@ -1,4 +1,3 @@
-use Rattle.std.proofs.Common.{rules, ◌≡◌}
 use Rattle.clubdesk_files.specs.Retried as spec
 use Rattle.clubdesk_files.proofs.retried.hand_over_until_done.Goals as goal
 

@@ -1,7 +1,7 @@
 //! Connects to a server, and sends a command to it.
 
-use crate::beside::{Place, fault_of};
 use crate::handover::greeted;
+use crate::place::{Place, fault_of};
 use crate::retried::{Servers, hand_over_to, hand_over_until_done};
 use club_core::StoreFault;
 use desk_server::Visit;
