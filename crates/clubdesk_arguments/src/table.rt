@@ -67,17 +67,16 @@ Example:
 
 const ADD_FACILITY_HELP: &str =
     "KIND is court, boat or room. PLACES are 1 to 50. PRICE is the number of points
-for one place for one hour, 0 to 9999. The facility OPENS and SHUTS at full
-hours, 0 to 24.
+for one place for one hour, 0 to 9999. OPENS and SHUTS are full hours, 0 to 24.
 
 Example:
   clubdesk add-facility club.db court-1 court 4 200 8 22";
 
 const SET_FACILITY_HELP: &str =
     "PLACES are 1 to 50. PRICE is the number of points for one place for one hour, 0
-to 9999. The facility OPENS and SHUTS at full hours, 0 to 24. Fails if a slot
-already has more persons than PLACES. The facility keeps its kind. Bookings keep
-their charge and their hour.
+to 9999. OPENS and SHUTS are full hours, 0 to 24. Fails if a slot already has
+more persons than PLACES. The facility keeps its kind. Bookings keep their
+charge and their hour.
 
 Example:
   clubdesk set-facility club.db court-1 4 250 8 21";
@@ -131,8 +130,8 @@ Example:
 
 const SERVE_HELP: &str =
     "Serves N connections to 127.0.0.1, one after the other, then ends. A client has
-SECONDS to send its request, SECONDS to read the reply, and SECONDS to stop
-sending. The server cuts off a slower client.
+the seconds of --patience to send its request, the same time to read the reply,
+and the same time to stop sending. The server cuts off a slower client.
 
 Example:
   clubdesk serve club.db --port 8080 --count 1000 --zone CET-1CEST,M3.5.0,M10.5.0/3";
