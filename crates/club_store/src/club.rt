@@ -34,7 +34,7 @@ impl<S: Alter> ClubStore for Store<S> {
     }
 
     fn most_taken(&mut self, facility: &Name) -> Result<u32, StoreFault> {
-        Store::most_taken(self, facility)
+        self.tables.most_taken(facility)
     }
 
     fn booking(
@@ -42,7 +42,7 @@ impl<S: Alter> ClubStore for Store<S> {
         key: &Name,
         number: BookingNumber,
     ) -> Result<Option<Booking>, StoreFault> {
-        Store::booking(self, key, number)
+        self.tables.booking(key, number)
     }
 
     fn account(&mut self, member: &Name) -> Result<Option<MemberAccount>, StoreFault> {
@@ -50,11 +50,11 @@ impl<S: Alter> ClubStore for Store<S> {
     }
 
     fn open_count(&mut self, member: &Name, moment: Moment) -> Result<u64, StoreFault> {
-        Store::open_count(self, member, moment)
+        self.tables.open_count(member, moment)
     }
 
     fn spent(&mut self, key: &Name) -> Result<u64, StoreFault> {
-        Store::spent(self, key)
+        self.tables.spent(key)
     }
 
     fn day(&mut self, day: Day) -> Result<Vec<Booking>, StoreFault> {

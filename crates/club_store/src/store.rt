@@ -220,23 +220,6 @@ impl<S: Alter> Store<S> {
         }
     }
 
-    /// Returns the number of a member's open bookings at a moment. A booking is open if it isn't
-    /// cancelled and its slot begins after the moment.
-    pub fn open_count(&mut self, member: &Name, moment: Moment) -> Result<u64, StoreFault>
-        ensures reads { ReadsClub S.Store self.old self.new result
-            (λ club count. count ≡ count_to_come moment (bookings_of member.now club)) }
-    {
-        self.tables.open_count(member, moment)
-    }
-
-    /// Returns the points that a key has spent: the total cost of its bookings.
-    pub fn spent(&mut self, key: &Name) -> Result<u64, StoreFault>
-        ensures reads { ReadsClub S.Store self.old self.new result
-            (λ club spent. spent ≡ spent_under key.now club.bookings) }
-    {
-        self.tables.spent(key)
-    }
-
     /// Returns the facility with this name, or `None` if no facility has this name. Fails with
     /// `Storage` if a value in the row is outside its limits.
     pub fn facility(&mut self, name: &Name) -> Result<Option<Facility>, StoreFault>
@@ -245,15 +228,6 @@ impl<S: Alter> Store<S> {
         ensures limits { IfOk result (λ facility. IfSome facility IsFacility) }
     {
         self.tables.facility(name)
-    }
-
-    /// Returns the highest number of persons in any slot of this facility, over all days. Returns 0
-    /// if the facility has no bookings.
-    pub fn most_taken(&mut self, facility: &Name) -> Result<u32, StoreFault>
-        ensures reads { ReadsClub S.Store self.old self.new result
-            (λ club most. most ≡ most_taken_in facility.now club.bookings) }
-    {
-        self.tables.most_taken(facility)
     }
 
     /// Returns the number of persons in a slot, and whether the slot is closed.
@@ -312,7 +286,7 @@ impl<S: Alter> Store<S> {
         ensures limits { IfOk result (λ found. IfSome found IsBooking) }
     {
         match request.number() {
-            Some(number) => self.booking(key, number),
+            Some(number) => self.tables.booking(key, number),
             None => Ok(None),
         }
     }
@@ -345,8 +319,8 @@ impl<S: Alter> Store<S> {
         let Some(account) = self.account(&key.member)? else {
             return Ok(None);
         };
-        let spent = self.spent(&key.name)?;
-        let open_count = self.open_count(&account.member.name, moment)?;
+        let spent = self.tables.spent(&key.name)?;
+        let open_count = self.tables.open_count(&account.member.name, moment)?;
         let facility = self.facility_for(request)?;
         let SlotUse { taken, closed } = self.use_for(request)?;
         let booking = self.booking_for(&key.name, request)?;
@@ -380,8 +354,8 @@ impl<S: Alter> Store<S> {
         match change {
             Change::InsertMember(member) => self.insert_member(member),
             Change::AddCredit { member, points } => self.add_credit(member, *points),
-            Change::TakeCredit { member, points } => self.take_credit(member, *points),
-            Change::ReplaceQuota { member, quota } => self.replace_quota(member, *quota),
+            Change::TakeCredit { member, points } => self.tables.take_credit(member, *points),
+            Change::ReplaceQuota { member, quota } => self.tables.replace_quota(member, *quota),
             Change::InsertFacility(facility) => self.insert_facility(facility),
             Change::ReplaceNumbers {
                 facility,
@@ -389,7 +363,9 @@ impl<S: Alter> Store<S> {
                 price,
                 opens,
                 shuts,
-            } => self.replace_numbers(facility, *places, *price, *opens, *shuts),
+            } => self
+                .tables
+                .replace_numbers(facility, *places, *price, *opens, *shuts),
             Change::InsertKey(key) => self.insert_key(key),
             Change::MarkRevoked { key } => self.revoke_key(key),
             Change::ReplaceRoot {
@@ -399,7 +375,7 @@ impl<S: Alter> Store<S> {
                 until,
             } => self.replace_root(key, former, root, *until),
             Change::MarkClosed(slot) => self.close_slot(slot),
-            Change::MarkOpen(slot) => self.open_slot(slot),
+            Change::MarkOpen(slot) => self.tables.open_slot(slot),
             Change::InsertBooking { booking, member } => self
                 .tables
                 .insert_booking(booking, member),
@@ -409,22 +385,6 @@ impl<S: Alter> Store<S> {
                 refund,
             } => self.tables.cancel_booking(booking, member, *refund),
         }
-    }
-
-    /// Returns a key's booking with this number, or `None` if the key has no such booking. Fails
-    /// with `Storage` if a value in the row is outside its limits.
-    pub fn booking(
-        &mut self,
-        key: &Name,
-        number: BookingNumber,
-    ) -> Result<Option<Booking>, StoreFault>
-        ensures reads { ReadsClub S.Store self.old self.new result
-            (λ club found. found ≡ booking_under key.now number club.bookings) }
-        ensures limits { IfOk result (λ found. IfSome found IsBooking) }
-        ensures named { IfOk result (λ found. IfSome found
-            (λ booking. (booking.key ≡ key.now) × (booking.number ≡ number))) }
-    {
-        self.tables.booking(key, number)
     }
 
     /// Inserts a member, in one transaction. Fails in the same cases as `apply`.
@@ -441,45 +401,11 @@ impl<S: Alter> Store<S> {
         self.tables.add_credit(member, points)
     }
 
-    /// Subtracts points from a member's credit, in one transaction. Fails in the same cases as
-    /// `apply`.
-    pub fn take_credit(&mut self, member: &Name, points: u32) -> Result<(), StoreFault>
-        ensures makes { ChangesClub S.Store (TakeCredit member.now points)
-            self.old self.new result }
-    {
-        self.tables.take_credit(member, points)
-    }
-
-    /// Sets a member's quota, in one transaction. Fails in the same cases as `apply`.
-    pub fn replace_quota(&mut self, member: &Name, quota: u8) -> Result<(), StoreFault>
-        ensures makes { ChangesClub S.Store (ReplaceQuota member.now quota)
-            self.old self.new result }
-    {
-        self.tables.replace_quota(member, quota)
-    }
-
     /// Inserts a facility, in one transaction. Fails in the same cases as `apply`.
     pub fn insert_facility(&mut self, facility: &Facility) -> Result<(), StoreFault>
         ensures makes { ChangesClub S.Store (InsertFacility facility.now) self.old self.new result }
     {
         self.tables.insert_facility(facility)
-    }
-
-    /// Sets a facility's places, price and hours, in one transaction. Fails in the same cases as
-    /// `apply`.
-    pub fn replace_numbers(
-        &mut self,
-        facility: &Name,
-        places: u8,
-        price: u16,
-        opens: u8,
-        shuts: u8,
-    ) -> Result<(), StoreFault>
-        ensures makes { ChangesClub S.Store
-            (ReplaceNumbers facility.now places price opens shuts) self.old self.new result }
-    {
-        self.tables
-            .replace_numbers(facility, places, price, opens, shuts)
     }
 
     /// Inserts a key, in one transaction. Fails in the same cases as `apply`. Also fails with
@@ -526,12 +452,5 @@ impl<S: Alter> Store<S> {
         ensures makes { ChangesClub S.Store (MarkClosed slot.now) self.old self.new result }
     {
         self.tables.close_slot(slot)
-    }
-
-    /// Marks a slot as open, in one transaction. Fails in the same cases as `apply`.
-    pub fn open_slot(&mut self, slot: &Slot) -> Result<(), StoreFault>
-        ensures makes { ChangesClub S.Store (MarkOpen slot.now) self.old self.new result }
-    {
-        self.tables.open_slot(slot)
     }
 }

@@ -2,4 +2,4 @@ use Rattle.club_store.proofs.FailingLemmas.{reads_sound}
 use Rattle.club_store.proofs.club.StoreClubStore.most_taken.Goals as goal
 
 pub returns : goal.returns
-returns g c = reads_sound c.most_taken.ensures.reads
+returns g c = reads_sound (rw c.self.view_is at c.most_taken.ensures.reads)

@@ -2,4 +2,4 @@ use Rattle.club_store.proofs.FailingLemmas.{reads_sound}
 use Rattle.club_store.proofs.club.StoreClubStore.open_count.Goals as goal
 
 pub returns : goal.returns
-returns g c = reads_sound c.open_count.ensures.reads
+returns g c = reads_sound (rw c.self.view_is at c.open_count.ensures.reads)

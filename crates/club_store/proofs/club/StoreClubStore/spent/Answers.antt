@@ -2,4 +2,4 @@ use Rattle.club_store.proofs.FailingLemmas.{reads_sound}
 use Rattle.club_store.proofs.club.StoreClubStore.spent.Goals as goal
 
 pub returns : goal.returns
-returns g c = reads_sound c.spent.ensures.reads
+returns g c = reads_sound (rw c.self.view_is at c.spent.ensures.reads)
