@@ -1,5 +1,5 @@
 -- Example runs that start from a small example club.
-use Rattle.std.specs.Prelude.{◌≡◌, ℕ, true, false, List, [], ◌∷◌, Option, Some, Ok, replicate, codes}
+use Rattle.std.specs.Prelude.{◌≡◌, ℕ, true, false, List, [], ◌∷◌, Option, Some, Ok, replicate, codes, map}
 use Rattle.club_values.specs.declared.{kind.Kind.TheVariants.Court, slot.Slot.Slot}
 use Rattle.pass_caveats.specs.declared.caveat.Caveat.{Caveat, TheVariants.Spend}
 use Rattle.club_core.specs.{Club.{Club, empty_club}, Run.{Event, Asked, Commanded, replies_of, club_after, EventReply, ToMember, ToOffice}}
@@ -58,221 +58,159 @@ served_cancellation number refund = ToMember (Cancelled (codes "amy-1") number r
 abbrev pub account : ℕ → ℕ → ℕ → EventReply
 account balance count spent = ToMember (AccountShown (codes "amy") balance 5 count spent)
 
+-- In a run from the opened club, each event gets the reply beside it.
+abbrev pub RunsAs : List (Event × EventReply) → Type 0
+RunsAs rows = replies_of opened_club (map (λ row. row.0) rows) ≡ map (λ row. row.1) rows
+
 -- A member books a slot, views the account, and cancels the booking.
 abbrev pub BooksAndCancels : Type 0
 BooksAndCancels =
-    replies_of opened_club
-    (ask (asked.Book (slot_at 18) 7 2) noon ∷ ask asked.Account noon ∷ ask (asked.Cancel (slot_at 18) 7) noon ∷ [])
-    ≡ served_booking 7 600 1 ∷ account 9_400 1 600 ∷ served_cancellation 7 600 ∷ []
+    RunsAs
+    ((ask (asked.Book (slot_at 18) 7 2) noon, served_booking 7 600 1)
+    ∷ (ask asked.Account noon, account 9_400 1 600)
+    ∷ (ask (asked.Cancel (slot_at 18) 7) noon, served_cancellation 7 600)
+    ∷ [])
 
 -- If a member repeats a booking request, the reply is the same as the first time, even after the
 -- booking's cancellation and after the slot has begun. The repeated request charges nothing.
 abbrev pub RepeatsAfterACancellation : Type 0
 RepeatsAfterACancellation =
-    replies_of opened_club
-    (ask (asked.Book (slot_at 18) 7 2) noon
-    ∷ ask (asked.Cancel (slot_at 18) 7) noon
-    ∷ ask (asked.Book (slot_at 18) 7 2) late
-    ∷ ask (asked.Book (slot_at 18) 7 1) noon
-    ∷ ask asked.Account late
+    RunsAs
+    ((ask (asked.Book (slot_at 18) 7 2) noon, served_booking 7 600 1)
+    ∷ (ask (asked.Cancel (slot_at 18) 7) noon, served_cancellation 7 600)
+    ∷ (ask (asked.Book (slot_at 18) 7 2) late, served_booking 7 600 1)
+    ∷ (ask (asked.Book (slot_at 18) 7 1) noon, ToMember (Refused refusals.NumberUsed))
+    ∷ (ask asked.Account late, account 10_000 0 0)
     ∷ [])
-    ≡ served_booking 7 600 1 ∷ served_cancellation 7 600 ∷ served_booking 7 600 1 ∷ ToMember (Refused refusals.NumberUsed) ∷ account 10_000 0 0 ∷ []
 
 -- The office can close a slot only while nobody has booked it. A closed slot can't be booked.
 abbrev pub ClosesASlot : Type 0
 ClosesASlot =
-    replies_of opened_club
-    (ask (asked.Book (slot_at 18) 7 2) noon
-    ∷ Commanded (CloseSlot (slot_at 18))
-    ∷ ask (asked.Cancel (slot_at 18) 7) noon
-    ∷ Commanded (CloseSlot (slot_at 18))
-    ∷ Commanded (CloseSlot (slot_at 18))
-    ∷ ask (asked.Book (slot_at 18) 8 0) noon
+    RunsAs
+    ((ask (asked.Book (slot_at 18) 7 2) noon, served_booking 7 600 1)
+    ∷ (Commanded (CloseSlot (slot_at 18)), ToOffice (NotDone SlotInUse))
+    ∷ (ask (asked.Cancel (slot_at 18) 7) noon, served_cancellation 7 600)
+    ∷ (Commanded (CloseSlot (slot_at 18)), ToOffice Done)
+    ∷ (Commanded (CloseSlot (slot_at 18)), ToOffice (NotDone Exists))
+    ∷ (ask (asked.Book (slot_at 18) 8 0) noon, ToMember (Refused refusals.SlotClosed))
     ∷ [])
-    ≡ served_booking 7 600 1
-    ∷ ToOffice (NotDone SlotInUse)
-    ∷ served_cancellation 7 600
-    ∷ ToOffice Done
-    ∷ ToOffice (NotDone Exists)
-    ∷ ToMember (Refused refusals.SlotClosed)
-    ∷ []
 
 -- The office opens a closed slot, and a member then books it. Opening an open slot changes nothing.
 -- A slot of an unknown facility can't be opened.
 abbrev pub OpensASlot : Type 0
 OpensASlot =
-    replies_of opened_club
-    (Commanded (CloseSlot (slot_at 18))
-    ∷ Commanded (CloseSlot (slot_at 19))
-    ∷ Commanded (OpenSlot (slot_at 18))
-    ∷ ask (asked.Book (slot_at 18) 7 2) noon
-    ∷ Commanded (OpenSlot (slot_at 18))
-    ∷ ask (asked.Book (slot_at 18) 8 0) noon
-    ∷ ask (asked.Book (slot_at 19) 9 0) noon
-    ∷ Commanded (OpenSlot (record (slot_at 18) { facility = codes "court-2" }))
+    RunsAs
+    ((Commanded (CloseSlot (slot_at 18)), ToOffice Done)
+    ∷ (Commanded (CloseSlot (slot_at 19)), ToOffice Done)
+    ∷ (Commanded (OpenSlot (slot_at 18)), ToOffice Done)
+    ∷ (ask (asked.Book (slot_at 18) 7 2) noon, served_booking 7 600 1)
+    ∷ (Commanded (OpenSlot (slot_at 18)), ToOffice Done)
+    ∷ (ask (asked.Book (slot_at 18) 8 0) noon, served_booking 8 200 0)
+    ∷ (ask (asked.Book (slot_at 19) 9 0) noon, ToMember (Refused refusals.SlotClosed))
+    ∷ (Commanded (OpenSlot (record (slot_at 18) { facility = codes "court-2" })), ToOffice (NotDone Unknown))
     ∷ [])
-    ≡ ToOffice Done
-    ∷ ToOffice Done
-    ∷ ToOffice Done
-    ∷ served_booking 7 600 1
-    ∷ ToOffice Done
-    ∷ served_booking 8 200 0
-    ∷ ToMember (Refused refusals.SlotClosed)
-    ∷ ToOffice (NotDone Unknown)
-    ∷ []
 
 -- A debit lowers the balance. The rules refuse a debit of more than the balance.
 abbrev pub DebitsAMember : Type 0
 DebitsAMember =
-    replies_of opened_club
-    (ask (asked.Book (slot_at 18) 7 2) noon
-    ∷ Commanded (Debit (codes "amy") 9_401)
-    ∷ Commanded (Debit (codes "amy") 9_400)
-    ∷ ask asked.Account noon
-    ∷ ask (asked.Book (slot_at 19) 8 0) noon
-    ∷ ask (asked.Cancel (slot_at 18) 7) noon
-    ∷ Commanded (Debit (codes "amy") 1)
-    ∷ ask asked.Account noon
-    ∷ Commanded (Debit (codes "amy") 0)
-    ∷ Commanded (Debit (codes "bob") 1_000_001)
-    ∷ Commanded (Debit (codes "bob") 1)
+    RunsAs
+    ((ask (asked.Book (slot_at 18) 7 2) noon, served_booking 7 600 1)
+    ∷ (Commanded (Debit (codes "amy") 9_401), ToOffice (NotDone OutOfRange))
+    ∷ (Commanded (Debit (codes "amy") 9_400), ToOffice Done)
+    ∷ (ask asked.Account noon, account 0 1 600)
+    ∷ (ask (asked.Book (slot_at 19) 8 0) noon, ToMember (Refused refusals.BalanceTooLow))
+    ∷ (ask (asked.Cancel (slot_at 18) 7) noon, served_cancellation 7 600)
+    ∷ (Commanded (Debit (codes "amy") 1), ToOffice Done)
+    ∷ (ask asked.Account noon, account 599 0 0)
+    ∷ (Commanded (Debit (codes "amy") 0), ToOffice (NotDone OutOfRange))
+    ∷ (Commanded (Debit (codes "bob") 1_000_001), ToOffice (NotDone OutOfRange))
+    ∷ (Commanded (Debit (codes "bob") 1), ToOffice (NotDone Unknown))
     ∷ [])
-    ≡ served_booking 7 600 1
-    ∷ ToOffice (NotDone OutOfRange)
-    ∷ ToOffice Done
-    ∷ account 0 1 600
-    ∷ ToMember (Refused refusals.BalanceTooLow)
-    ∷ served_cancellation 7 600
-    ∷ ToOffice Done
-    ∷ account 599 0 0
-    ∷ ToOffice (NotDone OutOfRange)
-    ∷ ToOffice (NotDone OutOfRange)
-    ∷ ToOffice (NotDone Unknown)
-    ∷ []
 
 -- A new quota applies from the next booking on. The member's open bookings remain valid, even if
 -- their number exceeds the new quota.
 abbrev pub SetsAQuota : Type 0
 SetsAQuota =
-    replies_of opened_club
-    (ask (asked.Book (slot_at 18) 7 0) noon
-    ∷ ask (asked.Book (slot_at 19) 8 0) noon
-    ∷ Commanded (SetQuota (codes "amy") 1)
-    ∷ ask asked.Account noon
-    ∷ ask (asked.Book (slot_at 20) 9 0) noon
-    ∷ Commanded (SetQuota (codes "amy") 3)
-    ∷ ask (asked.Book (slot_at 20) 9 0) noon
-    ∷ Commanded (SetQuota (codes "amy") 100)
-    ∷ Commanded (SetQuota (codes "bob") 1)
+    RunsAs
+    ((ask (asked.Book (slot_at 18) 7 0) noon, served_booking 7 200 3)
+    ∷ (ask (asked.Book (slot_at 19) 8 0) noon, served_booking 8 200 3)
+    ∷ (Commanded (SetQuota (codes "amy") 1), ToOffice Done)
+    ∷ (ask asked.Account noon, ToMember (AccountShown (codes "amy") 9_600 1 2 400))
+    ∷ (ask (asked.Book (slot_at 20) 9 0) noon, ToMember (Refused refusals.QuotaReached))
+    ∷ (Commanded (SetQuota (codes "amy") 3), ToOffice Done)
+    ∷ (ask (asked.Book (slot_at 20) 9 0) noon, served_booking 9 200 3)
+    ∷ (Commanded (SetQuota (codes "amy") 100), ToOffice (NotDone OutOfRange))
+    ∷ (Commanded (SetQuota (codes "bob") 1), ToOffice (NotDone Unknown))
     ∷ [])
-    ≡ served_booking 7 200 3
-    ∷ served_booking 8 200 3
-    ∷ ToOffice Done
-    ∷ ToMember (AccountShown (codes "amy") 9_600 1 2 400)
-    ∷ ToMember (Refused refusals.QuotaReached)
-    ∷ ToOffice Done
-    ∷ served_booking 9 200 3
-    ∷ ToOffice (NotDone OutOfRange)
-    ∷ ToOffice (NotDone Unknown)
-    ∷ []
 
 -- A facility's new places, price and opening hours apply from the next booking on. Earlier bookings
 -- don't change. The office can't set the places below the number of persons in a slot.
 abbrev pub SetsAFacility : Type 0
 SetsAFacility =
-    replies_of opened_club
-    (ask (asked.Book (slot_at 18) 7 2) noon
-    ∷ Commanded (SetFacility (codes "court-1") 2 300 19 23)
-    ∷ Commanded (SetFacility (codes "court-1") 3 300 19 23)
-    ∷ ask (asked.View (slot_at 18)) noon
-    ∷ ask (asked.Book (slot_at 18) 7 2) noon
-    ∷ ask (asked.Book (slot_at 18) 8 0) noon
-    ∷ ask (asked.Book (slot_at 22) 9 0) noon
-    ∷ ask (asked.Cancel (slot_at 18) 7) noon
-    ∷ Commanded (SetFacility (codes "court-1") 1 0 0 24)
-    ∷ ask asked.Account noon
-    ∷ Commanded (SetFacility (codes "court-1") 51 0 0 24)
-    ∷ Commanded (SetFacility (codes "court-2") 0 0 0 24)
-    ∷ Commanded (SetFacility (codes "court-2") 1 0 0 24)
+    RunsAs
+    ((ask (asked.Book (slot_at 18) 7 2) noon, served_booking 7 600 1)
+    ∷ (Commanded (SetFacility (codes "court-1") 2 300 19 23), ToOffice (NotDone SlotInUse))
+    ∷ (Commanded (SetFacility (codes "court-1") 3 300 19 23), ToOffice Done)
+    ∷ (ask (asked.View (slot_at 18)) noon, ToMember (SlotShown (slot_at 18) Court 300 3 3 false))
+    ∷ (ask (asked.Book (slot_at 18) 7 2) noon, served_booking 7 600 1)
+    ∷ (ask (asked.Book (slot_at 18) 8 0) noon, ToMember (Refused refusals.NotBookable))
+    ∷ (ask (asked.Book (slot_at 22) 9 0) noon, served_booking 9 300 2)
+    ∷ (ask (asked.Cancel (slot_at 18) 7) noon, served_cancellation 7 600)
+    ∷ (Commanded (SetFacility (codes "court-1") 1 0 0 24), ToOffice Done)
+    ∷ (ask asked.Account noon, account 9_700 1 300)
+    ∷ (Commanded (SetFacility (codes "court-1") 51 0 0 24), ToOffice (NotDone OutOfRange))
+    ∷ (Commanded (SetFacility (codes "court-2") 0 0 0 24), ToOffice (NotDone OutOfRange))
+    ∷ (Commanded (SetFacility (codes "court-2") 1 0 0 24), ToOffice (NotDone Unknown))
     ∷ [])
-    ≡ served_booking 7 600 1
-    ∷ ToOffice (NotDone SlotInUse)
-    ∷ ToOffice Done
-    ∷ ToMember (SlotShown (slot_at 18) Court 300 3 3 false)
-    ∷ served_booking 7 600 1
-    ∷ ToMember (Refused refusals.NotBookable)
-    ∷ served_booking 9 300 2
-    ∷ served_cancellation 7 600
-    ∷ ToOffice Done
-    ∷ account 9_700 1 300
-    ∷ ToOffice (NotDone OutOfRange)
-    ∷ ToOffice (NotDone OutOfRange)
-    ∷ ToOffice (NotDone Unknown)
-    ∷ []
 
 -- A cancellation by the office refunds the whole charge, even after the slot has begun. If the
 -- member then repeats the booking or the cancellation, the reply contains the recorded charge or
 -- refund.
 abbrev pub CancelsForAMember : Type 0
 CancelsForAMember =
-    replies_of opened_club
-    (ask (asked.Book (slot_at 18) 7 2) noon
-    ∷ ask (asked.Cancel (slot_at 18) 7) late
-    ∷ Commanded (CancelBooking (codes "amy-1") 7)
-    ∷ ask asked.Account late
-    ∷ ask (asked.Book (slot_at 18) 7 2) late
-    ∷ ask (asked.Cancel (slot_at 18) 7) late
-    ∷ Commanded (CancelBooking (codes "amy-1") 7)
-    ∷ ask asked.Account late
-    ∷ ask (asked.Book (slot_at 18) 8 3) noon
-    ∷ Commanded (CancelBooking (codes "amy-1") 9)
-    ∷ Commanded (CancelBooking (codes "amy-2") 7)
+    RunsAs
+    ((ask (asked.Book (slot_at 18) 7 2) noon, served_booking 7 600 1)
+    ∷ (ask (asked.Cancel (slot_at 18) 7) late, ToMember (Refused refusals.SlotHasBegun))
+    ∷ (Commanded (CancelBooking (codes "amy-1") 7), ToOffice Done)
+    ∷ (ask asked.Account late, account 10_000 0 0)
+    ∷ (ask (asked.Book (slot_at 18) 7 2) late, served_booking 7 600 1)
+    ∷ (ask (asked.Cancel (slot_at 18) 7) late, served_cancellation 7 600)
+    ∷ (Commanded (CancelBooking (codes "amy-1") 7), ToOffice Done)
+    ∷ (ask asked.Account late, account 10_000 0 0)
+    ∷ (ask (asked.Book (slot_at 18) 8 3) noon, served_booking 8 800 0)
+    ∷ (Commanded (CancelBooking (codes "amy-1") 9), ToOffice (NotDone Unknown))
+    ∷ (Commanded (CancelBooking (codes "amy-2") 7), ToOffice (NotDone Unknown))
     ∷ [])
-    ≡ served_booking 7 600 1
-    ∷ ToMember (Refused refusals.SlotHasBegun)
-    ∷ ToOffice Done
-    ∷ account 10_000 0 0
-    ∷ served_booking 7 600 1
-    ∷ served_cancellation 7 600
-    ∷ ToOffice Done
-    ∷ account 10_000 0 0
-    ∷ served_booking 8 800 0
-    ∷ ToOffice (NotDone Unknown)
-    ∷ ToOffice (NotDone Unknown)
-    ∷ []
 
 -- If the member has already cancelled a booking, a cancellation by the office doesn't change the
 -- refund.
 abbrev pub KeepsARefund : Type 0
 KeepsARefund =
-    replies_of opened_club
-    (ask (asked.Book (slot_at 18) 7 2) noon
-    ∷ ask (asked.Cancel (slot_at 18) 7) soon
-    ∷ Commanded (CancelBooking (codes "amy-1") 7)
-    ∷ ask asked.Account noon
+    RunsAs
+    ((ask (asked.Book (slot_at 18) 7 2) noon, served_booking 7 600 1)
+    ∷ (ask (asked.Cancel (slot_at 18) 7) soon, served_cancellation 7 300)
+    ∷ (Commanded (CancelBooking (codes "amy-1") 7), ToOffice Done)
+    ∷ (ask asked.Account noon, account 9_700 0 300)
     ∷ [])
-    ≡ served_booking 7 600 1 ∷ served_cancellation 7 300 ∷ ToOffice Done ∷ account 9_700 0 300 ∷ []
 
 -- The office can cancel a booking of a revoked key. The cancellation frees the booking's places.
 abbrev pub CancelsUnderARevokedKey : Type 0
 CancelsUnderARevokedKey =
-    replies_of opened_club
-    (ask (asked.Book (slot_at 18) 7 2) noon
-    ∷ Commanded (RevokeKey (codes "amy-1"))
-    ∷ Commanded (CloseSlot (slot_at 18))
-    ∷ Commanded (CancelBooking (codes "amy-1") 7)
-    ∷ Commanded (CloseSlot (slot_at 18))
+    RunsAs
+    ((ask (asked.Book (slot_at 18) 7 2) noon, served_booking 7 600 1)
+    ∷ (Commanded (RevokeKey (codes "amy-1")), ToOffice Done)
+    ∷ (Commanded (CloseSlot (slot_at 18)), ToOffice (NotDone SlotInUse))
+    ∷ (Commanded (CancelBooking (codes "amy-1") 7), ToOffice Done)
+    ∷ (Commanded (CloseSlot (slot_at 18)), ToOffice Done)
     ∷ [])
-    ≡ served_booking 7 600 1 ∷ ToOffice Done ∷ ToOffice (NotDone SlotInUse) ∷ ToOffice Done ∷ ToOffice Done ∷ []
 
 -- Under a spend limit of 600 points, a key can spend refunded points again.
 abbrev pub KeepsASpendLimit : Type 0
 KeepsASpendLimit =
     let limited = ask_with (Some (Spend 600) ∷ []) in
-    replies_of opened_club
-    (limited (asked.Book (slot_at 18) 7 2) noon
-    ∷ limited (asked.Book (slot_at 19) 8 0) noon
-    ∷ limited (asked.Cancel (slot_at 18) 7) noon
-    ∷ limited (asked.Book (slot_at 19) 8 0) noon
+    RunsAs
+    ((limited (asked.Book (slot_at 18) 7 2) noon, served_booking 7 600 1)
+    ∷ (limited (asked.Book (slot_at 19) 8 0) noon, ToMember (Refused (refusals.CaveatDenies 1)))
+    ∷ (limited (asked.Cancel (slot_at 18) 7) noon, served_cancellation 7 600)
+    ∷ (limited (asked.Book (slot_at 19) 8 0) noon, served_booking 8 200 3)
     ∷ [])
-    ≡ served_booking 7 600 1 ∷ ToMember (Refused (refusals.CaveatDenies 1)) ∷ served_cancellation 7 600 ∷ served_booking 8 200 3 ∷ []

@@ -1,8 +1,8 @@
 -- An example of a member's account. The account counts the open bookings under all keys of the
 -- member, but no booking whose slot has begun.
-use Rattle.std.specs.Prelude.{◌≡◌, true, List, [], ◌∷◌, Some, Ok, codes}
-use Rattle.club_core.specs.Examples.{opened_club, root, slot_at, noon, late, ask, served_booking, account}
-use Rattle.club_core.specs.{Run.{Event, Asked, Commanded, replies_of, ToMember, ToOffice}, declared.command.Command.TheVariants.AddKey}
+use Rattle.std.specs.Prelude.{true, [], ◌∷◌, Some, Ok, codes}
+use Rattle.club_core.specs.Examples.{RunsAs, root, slot_at, noon, late, ask, served_booking, account}
+use Rattle.club_core.specs.{Run.{Event, Asked, Commanded, ToMember, ToOffice}, declared.command.Command.TheVariants.AddKey}
 use Rattle.club_core.specs.declared.{command.OfficeAnswer.TheVariants.NewKey, reply.Reply.TheVariants.{Booked, Cancelled}, request.Request.Request}
 use Rattle.club_core.specs.declared.request.Request.TheVariants as asked
 
@@ -12,27 +12,15 @@ ask_of_other_key request =
     Asked (record { pass = Ok (record { key = Some (codes "amy-2"); caveats = []; is_signed = λ _. true }); request = request }) noon
 
 -- Amy makes two bookings under each of her keys, and cancels one of the four bookings. Another
--- booking's slot has begun when amy views the account.
-abbrev pub some_bookings : List Event
-some_bookings =
-    Commanded (AddKey (codes "amy-2") (codes "amy") root)
-    ∷ ask (asked.Book (slot_at 18) 7 0) noon
-    ∷ ask (asked.Book (slot_at 19) 8 0) noon
-    ∷ ask_of_other_key (asked.Book (slot_at 20) 7 0)
-    ∷ ask_of_other_key (asked.Book (slot_at 21) 8 0)
-    ∷ ask_of_other_key (asked.Cancel (slot_at 21) 8)
-    ∷ ask asked.Account late
-    ∷ []
-
--- The account has two open bookings.
+-- booking's slot has begun when amy views the account. The account has two open bookings.
 abbrev pub CountsOverAllKeys : Type 0
 CountsOverAllKeys =
-    replies_of opened_club some_bookings
-    ≡ ToOffice (NewKey (codes "amy-2") root)
-    ∷ served_booking 7 200 3
-    ∷ served_booking 8 200 3
-    ∷ ToMember (Booked (codes "amy-2") 7 200 3)
-    ∷ ToMember (Booked (codes "amy-2") 8 200 3)
-    ∷ ToMember (Cancelled (codes "amy-2") 8 200)
-    ∷ account 9_400 2 400
-    ∷ []
+    RunsAs
+    ((Commanded (AddKey (codes "amy-2") (codes "amy") root), ToOffice (NewKey (codes "amy-2") root))
+    ∷ (ask (asked.Book (slot_at 18) 7 0) noon, served_booking 7 200 3)
+    ∷ (ask (asked.Book (slot_at 19) 8 0) noon, served_booking 8 200 3)
+    ∷ (ask_of_other_key (asked.Book (slot_at 20) 7 0), ToMember (Booked (codes "amy-2") 7 200 3))
+    ∷ (ask_of_other_key (asked.Book (slot_at 21) 8 0), ToMember (Booked (codes "amy-2") 8 200 3))
+    ∷ (ask_of_other_key (asked.Cancel (slot_at 21) 8), ToMember (Cancelled (codes "amy-2") 8 200))
+    ∷ (ask asked.Account late, account 9_400 2 400)
+    ∷ [])

@@ -1,7 +1,7 @@
 -- Example runs in which the office replaces a key's root.
-use Rattle.std.specs.{Prelude.{◌≡◌, ℕ, List, [], ◌∷◌, Some, Ok, replicate, codes}, Str.bytes_eq}
-use Rattle.club_core.specs.Examples.{opened_club, root, slot_at, noon, late, served_booking, account}
-use Rattle.club_core.specs.{Run.{Event, Asked, Commanded, replies_of, ToMember, ToOffice}, declared.command.Command.TheVariants.{RevokeKey, RotateKey}}
+use Rattle.std.specs.{Prelude.{ℕ, List, [], ◌∷◌, Some, Ok, replicate, codes}, Str.bytes_eq}
+use Rattle.club_core.specs.Examples.{RunsAs, root, slot_at, noon, late, served_booking, account}
+use Rattle.club_core.specs.{Run.{Event, Asked, Commanded, ToMember, ToOffice}, declared.command.Command.TheVariants.{RevokeKey, RotateKey}}
 use Rattle.club_core.specs.declared.{command.OfficeAnswer.TheVariants.{Done, NewKey}, reply.Reply.TheVariants.Refused, request.Request.Request}
 use Rattle.club_core.specs.declared.refusal.Refusal.TheVariants as refusals
 use Rattle.club_core.specs.declared.request.Request.TheVariants as asked
@@ -33,40 +33,25 @@ rotate root until = Commanded (RotateKey (codes "amy-1") root until)
 -- a booking under the new root gets the first reply and charges nothing.
 abbrev pub RepeatsUnderANewRoot : Type 0
 RepeatsUnderANewRoot =
-    replies_of opened_club
-    (ask_under root (asked.Book (slot_at 18) 7 2) noon
-    ∷ rotate second_root midnight
-    ∷ ask_under root asked.Account before_midnight
-    ∷ ask_under root asked.Account midnight
-    ∷ ask_under second_root (asked.Book (slot_at 18) 7 2) late
-    ∷ ask_under second_root asked.Account midnight
+    RunsAs
+    ((ask_under root (asked.Book (slot_at 18) 7 2) noon, served_booking 7 600 1)
+    ∷ (rotate second_root midnight, ToOffice (NewKey (codes "amy-1") second_root))
+    ∷ (ask_under root asked.Account before_midnight, account 9_400 1 600)
+    ∷ (ask_under root asked.Account midnight, ToMember (Refused refusals.NotVerified))
+    ∷ (ask_under second_root (asked.Book (slot_at 18) 7 2) late, served_booking 7 600 1)
+    ∷ (ask_under second_root asked.Account midnight, account 9_400 1 600)
     ∷ [])
-    ≡ served_booking 7 600 1
-    ∷ ToOffice (NewKey (codes "amy-1") second_root)
-    ∷ account 9_400 1 600
-    ∷ ToMember (Refused refusals.NotVerified)
-    ∷ served_booking 7 600 1
-    ∷ account 9_400 1 600
-    ∷ []
 
 -- A second rotation drops the older root that the first rotation kept. A revoked key stays revoked
 -- after a rotation.
 abbrev pub DropsTheOldestRoot : Type 0
 DropsTheOldestRoot =
-    replies_of opened_club
-    (rotate second_root midnight
-    ∷ rotate third_root midnight
-    ∷ ask_under root asked.Account noon
-    ∷ ask_under second_root asked.Account noon
-    ∷ Commanded (RevokeKey (codes "amy-1"))
-    ∷ rotate root midnight
-    ∷ ask_under root asked.Account noon
+    RunsAs
+    ((rotate second_root midnight, ToOffice (NewKey (codes "amy-1") second_root))
+    ∷ (rotate third_root midnight, ToOffice (NewKey (codes "amy-1") third_root))
+    ∷ (ask_under root asked.Account noon, ToMember (Refused refusals.NotVerified))
+    ∷ (ask_under second_root asked.Account noon, account 10_000 0 0)
+    ∷ (Commanded (RevokeKey (codes "amy-1")), ToOffice Done)
+    ∷ (rotate root midnight, ToOffice (NewKey (codes "amy-1") root))
+    ∷ (ask_under root asked.Account noon, ToMember (Refused refusals.KeyRevoked))
     ∷ [])
-    ≡ ToOffice (NewKey (codes "amy-1") second_root)
-    ∷ ToOffice (NewKey (codes "amy-1") third_root)
-    ∷ ToMember (Refused refusals.NotVerified)
-    ∷ account 10_000 0 0
-    ∷ ToOffice Done
-    ∷ ToOffice (NewKey (codes "amy-1") root)
-    ∷ ToMember (Refused refusals.KeyRevoked)
-    ∷ []
