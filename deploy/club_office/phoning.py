@@ -182,10 +182,12 @@ def delete(club, words, hour, lines):
                WHERE member = ? AND facility = ? AND day = ? AND hour = ? AND cancelled = 0 ORDER BY pass_key, number""",
             [words.member, words.facility, words.day, hour],
         ).fetchall()
-    if words.number:
-        found = [it for it in found if it[1] == words.number]
     if not found:
         raise refusal("no booking of", member=words.member, slot=slot)
+    if words.number:
+        found = [it for it in found if it[1] == words.number]
+        if not found:
+            raise refusal("no booking numbered", member=words.member, number=words.number, slot=slot)
     if len(found) > 1:
         raise refusal("several bookings", member=words.member, slot=slot, bookings=", ".join(f"{it[0]} {it[1]}" for it in found))
     key, number, root, revoked = found[0]

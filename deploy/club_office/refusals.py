@@ -194,8 +194,10 @@ REFUSALS = {
         "es gibt eine Datei {path}, die nicht der Pass dieser Zeile ist: verschieb sie und starte den Import noch einmal",
     ),
     "spare undone": (
-        "{member} was added, but making the spare key {key} failed: {fault}. `office CLUB add-key {key} {member} --to {path}` makes it",
-        "{member} ist eingetragen, aber der Ersatzschlüssel {key} fehlt: {fault}. `office CLUB add-key {key} {member} --to {path}` macht ihn",
+        "{member} was added, but making the spare key {key} failed: {fault}. `office CLUB add-key {key} {member} --to {path}` makes it, or "
+        "`office CLUB lost-pass {key}` makes its pass if the key exists",
+        "{member} ist eingetragen, aber der Ersatzschlüssel {key} fehlt: {fault}. `office CLUB add-key {key} {member} --to {path}` macht ihn. "
+        "Gibt es ihn schon, macht `office CLUB lost-pass {key}` seinen Pass",
     ),
     "row undone": (
         "the import of {member} is incomplete: fix the problem, and repeat the import",
@@ -245,6 +247,7 @@ REFUSALS = {
         "{slot} ist für {member} schon gebucht: {booking}; --again bucht noch einmal",
     ),
     "no booking of": ("{member} has no booking of {slot}", "{member} hat keine Buchung von {slot}"),
+    "no booking numbered": ("{member} has no booking {number} of {slot}", "{member} hat keine Buchung {number} von {slot}"),
     "several bookings": (
         "{member} has several bookings of {slot}: {bookings}; --number chooses one",
         "{member} hat mehrere Buchungen von {slot}: {bookings}; --number wählt eine",
@@ -308,8 +311,8 @@ REFUSALS = {
     ),
     "no address": ("{what} is not an address such as https://club.example/imprint", "{what} ist keine Adresse, etwa https://club.example/imprint"),
     "no logo": (
-        "{path}: a logo must be an SVG, PNG, JPEG or WebP file of at most {most:,} bytes",
-        "{path}: ein Logo ist ein SVG, PNG, JPEG oder WebP von höchstens {most:,} Bytes",
+        "{path}: a logo must be an SVG, PNG, JPEG or WebP file of at most {most} bytes",
+        "{path}: ein Logo ist ein SVG, PNG, JPEG oder WebP von höchstens {most} Bytes",
     ),
     "club name unprinted": (
         "the club's name has an unprintable character, or isn't UTF-8",

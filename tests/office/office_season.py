@@ -73,6 +73,7 @@ def for_callers(server, day):
     refused(["book", "oez-ali", "court-9", str(day), "18"], 1, "refused: there is no facility court-9")
     refused(["book", "oez-ali", "court-1", str(day), "18", "50"], 3, "bad value")
     refused(["cancel-for", "moeller-kaethe", "court-1", str(day), "18"], 1, "has several bookings")
+    refused(["cancel-for", "moeller-kaethe", "court-1", str(day), "18", "--number", "99"], 1, "has no booking 99 of")
     shown = done("cancel-for", "moeller-kaethe", "court-1", str(day), "18", "--number", "1")
     same("a cancellation", shown, f"cancelled court-1 {day} 18:00 of moeller-kaethe, 400 points back: moeller-kaethe-office 1\n")
     text = (Path("/home/anna/season") / "ray-bob-1").read_text(encoding="ascii").strip()
