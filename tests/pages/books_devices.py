@@ -244,7 +244,7 @@ def does_more_with_bookings(page, passes, between):
         const make = URL.createObjectURL;
         URL.createObjectURL = (blob) => { blob.text().then((text) => { saved = text; }); return make.call(URL, blob); };
         Object.defineProperty(navigator, "share", { value: async (it) => { globalThis.sharedIt = it; } });""")
-    more("Into the calendar")
+    more("Add to the calendar")
     page.when("saved !== null", "a calendar file")
     begins = datetime.strptime(f"{day(20)}T10", "%Y-%m-%dT%H") - timedelta(hours=AHEAD)
     has(page.run("return saved"), "the calendar's lines", "BEGIN:VALARM", f"DTSTART:{begins:%Y%m%dT%H%M%SZ}", "SUMMARY:Court 2\\, Rowing & tennis")

@@ -179,7 +179,7 @@ def tries_the_club(address):
             of_the_card("Invite")
             engine.when("/(copied|sent|Will you come)/.test(shown('dialog'))", "an invitation")
             engine.press("Close", "dialog")
-            of_the_card("Into the calendar")
+            of_the_card("Add to the calendar")
             engine.when("shown('list-remind').includes(\"3 bookings are saved only\") && shown('list-says') === ''", "a reminder, and a complete list")
             engine.open(f"{address}#record=anna-1;77+court-2+{ahead[21]}+09+guests+0+charge+200+left+3")
             engine.when("shown('dialog').includes('1 booking of anna-1')", "a list by a link")
@@ -294,7 +294,7 @@ def lends_what_the_pass_opens(address):
         time.sleep(1)
         page.run("pressIn(byName('dialog'), 'Close'); byName('to-bookings').click()")
         buttons = "return [...byName('to-come').querySelectorAll('button')].map((each) => each.textContent)"
-        check(page.run(buttons) == ["Cancel", "Into the calendar", "Invite", "Book again next week", "Change"], "a booking", page.run(buttons))
+        check(page.run(buttons) == ["Cancel", "Add to the calendar", "Invite", "Book again next week", "Change"], "a booking", page.run(buttons))
         page.run("state.club = null; byName('to-bookings').click()")
         check(page.run(buttons) == ["Cancel", "Invite"], "a booking without the club's list", page.run(buttons))
         check(not page.driver.get_log("browser"), "the console", page.driver.get_log("browser"))
