@@ -194,8 +194,8 @@ REFUSALS = {
         "es gibt eine Datei {path}, die nicht der Pass dieser Zeile ist: verschieb sie und starte den Import noch einmal",
     ),
     "spare undone": (
-        "{member} was added, but making the spare key {key} failed: {fault}. `office CLUB add-key {key} {member} --to {path}` makes it, or "
-        "`office CLUB lost-pass {key}` makes its pass if the key exists",
+        "{member} was added, but making the spare key {key} failed: {fault}. `office CLUB add-key {key} {member} --to {path}` makes it. "
+        "If the key exists, `office CLUB lost-pass {key}` makes its pass",
         "{member} ist eingetragen, aber der Ersatzschlüssel {key} fehlt: {fault}. `office CLUB add-key {key} {member} --to {path}` macht ihn. "
         "Gibt es ihn schon, macht `office CLUB lost-pass {key}` seinen Pass",
     ),

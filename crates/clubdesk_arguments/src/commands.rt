@@ -1,6 +1,6 @@
 //! Converts the values of a command's arguments to the command's work.
 
-ghost use Rattle.std.specs.Prelude.{◌≡◌, option_map};
+ghost use Rattle.std.specs.Prelude.{◌≡◌, None, option_map};
 ghost use Rattle.clap.specs.Words.{found_of, rows_of};
 ghost use Rattle.clubdesk_arguments.specs.Arguments as spec;
 ghost use Rattle.clubdesk_arguments.specs.computed.TextReaders.{text_readers};
@@ -82,36 +82,13 @@ fn read_work<'a>(
             member: name_of(arguments, "MEMBER")?,
             quota: number_at(arguments, "QUOTA")?,
         }),
-        CommandName::AddFacility => give(Command::AddFacility {
-            name: name_of(arguments, "NAME")?,
-            kind: Kind::read(value_of(arguments, "KIND").as_bytes())?,
-            places: number_at(arguments, "PLACES")?,
-            price: number_at(arguments, "PRICE")?,
-            opens: number_at(arguments, "OPENS")?,
-            shuts: number_at(arguments, "SHUTS")?,
-        }),
-        CommandName::SetFacility => give(Command::SetFacility {
-            name: name_of(arguments, "NAME")?,
-            places: number_at(arguments, "PLACES")?,
-            price: number_at(arguments, "PRICE")?,
-            opens: number_at(arguments, "OPENS")?,
-            shuts: number_at(arguments, "SHUTS")?,
-        }),
-        CommandName::AddKey => {
-            let name = name_of(arguments, "KEY")?;
-            let member = name_of(arguments, "MEMBER")?;
-            let change = KeyChange::Add { member };
-            key_work(KeyCommand { name, change, form }, root)
-        }
+        CommandName::AddFacility => add_facility(arguments),
+        CommandName::SetFacility => set_facility(arguments),
+        CommandName::AddKey => add_key(arguments, root, form),
         CommandName::RevokeKey => give(Command::RevokeKey {
             name: name_of(arguments, "KEY")?,
         }),
-        CommandName::RotateKey => {
-            let name = name_of(arguments, "KEY")?;
-            let until = Moment::read(rotation_moment(arguments).as_bytes())?;
-            let change = KeyChange::Rotate { until };
-            key_work(KeyCommand { name, change, form }, root)
-        }
+        CommandName::RotateKey => rotate_key(arguments, root, form),
         CommandName::CloseSlot => give(Command::CloseSlot(slot_of(arguments)?)),
         CommandName::OpenSlot => give(Command::OpenSlot(slot_of(arguments)?)),
         CommandName::CancelBooking => give(Command::CancelBooking {
@@ -122,18 +99,8 @@ fn read_work<'a>(
             let day = Day::read(value_of(arguments, "DAY").as_bytes())?;
             Some(Work::Office(Task::Sheet(day)))
         }
-        CommandName::Serve => Some(Work::Serve(Service {
-            port: port_of(value_of(arguments, "port"))?,
-            count: count_of(value_of(arguments, "count"))?,
-            clock: clock_in(arguments)?,
-            patience: patience_of(value_of(arguments, "patience"))?,
-            log: is_set(arguments, "log"),
-        })),
-        CommandName::ShowAccount => {
-            let key = name_of(arguments, "KEY")?;
-            let clock = clock_in(arguments)?;
-            Some(Work::Office(Task::ShowAccount { key, clock }))
-        }
+        CommandName::Serve => serve(arguments),
+        CommandName::ShowAccount => show_account(arguments),
         CommandName::ShowSlot => Some(Work::Office(Task::ShowSlot(slot_of(arguments)?))),
     }
 }
@@ -142,6 +109,75 @@ fn give<'a>(command: Command) -> Option<Work<'a>>
     ensures { result ≡ Some (Work.Office (Task.Give command)) }
 {
     Some(Work::Office(Task::Give(command)))
+}
+
+fn add_facility<'a>(arguments: &ArgMatches<'a>) -> Option<Work<'a>>
+    ensures { result ≡ spec.work_in text_readers CommandName.AddFacility None Form.V2
+        (rows_of (found_of arguments.now)) }
+{
+    give(Command::AddFacility {
+        name: name_of(arguments, "NAME")?,
+        kind: Kind::read(value_of(arguments, "KIND").as_bytes())?,
+        places: number_at(arguments, "PLACES")?,
+        price: number_at(arguments, "PRICE")?,
+        opens: number_at(arguments, "OPENS")?,
+        shuts: number_at(arguments, "SHUTS")?,
+    })
+}
+
+fn set_facility<'a>(arguments: &ArgMatches<'a>) -> Option<Work<'a>>
+    ensures { result ≡ spec.work_in text_readers CommandName.SetFacility None Form.V2
+        (rows_of (found_of arguments.now)) }
+{
+    give(Command::SetFacility {
+        name: name_of(arguments, "NAME")?,
+        places: number_at(arguments, "PLACES")?,
+        price: number_at(arguments, "PRICE")?,
+        opens: number_at(arguments, "OPENS")?,
+        shuts: number_at(arguments, "SHUTS")?,
+    })
+}
+
+fn add_key<'a>(arguments: &ArgMatches<'a>, root: Option<&str>, form: Form) -> Option<Work<'a>>
+    ensures { result ≡ spec.work_in text_readers CommandName.AddKey
+        (option_map (λ text. text.now) root.entry) form (rows_of (found_of arguments.now)) }
+{
+    let name = name_of(arguments, "KEY")?;
+    let member = name_of(arguments, "MEMBER")?;
+    let change = KeyChange::Add { member };
+    key_work(KeyCommand { name, change, form }, root)
+}
+
+fn rotate_key<'a>(arguments: &ArgMatches<'a>, root: Option<&str>, form: Form) -> Option<Work<'a>>
+    ensures { result ≡ spec.work_in text_readers CommandName.RotateKey
+        (option_map (λ text. text.now) root.entry) form (rows_of (found_of arguments.now)) }
+{
+    let name = name_of(arguments, "KEY")?;
+    let until = Moment::read(rotation_moment(arguments).as_bytes())?;
+    let change = KeyChange::Rotate { until };
+    key_work(KeyCommand { name, change, form }, root)
+}
+
+fn serve<'a>(arguments: &ArgMatches<'a>) -> Option<Work<'a>>
+    ensures { result ≡ spec.work_in text_readers CommandName.Serve None Form.V2
+        (rows_of (found_of arguments.now)) }
+{
+    Some(Work::Serve(Service {
+        port: port_of(value_of(arguments, "port"))?,
+        count: count_of(value_of(arguments, "count"))?,
+        clock: clock_in(arguments)?,
+        patience: patience_of(value_of(arguments, "patience"))?,
+        log: is_set(arguments, "log"),
+    }))
+}
+
+fn show_account<'a>(arguments: &ArgMatches<'a>) -> Option<Work<'a>>
+    ensures { result ≡ spec.work_in text_readers CommandName.ShowAccount None Form.V2
+        (rows_of (found_of arguments.now)) }
+{
+    let key = name_of(arguments, "KEY")?;
+    let clock = clock_in(arguments)?;
+    Some(Work::Office(Task::ShowAccount { key, clock }))
 }
 
 // Returns the work for a `KeyCommand`. If `root` is `None`, the root comes from standard input
