@@ -1,12 +1,13 @@
 -- Lemmas about the cases in which the rules answer a request or decide a command.
-use Rattle.club_laws.proofs.Common.{CancelBooking, MarkCancelled, SetFacility, ReplaceNumbers, Debit, TakeCredit, ◌≡◌, ℕ, ◌+◌, ◌-◌, true, false, Option, Some}
-use Rattle.club_laws.proofs.Common.{None, Ok, refl, ◌∙◌, arith, List, ◌≤◌, Err, bytes_eq-Decides, Result, ◌&&◌, ◌==◌, nat_lt, bytes_eq, Slot, Member, Facility}
-use Rattle.club_laws.proofs.Common.{Key, Booking, Verdict, Reply, Booked, Cancelled, Refused, Request, same_slot, refund_at, Pass, Words, Club, facility_named}
-use Rattle.club_laws.proofs.Common.{is_key_of, bookings_of, is_closed, key_named, member_named, taken_in, balance_of, booking_under, Basis, basis_of, view_of}
-use Rattle.club_laws.proofs.Common.{state_of, key_of, answer_to, verdict_in, request_slot, Change, InsertMember, AddCredit, InsertFacility, InsertKey}
-use Rattle.club_laws.proofs.Common.{MarkRevoked, ReplaceRoot, MarkClosed, MarkOpen, ReplaceQuota, Command, AddMember, Credit, AddFacility, AddKey, RevokeKey}
-use Rattle.club_laws.proofs.Common.{RotateKey, CloseSlot, OpenSlot, SetQuota, OfficeFault, office_verdict, are_limits}
-use Rattle.club_laws.proofs.FoundRows.{is_numbered, numbered, found_passes, found_is_there, find-filter, any_passes, any-filter, named}
+use Rattle.club_laws.proofs.Common.{Outcome, command_outcome, step, Commanded, CancelBooking, MarkCancelled, SetFacility, ReplaceNumbers, Debit, TakeCredit}
+use Rattle.club_laws.proofs.Common.{◌≡◌, ℕ, ◌+◌, ◌-◌, true, false, Option, Some, None, Ok, refl, ◌∙◌, arith, List, ◌≤◌, Err, bytes_eq-Decides, Result, ◌&&◌}
+use Rattle.club_laws.proofs.Common.{◌==◌, nat_lt, bytes_eq, Slot, Member, Facility, Key, Booking, Verdict, Reply, Booked, Cancelled, Refused, Request}
+use Rattle.club_laws.proofs.Common.{same_slot, refund_at, Pass, Words, Club, facility_named, is_key_of, bookings_of, is_closed, key_named, member_named}
+use Rattle.club_laws.proofs.Common.{taken_in, balance_of, booking_under, Basis, basis_of, view_of, state_of, key_of, answer_to, verdict_in, request_slot}
+use Rattle.club_laws.proofs.Common.{Change, InsertMember, AddCredit, InsertFacility, InsertKey, MarkRevoked, ReplaceRoot, MarkClosed, MarkOpen, ReplaceQuota}
+use Rattle.club_laws.proofs.Common.{Command, AddMember, Credit, AddFacility, AddKey, RevokeKey, RotateKey, CloseSlot, OpenSlot, SetQuota, OfficeFault}
+use Rattle.club_laws.proofs.{Common.{office_verdict, are_limits}, FoundRows.{is_numbered, numbered, found_passes, found_is_there, find-filter, any_passes}}
+use Rattle.club_laws.proofs.FoundRows.{any-filter, named}
 use Rattle.club_core.specs.{Sums.most_taken_in, declared.pass_fault.PassFault.PassFault}
 use Rattle.club_rows.specs.Facility.{charge_of}
 use Rattle.std.proofs.lemmas.Bool.Decides.{nat_tests}
@@ -193,3 +194,10 @@ module _ (P : Result (Option Change) OfficeFault → Type 0) (club : Club) (fail
       grind (arith, fails)
   command_cases (OpenSlot slot) stays done =
       let ok = λ (f : Facility) (found : facility_named slot.facility club ≡ Some f). done (f, found) in grind (arith, fails)
+
+-- The outcome of a command has the property `P` in each case: the command fails, finds nothing to
+-- do, or changes the club.
+pub outcome_cases : (P : Outcome → Type 0) (club : Club) (command : Command) → ((fault : OfficeFault) → P (command_outcome club command (Err fault)))
+    → (FindsNothing club command → P (command_outcome club command (Ok None)))
+    → ((r : CommandRestsOn club command) → P (command_outcome club command (Ok (Some (change_of club command r))))) → P (step club (Commanded command))
+outcome_cases P club command fails = command_cases (λ v. P (command_outcome club command v)) club fails command

@@ -1,23 +1,21 @@
 -- Re-exports the names that most proofs in this crate need.
 pub use Rattle.std.proofs.Common.{◌≡◌, Some, List, [], ◌∷◌, ℕ, true, false, refl, arith, None, ◌++◌, Option, Result, All, ◌∙◌, ap, ◌+◌, ◌&&◌, Bool, map, sym}
 pub use Rattle.std.proofs.Common.{cond, Ok, filter, ◌||◌, option_map, find, ◌≤◌, Err, ◌==◌, ◌≢◌, get_or, subst, AllPairs, Contains, not, sum_by, ◌-◌, inl}
-pub use Rattle.std.proofs.Common.{nat_lt, length, append_assoc, suc, is_some, append-nil, MatchOption, IfSome, codes}
-pub use Rattle.std.proofs.lemmas.{Bool.{false_from_ne_true, both_ways, cond_both}, List.Elements.{All-head, All-tail, All-nil, All-cons, All-map, filter_agree}}
-pub use Rattle.std.proofs.lemmas.List.Elements.{filter-append, All-contains, Contains-push, All-push, Contains-append_left, Contains-append_right, All-weaker}
-pub use Rattle.std.proofs.lemmas.{List.{Elements.All-filter, Folds.{find-append, list_any-append, list_any_at, Any-from_list_any, list_any_none}}, Simd.map-map}
-pub use Rattle.std.proofs.lemmas.Slice.Eq.{bytes_eq-Decides}
+pub use Rattle.std.proofs.{Common.{nat_lt, length, append_assoc, suc, append-nil, MatchOption, codes}, lemmas.Bool.{false_from_ne_true, both_ways}}
+pub use Rattle.std.proofs.lemmas.List.Elements.{All-head, All-tail, All-nil, All-cons, All-map, filter_agree, filter-append, All-contains, Contains-push}
+pub use Rattle.std.proofs.lemmas.List.{Elements.{All-push, Contains-append_left, Contains-append_right, All-weaker, All-filter}, Folds.find-append}
+pub use Rattle.std.proofs.lemmas.{List.Folds.{list_any-append, list_any_at, Any-from_list_any, list_any_none}, Simd.map-map, Slice.Eq.bytes_eq-Decides}
 pub use Rattle.std.specs.{List.list_any, Str.bytes_eq}
 pub use Rattle.club_core.specs.{Acceptance.{IsAllowedBy, IsAcceptedIn, IsServed, IsAcceptedPass, IsEntitled}, After.{after, revoked_key, rotated_key}}
-pub use Rattle.club_core.specs.After.{cancelled_booking, credited_member, debited_member, member_with_quota, facility_with_numbers, good_until, is_marked}
-pub use Rattle.club_core.specs.Answer.{verdict_in, answer_to, ask_of, form_refusal, answer_by_basis}
-pub use Rattle.club_core.specs.{Basis.{Basis, basis_of, view_of, key_of, state_of, club_account, SlotState}, Club.{Club, is_key_of, bookings_of, key_named}}
-pub use Rattle.club_core.specs.Club.{member_named, keys_of, IsSound, facility_named, empty_club, is_closed, HasReferences}
-pub use Rattle.club_core.specs.{Events.{IsEvent, IsCommand, IsRequest}, Laws.{TestsTheSignature, OwnBookings}, Office.{office_verdict, are_limits}}
-pub use Rattle.club_core.specs.{Pass.{Words, Pass, is_signed_under}, Request.{request_slot, request_number}, Run.{step, Event, Asked, Commanded, after_change}}
-pub use Rattle.club_core.specs.Run.{command_outcome, club_after, replies_of, ToMember, EventReply, ToOffice, done_answer, Outcome, Response, verdict_outcome}
-pub use Rattle.club_core.specs.{Sums.{taken_in, booking_under, is_under, cost_of, is_in, balance_of}, declared.change.Change.{Change, TheVariants.InsertKey}}
-pub use Rattle.club_core.specs.declared.change.Change.TheVariants.{MarkRevoked, ReplaceRoot, InsertBooking, MarkCancelled, InsertMember, AddCredit}
-pub use Rattle.club_core.specs.declared.change.Change.TheVariants.{InsertFacility, MarkClosed, MarkOpen, ReplaceQuota, TakeCredit, ReplaceNumbers}
+pub use Rattle.club_core.specs.{After.{cancelled_booking, credited_member, debited_member, member_with_quota, facility_with_numbers}, Answer.verdict_in}
+pub use Rattle.club_core.specs.{Answer.{answer_to, ask_of, form_refusal, answer_by_basis}, Basis.{Basis, basis_of, view_of, key_of, state_of, club_account}}
+pub use Rattle.club_core.specs.{Basis.SlotState, Club.{Club, is_key_of, bookings_of, key_named, member_named, keys_of, IsSound, facility_named, empty_club}}
+pub use Rattle.club_core.specs.{Club.{is_closed, HasReferences}, Events.{IsEvent, IsCommand, IsRequest}, Laws.{TestsTheSignature, OwnBookings}}
+pub use Rattle.club_core.specs.{Office.{office_verdict, are_limits}, Pass.{Words, Pass, is_signed_under}, Request.{request_slot, request_number}, Run.step}
+pub use Rattle.club_core.specs.Run.{Event, Asked, Commanded, after_change, command_outcome, club_after, replies_of, ToMember, EventReply, ToOffice, done_answer}
+pub use Rattle.club_core.specs.{Run.{Outcome, Response, verdict_outcome}, Sums.{taken_in, booking_under, is_under, cost_of, is_in, balance_of}}
+pub use Rattle.club_core.specs.declared.change.Change.{Change, TheVariants.{InsertKey, MarkRevoked, ReplaceRoot, InsertBooking, MarkCancelled, InsertMember}}
+pub use Rattle.club_core.specs.declared.change.Change.TheVariants.{AddCredit, InsertFacility, MarkClosed, MarkOpen, ReplaceQuota, TakeCredit, ReplaceNumbers}
 pub use Rattle.club_core.specs.declared.command.Command.{Command, TheVariants.{RevokeKey, AddKey, RotateKey, AddMember, Credit, AddFacility, CloseSlot}}
 pub use Rattle.club_core.specs.declared.command.{Command.TheVariants.{OpenSlot, SetQuota, Debit, SetFacility, CancelBooking}, OfficeFault.OfficeFault}
 pub use Rattle.club_core.specs.declared.{reply.Reply.{Reply, TheVariants.{Booked, Cancelled, Refused}}, request.Request.Request, verdict.Verdict.Verdict}

@@ -2,8 +2,8 @@
 -- from the run, and then use the laws for runs without failures.
 use Rattle.club_laws.proofs.{AnswerCases.answer_cases, Common.{Cancelled, ◌≡◌, ◌≢◌, ℕ, false, arith, inl, [], ◌∷◌, refl, List, ◌++◌, length, append_assoc}}
 use Rattle.club_laws.proofs.Common.{Refused, Verdict, verdict_in, Club, empty_club, Words, Event, Asked, Commanded, step, ToMember, Response, All-nil, All-cons}
-use Rattle.club_laws.proofs.{Common.{All-head, All-tail, IsEvent, TestsTheSet, Reply, TestsTheSignature}, KeptByRuns.club_after-append}
-use Rattle.club_laws.proofs.{PointRuns.{conserved, has_room}, RepeatAnswers.{cancelled_by_record, step_of_repeat}, SoundSteps.sound_run}
+use Rattle.club_laws.proofs.{Common.{All-head, All-tail, IsEvent, TestsTheSet, Reply, TestsTheSignature}, KeptByRuns.club_after-append, PointRuns.conserved}
+use Rattle.club_laws.proofs.{PointRuns.has_room, RepeatAnswers.{cancelled_by_record, step_of_repeat}, SoundSteps.sound_run}
 use Rattle.club_laws.specs.Failed.{is_unavailable, CutsRuns, JoinsRuns, LeavesEvents, LeavesOutFailed, RunsWithoutFailures, Presentation, present_reply}
 use Rattle.club_laws.specs.{Failed.{has_failed, answered_events, IsStep, IsRun}, Repeats.{refund_by_office, IsBookedOrCancelled, WasServed}}
 use Rattle.club_laws.specs.RunsWithFailures.{CancellationsWithFailures, ConservesWithFailures, PlacesWithFailures, SoundWithFailures, RepeatsWithFailures}

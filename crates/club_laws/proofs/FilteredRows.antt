@@ -1,15 +1,11 @@
 -- Lemmas about filtered lists, and about sums over filtered lists.
-use Rattle.club_laws.proofs.Common.{◌≡◌, Bool, true, false, ◌&&◌, List, [], ◌∷◌, map, filter, All, refl, sym, ◌∙◌, arith, ℕ, ◌+◌, ◌≤◌, cond, ◌++◌, ap, list_any}
+use Rattle.club_laws.proofs.Common.{◌≡◌, Bool, true, false, ◌&&◌, List, [], ◌∷◌, map, filter, All, refl, sym, ◌∙◌, arith, ℕ, ◌+◌, ◌≤◌, cond, ◌++◌, ap}
 use Rattle.club_laws.proofs.Common.{filter_agree, All-head, All-tail, filter-append, not, sum_by}
 use Rattle.std.proofs.lemmas.List.{Filters.sum_by-filter_both, Sums.{sum_by-cons, sum_by-append}}
 
 pub filter_fixed : {X : Type 0} (p : X → Bool) (f : X → X) → ((x : X) → p x ≡ true → f x ≡ x) → (xs : List X) → map f (filter p xs) ≡ filter p xs
 filter_fixed p f fixed [] = refl
 filter_fixed p f fixed (x ∷ xs) = grind (arith, fixed x, filter_fixed p f fixed xs)
-
-pub fixed_where_none : {X : Type 0} (q : X → Bool) (f : X → X) → ((x : X) → q x ≡ false → f x ≡ x) → (xs : List X) → list_any q xs ≡ false → map f xs ≡ xs
-fixed_where_none q f fixed [] e = refl
-fixed_where_none q f fixed (x ∷ xs) e = grind (arith, fixed x, fixed_where_none q f fixed xs)
 
 pub filter_same : {X : Type 0} (p q : X → Bool) (xs : List X) → All (λ x. p x ≡ q x) xs → filter p xs ≡ filter q xs
 filter_same p q [] h = refl
@@ -42,13 +38,6 @@ pub sum-map : {X Y : Type 0} (f : X → Y) (g : Y → ℕ) (xs : List X) → sum
 sum-map f g [] = refl
 sum-map f g (x ∷ xs) = grind (arith, sum-map f g xs, sum_by-cons g (f x) (map f xs), sum_by-cons (λ y. g (f y)) x xs)
 
-pub sum_same : {X : Type 0} (f g : X → ℕ) (xs : List X) → All (λ x. f x ≡ g x) xs → sum_by f xs ≡ sum_by g xs
-sum_same f g [] h = refl
-sum_same f g (x ∷ xs) h =
-    let rest = sum_same f g xs (All-tail (λ y. f y ≡ g y) x xs h) in
-    let here = All-head (λ y. f y ≡ g y) x xs h in
-    rw (sum_by-cons f x xs, sum_by-cons g x xs) (omega arith)
-
 pub sum_less : {X : Type 0} (f g : X → ℕ) (xs : List X) → All (λ x. f x ≤ g x) xs → sum_by f xs ≤ sum_by g xs
 sum_less f g [] h = omega arith
 sum_less f g (x ∷ xs) h =
@@ -71,12 +60,8 @@ sum_in_parts {X} f q p xs =
     let second = ap (sum_by f) (filters_swap other q xs) in
     omega arith
 
-pub sum_middle : {X : Type 0} (f : X → ℕ) (p : X → Bool) (xs : List X) (x : X) (ys : List X)
-    → sum_by f (filter p (xs ++ x ∷ ys)) ≡ sum_by f (filter p xs) + cond (p x) (f x) 0 + sum_by f (filter p ys)
-sum_middle f p xs x ys =
-    ap (sum_by f) (filter-append p xs (x ∷ ys))
-    ∙ (sum_by-append f (filter p xs) (filter p (x ∷ ys)) ∙ grind (arith, sum_by-cons f x (filter p ys)))
-
 pub sum_one_more : {X : Type 0} (f : X → ℕ) (p : X → Bool) (xs : List X) (x : X)
     → sum_by f (filter p (xs ++ x ∷ [])) ≡ sum_by f (filter p xs) + cond (p x) (f x) 0
-sum_one_more f p xs x = let parts = sum_middle f p xs x [] in omega arith
+sum_one_more f p xs x =
+    ap (sum_by f) (filter-append p xs (x ∷ []))
+    ∙ (sum_by-append f (filter p xs) (filter p (x ∷ [])) ∙ grind (arith, sum_by-cons f x []))

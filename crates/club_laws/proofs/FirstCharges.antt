@@ -1,8 +1,8 @@
 -- Lemmas for the proof that the first reply to a booking states the charge on record.
-use Rattle.club_laws.proofs.{AnswerCases.{answer_cases, written, change_of, command_cases, CommandRestsOn}, Common.{Command, CancelBooking, ◌≡◌, ℕ, true, List}}
+use Rattle.club_laws.proofs.{AnswerCases.{outcome_cases, answer_cases, written, change_of, CommandRestsOn}, Common.{Command, CancelBooking, ◌≡◌, ℕ, true, List}}
 use Rattle.club_laws.proofs.Common.{[], ◌∷◌, ◌++◌, map, Option, Some, None, refl, sym, ap, ◌∙◌, arith, find, find-append, Booking, Verdict, Words, Club}
-use Rattle.club_laws.proofs.Common.{booking_under, verdict_in, cancelled_booking, after, after_change, Booked, Event, Asked, Commanded, step, command_outcome}
-use Rattle.club_laws.proofs.{Common.{ToMember, Result, Change, OfficeFault, refund_at}, FoundRows.{is_numbered, numbered, found_by_own, find-map}}
+use Rattle.club_laws.proofs.Common.{booking_under, verdict_in, cancelled_booking, after, after_change, Booked, Event, Asked, Commanded, step, ToMember}
+use Rattle.club_laws.proofs.{Common.refund_at, FoundRows.{is_numbered, numbered, found_by_own, find-map}}
 use Rattle.club_laws.specs.Points.{Entry, charge_told, charge_of_reply}
 
 -- The charge of the booking, or the default `other` if there is no booking.
@@ -57,8 +57,8 @@ told_by_answer club words moment =
 pub told_by_step : (club : Club) (event : Event) → TellsNew club.bookings (step club event).club.bookings (charge_of_reply (step club event).reply)
 told_by_step club (Asked words moment) = told_by_answer club words moment
 told_by_step club (Commanded command) =
-    command_cases (λ (v : Result (Option Change) OfficeFault). TellsNew club.bookings (command_outcome club command v).club.bookings
-    (charge_of_reply (command_outcome club command v).reply)) club (λ fault later key number. refl) command (λ s later key number. refl) (told command)
+    outcome_cases (λ o. TellsNew club.bookings o.club.bookings (charge_of_reply o.reply)) club command (λ fault later key number. refl)
+    (λ s later key number. refl) (told command)
   where
     told : (c : Command) (r : CommandRestsOn club c) → TellsNew club.bookings (after (change_of club c r) club).bookings []
     told (CancelBooking name number) r = told_marked club.bookings r.2.key r.2.number r.2.charge

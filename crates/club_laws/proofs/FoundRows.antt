@@ -30,15 +30,11 @@ AllPairs-head R x xs h = λ k d short. h 0 (suc k) d (omega arith) (omega arith)
 pub AllPairs-tail : {X : Type 0} (R : X → X → Type 0) (x : X) (xs : List X) → AllPairs R (x ∷ xs) → AllPairs R xs
 AllPairs-tail R x xs h = λ i j d less short. h (suc i) (suc j) d (omega arith) (omega arith)
 
-pub All-each : {X : Type 0} (P Q : X → Type 0) (xs : List X) → ((x : X) → P x → Q x) → All P xs → All Q xs
-All-each P Q xs f h = λ k d short. f _ (h k d short)
-
-pub AllPairs-map : {X Y : Type 0} (f : X → Y) (R : X → X → Type 0) (S : Y → Y → Type 0) → ((a b : X) → R a b → S (f a) (f b)) → (xs : List X) → AllPairs R xs
-    → AllPairs S (map f xs)
-AllPairs-map f R S step [] h = λ i j d less short. absurd (omega arith)
-AllPairs-map f R S step (x ∷ xs) h =
-    AllPairs-cons S (f x) (map f xs) (All-map (S (f x)) f xs (All-weaker (R x) (λ y. S (f x) (f y)) (step x) xs (AllPairs-head R x xs h)))
-    (AllPairs-map f R S step xs (AllPairs-tail R x xs h))
+pub AllPairs-map : {X Y : Type 0} (f : X → Y) (S : Y → Y → Type 0) (xs : List X) → AllPairs (λ a b. S (f a) (f b)) xs → AllPairs S (map f xs)
+AllPairs-map f S [] h = λ i j d less short. absurd (omega arith)
+AllPairs-map f S (x ∷ xs) h =
+    AllPairs-cons S (f x) (map f xs) (All-map (S (f x)) f xs (AllPairs-head (λ a b. S (f a) (f b)) x xs h))
+    (AllPairs-map f S xs (AllPairs-tail (λ a b. S (f a) (f b)) x xs h))
 
 pub only_found : {X : Type 0} (R : X → X → Type 0) (p : X → Bool) → ((a b : X) → p a ≡ true → p b ≡ true → R a b → ⊥) → (xs : List X) (x : X) → AllPairs R xs
     → find p xs ≡ Some x → All (λ y. p y ≡ true → y ≡ x) xs
@@ -89,7 +85,7 @@ find-map p f blind (x ∷ xs) = grind (arith, find-map p f blind xs, blind x)
 
 pub none_named : {X : Type 0} (name : X → List ℕ) (n : List ℕ) (xs : List X) → find (λ x. bytes_eq (name x) n) xs ≡ None → All (λ x. name x ≢ n) xs
 none_named name n xs e =
-    All-each (λ x. bytes_eq (name x) n ≡ false) (λ x. name x ≢ n) xs (λ x f h. both_ways (bytes_eq (name x) n) f (same_bytes_of (name x) n h))
+    All-weaker (λ x. bytes_eq (name x) n ≡ false) (λ x. name x ≢ n) (λ x f h. both_ways (bytes_eq (name x) n) f (same_bytes_of (name x) n h)) xs
     (none_found (λ x. bytes_eq (name x) n) xs e)
 
 pub named : {X : Type 0} (name : X → List ℕ) (n : List ℕ) (xs : List X) (x : X) → find (λ y. bytes_eq (name y) n) xs ≡ Some x → name x ≡ n
@@ -108,12 +104,6 @@ pub still_there : {X : Type 0} (name : X → List ℕ) (rows : List X) (row : X)
     → Contains (map name (rows ++ row ∷ [])) n
 still_there name rows row n h = rw (map-append name rows (row ∷ [])) (Contains-append_left (map name rows) (name row ∷ []) n h)
 
-pub still_all : {X Y : Type 0} (name : X → List ℕ) (rows new : List X) (refers : Y → List ℕ) (ys : List Y)
-    → ((n : List ℕ) → Contains (map name rows) n → Contains (map name new) n) → All (λ y. Contains (map name rows) (refers y)) ys
-    → All (λ y. Contains (map name new) (refers y)) ys
-still_all name rows new refers ys still h =
-    All-each (λ y. Contains (map name rows) (refers y)) (λ y. Contains (map name new) (refers y)) ys (λ y. still (refers y)) h
-
 pub only_named : {X : Type 0} (name : X → List ℕ) (n : List ℕ) (xs : List X) (x : X) → AllPairs (λ a b. name a ≢ name b) xs
     → find (λ y. bytes_eq (name y) n) xs ≡ Some x → All (λ y. bytes_eq (name y) n ≡ true → y ≡ x) xs
 only_named name n xs x unique e =
@@ -125,11 +115,7 @@ none_passes p [] e = All-nil (λ x. p x ≡ false)
 none_passes p (x ∷ xs) e = All-cons (λ y. p y ≡ false) x xs (grind arith) (none_passes p xs (grind arith))
 
 pub slots_same : (a b : Slot) → same_slot a b ≡ true → a ≡ b
-slots_same a b e =
-    let f : a.facility ≡ b.facility = grind (arith, bytes_eq-Decides a.facility b.facility) in
-    let d : a.day ≡ b.day = grind arith in
-    let h : a.hour ≡ b.hour = grind arith in
-    λ i. record { facility = f i; day = d i; hour = h i }
+slots_same a b e = grind (arith, bytes_eq-Decides a.facility b.facility)
 
 pub same_slots : (a : Slot) → same_slot a a ≡ true
 same_slots a = grind (arith, bytes_eq-Decides a.facility a.facility)

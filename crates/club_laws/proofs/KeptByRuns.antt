@@ -1,6 +1,6 @@
 -- A run keeps a property of the club if every change keeps the property.
-use Rattle.club_laws.proofs.Common.{List, [], ◌∷◌, ◌++◌, Option, Some, None, Ok, Err, refl, ap, ◌≡◌, Result, Change, OfficeFault, Club, verdict_in, after}
-use Rattle.club_laws.proofs.Common.{office_verdict, Event, Asked, Commanded, step, after_change, command_outcome, replies_of, club_after, EventReply}
+use Rattle.club_laws.proofs.{AnswerCases.{outcome_cases, change_of}, Common.{List, [], ◌∷◌, ◌++◌, Option, Some, None, refl, ap, ◌≡◌, Change, Club, verdict_in}}
+use Rattle.club_laws.proofs.Common.{after, Event, Asked, Commanded, step, after_change, replies_of, club_after, EventReply}
 
 module _ (P : Club → Type 0) (kept : (club : Club) (change : Change) → P club → P (after change club)) where
   kept_by_change : (club : Club) (change : Option Change) → P club → P (after_change change club)
@@ -9,11 +9,8 @@ module _ (P : Club → Type 0) (kept : (club : Club) (change : Change) → P clu
 
   pub kept_by_step : (club : Club) (event : Event) → P club → P (step club event).club
   kept_by_step club (Asked words moment) h = kept_by_change club (verdict_in club words moment).change h
-  kept_by_step club (Commanded command) h = go (office_verdict club command)
-    where
-      go : (verdict : Result (Option Change) OfficeFault) → P (command_outcome club command verdict).club
-      go (Err fault) = h
-      go (Ok change) = kept_by_change club change h
+  kept_by_step club (Commanded command) h =
+      outcome_cases (λ o. P o.club) club command (λ fault. h) (λ n. h) (λ r. kept club (change_of club command r) h)
 
   pub kept_by_run : (club : Club) (events : List Event) → P club → P (club_after club events)
   kept_by_run club [] h = h

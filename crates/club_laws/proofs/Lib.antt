@@ -1,7 +1,8 @@
 pub mod Common
-pub mod KeptByRuns
 pub mod FoundRows
 pub mod AnswerCases
+pub mod KeptByRuns
+pub mod SoundChanges
 pub mod SoundSteps
 pub mod RepeatAnswers
 pub mod MemberAccounts
@@ -14,4 +15,3 @@ pub mod FilteredRows
 pub mod MostTaken
 pub mod FirstCharges
 pub mod MemberParts
-pub mod SoundChanges

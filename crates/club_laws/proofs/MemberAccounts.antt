@@ -1,10 +1,10 @@
 -- Lemmas about a member's keys and credit after a run.
-use Rattle.club_laws.proofs.{AnswerCases.{FindsNothing, answer_cases, command_cases, CommandRestsOn, change_of}, Common.{CancelBooking, debited_member, Debit}}
-use Rattle.club_laws.proofs.Common.{◌≤◌, ◌≡◌, ℕ, ◌+◌, Bool, true, false, cond, List, [], ◌∷◌, map, Option, Some, None, arith, bytes_eq-Decides, Result, ◌||◌}
-use Rattle.club_laws.proofs.Common.{find, is_some, bytes_eq, list_any, list_any-append, find-append, Member, after, ToOffice, done_answer, Verdict, Change}
-use Rattle.club_laws.proofs.Common.{Command, AddMember, Credit, SetQuota, AddKey, RevokeKey, RotateKey, OfficeFault, Words, Club, member_named, is_key_of}
-use Rattle.club_laws.proofs.Common.{verdict_in, credited_member, revoked_key, rotated_key, Event, Asked, Commanded, step, after_change, command_outcome}
-use Rattle.club_laws.proofs.{Common.{replies_of, club_after, member_with_quota}, MemberParts.{is_key_of-added, is_key_of-edited}}
+use Rattle.club_laws.proofs.{AnswerCases.{outcome_cases, FindsNothing, answer_cases, CommandRestsOn, change_of}, Common.{Outcome, Ok, refl, CancelBooking}}
+use Rattle.club_laws.proofs.Common.{debited_member, Debit, ◌≡◌, ℕ, ◌+◌, Bool, false, List, [], ◌∷◌, Option, Some, None, arith, bytes_eq-Decides, ◌||◌, bytes_eq}
+use Rattle.club_laws.proofs.Common.{list_any, list_any-append, find-append, Member, Verdict, Command, AddMember, Credit, SetQuota, AddKey, RevokeKey, RotateKey}
+use Rattle.club_laws.proofs.Common.{Words, Club, member_named, is_key_of, verdict_in, credited_member, revoked_key, rotated_key, Event, Asked, Commanded, step}
+use Rattle.club_laws.proofs.{Common.{after_change, command_outcome, replies_of, club_after, member_with_quota}, FoundRows.{found_passes, find-map}}
+use Rattle.club_laws.proofs.MemberParts.{is_named, is_key_of-added, is_key_of-edited}
 use Rattle.club_laws.specs.Points.{key_given, keys_given, credit_accepted, credits_accepted, debit_accepted, debits_accepted}
 
 -- The two clubs have the same keys and the same members.
@@ -19,21 +19,20 @@ abbrev pub is_among : List (List ℕ) → List ℕ → Bool
 is_among keys key = list_any (λ (k : List ℕ). bytes_eq k key) keys
 
 module _ (member : List ℕ) where
-  keys_of_step : (club : Club) (key : List ℕ) (event : Event) → is_key_of member (step club event).club key
-      ≡ (is_key_of member club key || is_among (key_given member event (step club event).reply) key)
+  -- The event adds to the member's keys the key that the event gives.
+  abbrev Gives : List ℕ → Club → Event → Outcome → Type 0
+  Gives key club event next = is_key_of member next.club key ≡ (is_key_of member club key || is_among (key_given member event next.reply) key)
+
+  keys_of_step : (club : Club) (key : List ℕ) (event : Event) → Gives key club event (step club event)
   keys_of_step club key (Asked words moment) = let kept = (answer_keeps club words moment).keys in grind arith
   keys_of_step club key (Commanded command) =
-      command_cases (λ (v : Result (Option Change) OfficeFault). is_key_of member (command_outcome club command v).club key ≡ (is_key_of member club key
-      || is_among (key_given member (Commanded command) (command_outcome club command v).reply) key)) club (λ fault. grind arith) command
-      (unchanged command) (given command)
+      outcome_cases (Gives key club (Commanded command)) club command (λ fault. grind arith) (unchanged command) (given command)
     where
-      unchanged : (c : Command) → FindsNothing club c
-          → is_key_of member club key ≡ (is_key_of member club key || is_among (key_given member (Commanded c) (ToOffice (done_answer c))) key)
+      unchanged : (c : Command) → FindsNothing club c → Gives key club (Commanded c) (command_outcome club c (Ok None))
       unchanged (CancelBooking name number) s = grind arith
       unchanged c s = absurd s
 
-      given : (c : Command) (r : CommandRestsOn club c) → is_key_of member (after (change_of club c r) club) key
-          ≡ (is_key_of member club key || is_among (key_given member (Commanded c) (ToOffice (done_answer c))) key)
+      given : (c : Command) (r : CommandRestsOn club c) → Gives key club (Commanded c) (command_outcome club c (Ok (Some (change_of club c r))))
       given (AddKey name owner root) r =
           grind (arith, is_key_of-added member club (record { name = name; member = owner; root = root; older = None; revoked = false }) key)
       given (RevokeKey name) r =
@@ -57,63 +56,30 @@ abbrev pub credit_of : Option Member → ℕ
 credit_of None = 0
 credit_of (Some member) = member.credited
 
-credit_grown : (name other : List ℕ) (points : ℕ) (members : List Member)
-    → (bytes_eq other name ≡ true → is_some (find (λ (m : Member). bytes_eq m.name name) members) ≡ true)
-    → credit_of (find (λ (m : Member). bytes_eq m.name name) (map (credited_member other points) members))
-    ≡ credit_of (find (λ (m : Member). bytes_eq m.name name) members) + cond (bytes_eq other name) points 0
-credit_grown name other points [] known = grind arith
-credit_grown name other points (m ∷ members) known =
-    let here = bytes_eq-Decides m.name name in
-    let theirs = bytes_eq-Decides m.name other in
-    let both = bytes_eq-Decides other name in
-    grind (arith, credit_grown name other points members)
-
-credit_taken : (name other : List ℕ) (points : ℕ) (members : List Member)
-    → (bytes_eq other name ≡ true → points ≤ credit_of (find (λ (m : Member). bytes_eq m.name name) members))
-    → credit_of (find (λ (m : Member). bytes_eq m.name name) (map (debited_member other points) members)) + cond (bytes_eq other name) points 0
-    ≡ credit_of (find (λ (m : Member). bytes_eq m.name name) members)
-credit_taken name other points [] enough = grind arith
-credit_taken name other points (m ∷ members) enough =
-    let here = bytes_eq-Decides m.name name in
-    let theirs = bytes_eq-Decides m.name other in
-    let both = bytes_eq-Decides other name in
-    grind (arith, credit_taken name other points members)
-
-credit_kept : (name other : List ℕ) (quota : ℕ) (members : List Member)
-    → credit_of (find (λ (m : Member). bytes_eq m.name name) (map (member_with_quota other quota) members))
-    ≡ credit_of (find (λ (m : Member). bytes_eq m.name name) members)
-credit_kept name other quota [] = grind arith
-credit_kept name other quota (m ∷ members) = grind (arith, credit_kept name other quota members)
-
 module _ (name : List ℕ) where
-  credit_of_step : (club : Club) (event : Event) → credit_of (member_named name (step club event).club) + debit_accepted name event (step club event).reply
-      ≡ credit_of (member_named name club) + credit_accepted name event (step club event).reply
+  -- The event changes the member's credit by the credit and the debit that the reply accepts.
+  abbrev Credits : Club → Event → Outcome → Type 0
+  Credits club event next = credit_of (member_named name next.club) + debit_accepted name event next.reply
+      ≡ credit_of (member_named name club) + credit_accepted name event next.reply
+
+  credit_of_step : (club : Club) (event : Event) → Credits club event (step club event)
   credit_of_step club (Asked words moment) = let kept = (answer_keeps club words moment).members in grind arith
   credit_of_step club (Commanded command) =
-      command_cases (λ (v : Result (Option Change) OfficeFault). credit_of (member_named name (command_outcome club command v).club)
-      + debit_accepted name (Commanded command) (command_outcome club command v).reply
-      ≡ credit_of (member_named name club) + credit_accepted name (Commanded command) (command_outcome club command v).reply) club (λ fault. grind arith)
-      command (unchanged command) (credited command)
+      outcome_cases (Credits club (Commanded command)) club command (λ fault. grind arith) (unchanged command) (credited command)
     where
-      unchanged : (c : Command) → FindsNothing club c → credit_of (member_named name club) + debit_accepted name (Commanded c) (ToOffice (done_answer c))
-          ≡ credit_of (member_named name club) + credit_accepted name (Commanded c) (ToOffice (done_answer c))
+      unchanged : (c : Command) → FindsNothing club c → Credits club (Commanded c) (command_outcome club c (Ok None))
       unchanged (CancelBooking key number) s = omega arith
       unchanged c s = absurd s
 
-      credited : (c : Command) (r : CommandRestsOn club c) → credit_of (member_named name (after (change_of club c r) club))
-          + debit_accepted name (Commanded c) (ToOffice (done_answer c))
-          ≡ credit_of (member_named name club) + credit_accepted name (Commanded c) (ToOffice (done_answer c))
+      credited : (c : Command) (r : CommandRestsOn club c) → Credits club (Commanded c) (command_outcome club c (Ok (Some (change_of club c r))))
       credited (AddMember other quota) r =
           let new : Member = record { name = other; credited = 0; quota = quota } in
           grind (arith, find-append (λ (m : Member). bytes_eq m.name name) club.members (new ∷ []))
       credited (Credit other points) r =
-          let grown = credit_grown name other points club.members (λ e. let known = r.1 in grind (arith, bytes_eq-Decides other name)) in
-          omega arith
+          grind (arith, find-map (is_named name) (credited_member other points) (λ m. refl) club.members, found_passes, bytes_eq-Decides)
       credited (Debit other points) r =
-          let taken = credit_taken name other points club.members (λ e.
-          let known = r.1 in let enough = r.2 in grind (arith, bytes_eq-Decides other name)) in
-          omega arith
-      credited (SetQuota other quota) r = grind (arith, credit_kept name other quota club.members)
+          grind (arith, find-map (is_named name) (debited_member other points) (λ m. refl) club.members, found_passes, bytes_eq-Decides)
+      credited (SetQuota other quota) r = grind (arith, find-map (is_named name) (member_with_quota other quota) (λ m. refl) club.members)
       credited c r = grind arith
 
   pub credit_of_run : (club : Club) (events : List Event) → credit_of (member_named name (club_after club events))

@@ -1,18 +1,18 @@
 -- Lemmas about the effect of each kind of change on a member's part of the club.
-use Rattle.club_laws.proofs.{AnswerCases.{answer_cases, written, CommandRestsOn, change_of, command_cases}, Common.{CancelBooking, ReplaceNumbers}}
-use Rattle.club_laws.proofs.Common.{debited_member, TakeCredit, ◌≡◌, ◌≢◌, ℕ, Bool, true, List, [], ◌∷◌, ◌++◌, get_or, map, Option, Some, sym, ◌∙◌, arith, false}
-use Rattle.club_laws.proofs.Common.{cond, filter, None, All, Contains, append-nil, refl, find, AllPairs, Result, bytes_eq-Decides, ◌&&◌, ◌||◌, bytes_eq}
-use Rattle.club_laws.proofs.Common.{list_any, list_any-append, Any-from_list_any, Key, Booking, Club, key_named, is_key_of, bookings_of, keys_of, IsSound}
-use Rattle.club_laws.proofs.Common.{Contains-push, All-contains, filter-append, All-push, All-map, Member, Change, InsertMember, AddCredit, InsertFacility}
-use Rattle.club_laws.proofs.Common.{InsertKey, MarkRevoked, ReplaceRoot, MarkClosed, MarkOpen, ReplaceQuota, InsertBooking, MarkCancelled, after}
-use Rattle.club_laws.proofs.Common.{credited_member, revoked_key, rotated_key, cancelled_booking, map-map, Verdict, Command, AddKey, RevokeKey, RotateKey}
-use Rattle.club_laws.proofs.Common.{OfficeFault, Event, Asked, Commanded, step, after_change, command_outcome, member_with_quota}
-use Rattle.club_laws.proofs.{FilteredRows.{filter_same, filter_fixed, fixed_where_none, filter-map}, FoundRows.{AllPairs-head, AllPairs-tail, any-filter}}
-use Rattle.club_laws.proofs.FoundRows.{any-map, fresh_differs, only_named, none_named, other_bytes, AllPairs-map, still_there, named_there}
-use Rattle.std.proofs.{Common.bytes_eq, lemmas.List.Quantifiers.all_pairs_push}
+use Rattle.club_laws.proofs.{AnswerCases.{outcome_cases, answer_cases, CommandRestsOn, change_of}, FoundRows.{none_passes, AllPairs-head, AllPairs-tail}}
+use Rattle.club_laws.proofs.FoundRows.{any-filter, any-map, fresh_differs, only_named, none_named, other_bytes, AllPairs-map, still_there, named_there}
+use Rattle.club_laws.proofs.Common.{CancelBooking, ReplaceNumbers, debited_member, TakeCredit, ◌≡◌, ◌≢◌, ℕ, Bool, true, List, [], ◌∷◌, ◌++◌, get_or, map}
+use Rattle.club_laws.proofs.Common.{Option, Some, sym, ◌∙◌, arith, false, cond, filter, None, All, Contains, append-nil, refl, find, AllPairs, bytes_eq-Decides}
+use Rattle.club_laws.proofs.Common.{◌&&◌, ◌||◌, bytes_eq, list_any, list_any-append, Any-from_list_any, Key, Booking, Club, key_named, is_key_of, bookings_of}
+use Rattle.club_laws.proofs.Common.{keys_of, IsSound, Contains-push, All-contains, filter-append, All-push, All-map, Member, Change, InsertMember, AddCredit}
+use Rattle.club_laws.proofs.Common.{InsertFacility, InsertKey, MarkRevoked, ReplaceRoot, MarkClosed, MarkOpen, ReplaceQuota, InsertBooking, MarkCancelled}
+use Rattle.club_laws.proofs.Common.{after, credited_member, revoked_key, rotated_key, cancelled_booking, map-map, Verdict, Command, AddKey, RevokeKey}
+use Rattle.club_laws.proofs.{Common.{RotateKey, Event, Asked, Commanded, step, after_change, member_with_quota}, FilteredRows.{filter_same, filter_fixed}}
+use Rattle.club_laws.proofs.FilteredRows.{filter-map}
+use Rattle.club_laws.specs.Frame.{ChangesThePartAlike, part_after}
+use Rattle.std.proofs.{lemmas.List.{Folds.map_fixed, Quantifiers.all_pairs_push}, Common.bytes_eq}
 use Rattle.club_rows.specs.declared.key.OlderRoot.{OlderRoot}
 use Rattle.club_core.specs.Solo.{part_of}
-use Rattle.club_laws.specs.Frame.{ChangesThePartAlike, part_after}
 
 -- Whether a key has this name and belongs to this member.
 abbrev pub is_own : List ℕ → List ℕ → Key → Bool
@@ -90,7 +90,8 @@ key_edited : (root : Key → List ℕ) (older : Key → Option OlderRoot) (is_re
 key_edited root older is_revoked name club other same =
     let edit = edited root older is_revoked in
     let bookings = bookings_of-edited root older is_revoked name club in
-    let fixed = fixed_where_none (has_name other) edit same (keys_of name club) in
+    let fixed = λ (none : is_key_of name club other ≡ false). map_fixed edit (keys_of name club) (λ k d short.
+    same _ (none_passes (has_name other) (keys_of name club) none k d short)) in
     grind (arith, filter-map edit (is_owned name) club.keys)
 
 -- A member's row after an edit of its credit and its quota.
@@ -157,27 +158,21 @@ keyed_from_sound club sound = record { unique = sound.unique.keys; known = sound
 keyed_edited : (root : Key → List ℕ) (older : Key → Option OlderRoot) (is_revoked : Key → Bool) (club : Club) → IsKeyed club
     → IsKeyed (record club { keys = map (edited root older is_revoked) club.keys })
 keyed_edited root older is_revoked club keyed = record {
-  unique = AllPairs-map (edited root older is_revoked) (λ (a : Key) (b : Key). a.name ≢ b.name) (λ (a : Key) (b : Key). a.name ≢ b.name) (λ a b h.
-      h) club.keys keyed.unique;
-  known = λ k d short. rw (map-map (λ (x : Key). x.name) (edited root older is_revoked) club.keys) (keyed.known k d short);
+  unique = AllPairs-map (edited root older is_revoked) (λ (a : Key) (b : Key). a.name ≢ b.name) club.keys keyed.unique;
+  known = rw (map-map (λ (key : Key). key.name) (edited root older is_revoked) club.keys) keyed.known;
 }
 
 pub keyed_step : (club : Club) (event : Event) → IsKeyed club → IsKeyed (step club event).club
 keyed_step club (Asked words moment) keyed =
-    let Known : Booking → Type 0 = λ b. Contains (map (λ (k : Key). k.name) club.keys) b.key in
     answer_cases (λ (v : Verdict). IsKeyed (after_change v.change club)) club words moment (record {
       silent = λ reply h. keyed;
       repeats_booking = λ key member slot number guests booking k e found same. keyed;
-      books = λ key member slot number guests facility k e b.
-          let there = named_there (λ (x : Key). x.name) key.name club.keys key k.known in
-          record { unique = keyed.unique; known = All-push Known club.bookings (written club key slot number guests facility) keyed.known there };
+      books = λ key member slot number guests facility k e b. search (All-push, named_there);
       cancels_recorded = λ key member slot number booking k e found same before. keyed;
-      cancels = λ key member slot number booking k e c.
-          record { unique = keyed.unique; known = All-map Known (cancelled_booking booking.key booking.number _) club.bookings keyed.known };
+      cancels = λ key member slot number booking k e c. search All-map;
     })
 keyed_step club (Commanded command) keyed =
-    command_cases (λ (v : Result (Option Change) OfficeFault). IsKeyed (command_outcome club command v).club) club (λ fault. keyed) command (λ s. keyed)
-    (given command)
+    outcome_cases (λ o. IsKeyed o.club) club command (λ fault. keyed) (λ s. keyed) (given command)
   where
     given : (c : Command) (r : CommandRestsOn club c) → IsKeyed (after (change_of club c r) club)
     given (AddKey name member root) r =
@@ -190,8 +185,7 @@ keyed_step club (Commanded command) keyed =
     given (RotateKey name root until) r =
         keyed_edited (λ key. (rotated_key name root until key).root) (λ key. (rotated_key name root until key).older) (λ key. key.revoked) club keyed
     given (CancelBooking name number) r =
-        let Known : Booking → Type 0 = λ b. Contains (map (λ (k : Key). k.name) club.keys) b.key in
-        record { unique = keyed.unique; known = All-map Known (cancelled_booking r.2.key r.2.number r.2.charge) club.bookings keyed.known }
+        search All-map
     given c r = assumption
 
 pub pushed_fresh : (keys : List Key) (new : Key) → AllPairs (λ (a : Key) (b : Key). a.name ≢ b.name) (keys ++ new ∷ []) → find (has_name new.name) keys ≡ None

@@ -1,8 +1,7 @@
 -- Lemmas about the highest number of persons in any slot of a facility.
-use Rattle.club_laws.proofs.Common.{◌≡◌, ℕ, ◌≤◌, Bool, false, List, [], ◌∷◌, All, All-nil, All-cons, All-contains, filter, find, sum_by, ap, arith, Option}
-use Rattle.club_laws.proofs.{Common.{Some, None, refl, ◌∙◌, Slot, Booking, same_slot, persons_of, is_in, taken_in, subst}, FilteredRows.filter_none}
-use Rattle.club_laws.proofs.FoundRows.{found_passes, none_found, found_is_there, find_filtered, slots_same, same_bytes_of, All-each}
-use Rattle.std.proofs.Math.Nat.{le-max_left, le-max_right}
+use Rattle.club_laws.proofs.Common.{All-weaker, ◌≡◌, ℕ, ◌≤◌, Bool, false, List, [], ◌∷◌, All, All-nil, All-cons, All-contains, filter, find, sum_by, ap, arith}
+use Rattle.club_laws.proofs.{Common.{Option, Some, None, refl, ◌∙◌, Slot, Booking, same_slot, persons_of, is_in, taken_in, subst}, FilteredRows.filter_none}
+use Rattle.club_laws.proofs.FoundRows.{found_passes, none_found, found_is_there, find_filtered, slots_same, same_bytes_of}
 use Rattle.std.specs.{List.fold, Prelude.max}
 use Rattle.club_core.specs.Sums.{is_at, most_taken_in}
 
@@ -12,18 +11,13 @@ most_of f first xs = fold (λ most x. max most (f x)) first xs
 
 first_of_most : {X : Type 0} (f : X → ℕ) (first : ℕ) (xs : List X) → first ≤ most_of f first xs
 first_of_most f first [] = omega arith
-first_of_most f first (x ∷ xs) =
-    let rest = first_of_most f (max first (f x)) xs in
-    let here = le-max_left first (f x) in
-    omega arith
+first_of_most f first (x ∷ xs) = omega (arith, first_of_most f (max first (f x)) xs)
 
 each_of_most : {X : Type 0} (f : X → ℕ) (first : ℕ) (xs : List X) → All (λ x. f x ≤ most_of f first xs) xs
 each_of_most f first [] = All-nil (λ x. f x ≤ first)
 each_of_most f first (x ∷ xs) =
     let more = max first (f x) in
-    let rest = first_of_most f more xs in
-    let here = le-max_right first (f x) in
-    All-cons (λ y. f y ≤ most_of f more xs) x xs (omega arith) (each_of_most f more xs)
+    All-cons (λ y. f y ≤ most_of f more xs) x xs (omega (arith, first_of_most f more xs)) (each_of_most f more xs)
 
 pub at_most : (name : List ℕ) (bookings : List Booking) (slot : Slot) → slot.facility ≡ name → taken_in slot bookings ≤ most_taken_in name bookings
 at_most name bookings slot of = go (find at bookings) refl
@@ -33,8 +27,8 @@ at_most name bookings slot of = go (find at bookings) refl
 
     go : (found : Option Booking) → find at bookings ≡ found → taken_in slot bookings ≤ most_taken_in name bookings
     go None e =
-        let nobody = filter_none (is_in slot) bookings (All-each (λ (b : Booking). at b ≡ false) (λ (b : Booking). is_in slot b ≡ false) bookings
-        (λ b other. grind arith) (none_found at bookings e)) in
+        let nobody = filter_none (is_in slot) bookings (All-weaker (λ (b : Booking). at b ≡ false) (λ (b : Booking). is_in slot b ≡ false)
+        (λ b other. grind arith) bookings (none_found at bookings e)) in
         let none : taken_in slot bookings ≡ 0 = ap (λ (kept : List Booking). sum_by persons_of kept) nobody in
         omega arith
     go (Some booking) e =

@@ -1,16 +1,15 @@
 -- Lemmas about the passes of served requests, and about revoked keys.
-use Rattle.club_laws.proofs.{AnswerCases.{known_rows, command_cases}, Common.{◌≡◌, ℕ, ◌+◌, true, false, List, [], ◌∷◌, ◌++◌, Option, Some, None, Result, Ok}}
+use Rattle.club_laws.proofs.{AnswerCases.{outcome_cases, known_rows}, Common.{◌≡◌, ℕ, ◌+◌, true, false, List, [], ◌∷◌, ◌++◌, Option, Some, None, Result, Ok}}
 use Rattle.club_laws.proofs.Common.{Err, arith, All, refl, sym, ap, ◌∙◌, subst, option_map, false_from_ne_true, All-nil, All-cons, All-head, All-tail}
 use Rattle.club_laws.proofs.Common.{TestsTheSet, TestsTheSignature, Key, Request, Pass, Words, is_signed_under, Club, key_named, Basis, basis_of, key_of}
-use Rattle.club_laws.proofs.Common.{view_of, answer_to, ask_of, form_refusal, IsServed, IsAllowedBy, IsAcceptedPass, IsEntitled, OfficeFault, Change, InsertKey}
-use Rattle.club_laws.proofs.Common.{MarkRevoked, ReplaceRoot, RevokeKey, after, revoked_key, rotated_key, Event, Commanded, step, command_outcome, club_after}
-use Rattle.club_laws.proofs.{Common.{ToOffice, find-append}, FoundRows.{find-map, found_passes}, KeptByRuns.{kept_by_run, club_after-append}}
-use Rattle.club_laws.proofs.MemberParts.{has_name}
+use Rattle.club_laws.proofs.Common.{view_of, answer_to, ask_of, form_refusal, IsServed, IsAllowedBy, IsAcceptedPass, IsEntitled, Change, InsertKey, MarkRevoked}
+use Rattle.club_laws.proofs.Common.{ReplaceRoot, RevokeKey, after, revoked_key, rotated_key, Event, Commanded, step, club_after, ToOffice, find-append}
+use Rattle.club_laws.proofs.{FoundRows.{find-map, found_passes}, KeptByRuns.{kept_by_run, club_after-append}, MemberParts.has_name}
+use Rattle.club_laws.specs.{Revoked.{ServesNoRevokedKey, WasRevoked}, SingleRequest.{RefusesTheUnsigned, MoreCaveatsNeverOpenMore, blind_refusal, words_with}}
 use Rattle.std.proofs.lemmas.Option.{same_Some}
 use Rattle.pass_caveats.specs.{Fault.{first_fault_from, first_fault_of}, declared.{ask.Ask.Ask, caveat.Caveat.Caveat}}
 use Rattle.club_core.specs.{Verdict.{refusal_verdict, verdict_of}, declared.{command.OfficeAnswer.TheVariants.Done, pass_fault.PassFault.PassFault}}
 use Rattle.club_core.specs.declared.refusal.Refusal.TheVariants.{NotVerified, KeyRevoked, CaveatNotUnderstood, CaveatDenies}
-use Rattle.club_laws.specs.{Revoked.{ServesNoRevokedKey, WasRevoked}, SingleRequest.{RefusesTheUnsigned, MoreCaveatsNeverOpenMore, blind_refusal, words_with}}
 
 -- The pass meets the conditions that the rules check before they decide the request.
 pub record PassesTests (pass : Pass) (request : Request) (moment : ℕ) (basis : Basis) : Type 0 where
@@ -21,7 +20,6 @@ pub record PassesTests (pass : Pass) (request : Request) (moment : ℕ) (basis :
 served_under : (pass : Pass) (request : Request) (moment : ℕ) (basis : Basis) → IsServed (answer_to (Ok pass) request moment (Some basis)).reply
     → PassesTests pass request moment basis
 served_under pass request moment basis h =
-    let verified = h NotVerified in
     let current = h KeyRevoked in
     let understood = λ (n : ℕ). h (CaveatNotUnderstood n) in
     let permitted = λ (n : ℕ). h (CaveatDenies n) in
@@ -123,9 +121,7 @@ stays_revoked name club change h = h
 now_revoked : (club : Club) (name : List ℕ) → (step club (Commanded (RevokeKey name))).reply ≡ ToOffice Done
     → IsRevoked name (step club (Commanded (RevokeKey name))).club
 now_revoked club name =
-    command_cases (λ (v : Result (Option Change) OfficeFault). (command_outcome club (RevokeKey name) v).reply ≡ ToOffice Done
-    → IsRevoked name (command_outcome club (RevokeKey name) v).club) club (λ fault returned. absurd (cc)) (RevokeKey name)
-    (λ s. absurd s)
+    outcome_cases (λ o. o.reply ≡ ToOffice Done → IsRevoked name o.club) club (RevokeKey name) (λ fault returned. absurd (cc)) (λ s. absurd s)
     (λ r returned.
     let known = r.1 in grind (arith, find-map (has_name name) (revoked_key name) (λ k. refl) club.keys, found_passes (has_name name) club.keys r.0))
 

@@ -6,14 +6,14 @@ use Rattle.club_laws.proofs.Common.{Facility, Booking, persons_of, refund_at, is
 use Rattle.club_laws.proofs.Common.{bookings_of, Basis, SlotState, basis_of, state_of, key_of, bytes_eq-Decides, Change, InsertBooking, MarkCancelled, Verdict}
 use Rattle.club_laws.proofs.Common.{Command, OfficeFault, after, answer_by_basis, verdict_in, office_verdict, Event, Asked, Commanded, step, after_change}
 use Rattle.club_laws.proofs.{Common.{command_outcome, EventReply, ToMember, replies_of, club_after, map-map}, FailedEvents.run_of_answered}
-use Rattle.club_laws.proofs.FilteredRows.{filter_twice, sum_in_parts}
-use Rattle.club_laws.proofs.FoundRows.{found_passes, find_filtered, bytes_same, same_bytes_of, numbered, is_numbered}
-use Rattle.club_laws.proofs.MemberParts.{is_named, is_owned, has_name, is_under_one, IsFresh, part_changed, owner, IsKeyed, keyed_step, keyed_from_sound}
+use Rattle.club_laws.proofs.{FilteredRows.{filter_twice, sum_in_parts}, FoundRows.{found_passes, find_filtered, bytes_same, same_bytes_of, numbered}}
+use Rattle.club_laws.proofs.{FoundRows.is_numbered, MemberParts.{is_named, is_owned, has_name, is_under_one, IsFresh, part_changed, owner, IsKeyed, keyed_step}}
+use Rattle.club_laws.proofs.MemberParts.{keyed_from_sound}
+use Rattle.club_laws.specs.{Failed.{present_reply, answered_events}, Frame.LeavesThePart, RunsWithFailures.SoloLawWithFailures, SoloLaw.SoloLaw}
+use Rattle.club_laws.specs.SoloLaw.{EndsWithThePart, is_ask, replies_to, solo_part}
 use Rattle.std.proofs.Common.{bytes_eq}
 use Rattle.club_core.specs.Solo.{outside, part_of, with_others, OwnEvent, OwnAsk, OwnChange, own_ask, own_change, own_part, solo_verdict, own_events}
 use Rattle.club_core.specs.{Solo.solo_replies, declared.slot_use.SlotUse.SlotUse}
-use Rattle.club_laws.specs.{Failed.{present_reply, answered_events}, Frame.LeavesThePart, RunsWithFailures.SoloLawWithFailures}
-use Rattle.club_laws.specs.SoloLaw.{SoloLaw, EndsWithThePart, is_ask, replies_to, solo_part}
 
 abbrev state_with : Option Facility → ℕ → Bool → SlotState
 state_with facility taken closed = record { facility = facility; held = record { taken = taken; closed = closed } }

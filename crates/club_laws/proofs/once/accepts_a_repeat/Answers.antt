@@ -1,9 +1,9 @@
-use Rattle.club_laws.proofs.AnswerCases.{basis_with}
-use Rattle.club_laws.proofs.Common.{[], ◌∷◌, Some, None, Ok, refl, inl, true, false, codes, All-nil, All-cons, IsAllowedBy, ask_of, Basis, view_of, club_after}
-use Rattle.pass_caveats.specs.declared.{ask.Ask.Ask, caveat.Caveat.TheVariants.Spend}
-use Rattle.club_core.specs.declared.request.Request.TheVariants as asked
-use Rattle.club_core.specs.Examples.{opened_club, slot_at, noon, late, root, ask}
+use Rattle.club_laws.proofs.{AnswerCases.basis_with, Common.{[], ◌∷◌, Some, None, Ok, refl, inl, true, false, codes, All-nil, All-cons, IsAllowedBy, ask_of}}
+use Rattle.club_laws.proofs.Common.{Basis, view_of, club_after}
 use Rattle.club_laws.specs.ExampleRuns.{booked_then_cancelled, words_again}
+use Rattle.pass_caveats.specs.declared.caveat.Caveat.TheVariants.{Spend}
+use Rattle.club_core.specs.Examples.{opened_club, slot_at, noon, late, root, ask}
+use Rattle.club_core.specs.declared.request.Request.TheVariants as asked
 use Rattle.club_laws.proofs.once.accepts_a_repeat.Goals as goal
 
 -- The basis of the repeated request.
@@ -12,9 +12,6 @@ named =
     basis_with (club_after opened_club booked_then_cancelled) words_again.request
     (record { name = codes "amy-1"; member = codes "amy"; root = root; older = None; revoked = false })
     (record { name = codes "amy"; credited = 10_000; quota = 5 })
-
-abbrev asked_again : Ask
-asked_again = ask_of (view_of named words_again.request late) words_again.request late
 
 pub returns : goal.returns
 returns c = record {
@@ -40,8 +37,7 @@ returns c = record {
     acceptance = record {
       signed = record { root = root; good = inl refl; signed = refl };
       not_revoked = refl;
-      permission = All-cons (IsAllowedBy asked_again) (Some (Spend 0)) [] (inl refl)
-          (All-nil (IsAllowedBy asked_again));
+      permission = All-cons (IsAllowedBy (ask_of (view_of named words_again.request late) words_again.request late)) (Some (Spend 0)) [] (inl refl) (All-nil _);
     };
   };
 }
