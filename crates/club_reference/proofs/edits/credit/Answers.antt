@@ -1,7 +1,7 @@
 use Rattle.std.proofs.Common.{◌≤◌, arith}
 use Rattle.club_rows.specs.declared.member.Member.{Member}
-use Rattle.club_core.specs.After as after
 use Rattle.club_reference.proofs.EditLemmas.{holds_next}
+use Rattle.club_core.specs.After as after
 use Rattle.club_reference.proofs.edits.credit.Goals as goal
 
 pub credit_row-requires : goal.credit_row-requires

@@ -1,6 +1,6 @@
 use Rattle.std.proofs.Common.{◌≡◌}
-use Rattle.club_core.specs.After as after
 use Rattle.club_reference.proofs.EditLemmas.{edited}
+use Rattle.club_core.specs.After as after
 use Rattle.club_reference.proofs.edits.credit.Given as goal
 
 abbrev pub invariant-loop-member : goal.invariant-loop-member

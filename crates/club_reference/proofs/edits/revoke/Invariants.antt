@@ -1,6 +1,6 @@
 use Rattle.std.proofs.Common.{◌≡◌}
-use Rattle.club_core.specs.After as after
 use Rattle.club_reference.proofs.EditLemmas.{edited}
+use Rattle.club_core.specs.After as after
 use Rattle.club_reference.proofs.edits.revoke.Given as goal
 
 abbrev pub invariant-loop-key : goal.invariant-loop-key

@@ -1,14 +1,15 @@
 use Rattle.std.proofs.{Common.{◌∙◌, rules, sym, ap, subst, arith}, lemmas.{Grind.common_steps, Result.err_from_is_err_and}}
 use Rattle.club_core.specs.declared.verdict.Verdict.{Verdict}
 use Rattle.club_reference.specs.computed.Words.{words_model}
-use Rattle.club_reference.proofs.{WidthLemmas.{Keeps, keeps_answer}, WordLemmas.their_model}
+use Rattle.club_reference.proofs.{WidthLemmas.{AllowsIfAny, fits_after, allows_answer}, WordLemmas.their_model}
 use Rattle.club_reference.proofs.club.Club.ask.Goals as goal
 
 pub apply-requires : goal.apply-requires
 apply-requires c =
     let answer = c.answer-reply in
-    subst (Keeps c.args.self.now) (ap (λ (verdict : Verdict). verdict.change) (sym answer.ensures.value) ∙ c.in-Some.is)
-    (keeps_answer c.args.self.now (words_model c.args.words.now) c.args.moment answer.ensures.fits)
+    fits_after c.args.self.now _ answer.ensures.fits
+    (subst (AllowsIfAny c.args.self.now) (ap (λ (verdict : Verdict). verdict.change) (sym answer.ensures.value) ∙ c.in-Some.is)
+    (allows_answer c.args.self.now (words_model c.args.words.now) c.args.moment answer.ensures.fits))
 
 pub returns-in-None-clause-outcome : goal.returns-in-None-clause-outcome
 returns-in-None-clause-outcome c = (words_model c.args.words.now, their_model c.models_words.ensures c.args.words.now, search rules)

@@ -1,14 +1,15 @@
 use Rattle.std.proofs.{Common.{◌∙◌, rules, sym, ap, subst, arith}, lemmas.{Grind.common_steps, Result.err_from_is_err_and}}
 use Rattle.club_core.specs.declared.verdict.Verdict.{Verdict}
 use Rattle.club_reference.specs.computed.Words.{words_model}
-use Rattle.club_reference.proofs.{WidthLemmas.{Keeps, keeps_solo}, WordLemmas.their_model}
+use Rattle.club_reference.proofs.{WidthLemmas.{AllowsIfAny, fits_after, allows_solo}, WordLemmas.their_model}
 use Rattle.club_reference.proofs.club.Club.ask_alone.Goals as goal
 
 pub apply-requires : goal.apply-requires
 apply-requires c =
     let answer = c.answer_alone-reply in
-    subst (Keeps c.args.self.now) (ap (λ (verdict : Verdict). verdict.change) (sym answer.ensures.value) ∙ c.in-Some.is)
-    (keeps_solo c.args.self.now (words_model c.args.words.now) c.args.moment c.args.others answer.ensures.fits)
+    fits_after c.args.self.now _ answer.ensures.fits
+    (subst (AllowsIfAny c.args.self.now) (ap (λ (verdict : Verdict). verdict.change) (sym answer.ensures.value) ∙ c.in-Some.is)
+    (allows_solo c.args.self.now (words_model c.args.words.now) c.args.moment c.args.others answer.ensures.fits))
 
 pub returns-in-None-clause-reply : goal.returns-in-None-clause-reply
 returns-in-None-clause-reply c = (words_model c.args.words.now, their_model c.models_words.ensures c.args.words.now, search rules)

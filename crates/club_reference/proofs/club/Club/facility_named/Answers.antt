@@ -1,12 +1,12 @@
-use Rattle.std.proofs.{Common.{◌≡◌, ◌∙◌, ap, rules, tests}, lemmas.Iterator.{YieldsList-from_slice, Search.find_from_yields_List}}
-use Rattle.std.specs.{List.find, Option.option_copied, Str.bytes_eq}
+use Rattle.std.proofs.{Common.{◌∙◌, ap, rules, tests}, lemmas.Iterator.{YieldsList-from_slice, Search.find_from_yields_List}}
+use Rattle.std.specs.Str.{bytes_eq}
 use Rattle.club_rows.specs.declared.facility.Facility.{Facility}
 use Rattle.club_core.specs.Club.{Club as Rows, facility_named}
 use Rattle.club_reference.proofs.club.Club.facility_named.Goals as goal
 
 pub returns : goal.returns
 returns c =
-    let found : option_copied c.find.result ≡ find (λ (row : Facility). bytes_eq row.name c.args.name.now) c.self.inside.facilities.items =
-    find_from_yields_List (λ (row : Facility). bytes_eq row.name c.args.name.now) _ _ c.find.result c.find.ensures.ran
-    (YieldsList-from_slice c.self.inside.facilities.items cc) (λ x b q k. search (rules, tests)) in
-    c.copied.ensures ∙ (found ∙ ap (λ (club : Rows). facility_named c.args.name.now club) c.self.view_is)
+    c.copied.ensures
+    ∙ (find_from_yields_List (λ (row : Facility). bytes_eq row.name c.args.name.now) _ _ c.find.result c.find.ensures.ran
+    (YieldsList-from_slice c.self.inside.facilities.items cc) (λ x b q k. search (rules, tests))
+    ∙ ap (λ (club : Rows). facility_named c.args.name.now club) c.self.view_is)
