@@ -1,23 +1,19 @@
 -- Lemmas for the proof that the strings of a JSON value have at most as many bytes as the JSON
 -- text.
-use Rattle.std.proofs.Common.{◌≡◌, ℕ, zero, suc, ◌+◌, ◌≤◌, List, [], ◌∷◌, length, Option, Some, None, option_map, option_and_then, refl, subst, arith}
-use Rattle.std.specs.{Cmp.Lexicographic.slice_cmp, Ordering.{nat_cmp, match_ordering}, Prelude.{⊤}, declared.cmp.Ordering.Ordering}
-use Rattle.std.specs.declared.cmp.Ordering.TheVariants.{Less, Equal, Greater}
+use Rattle.pass_c.proofs.{StringBytes.{AtMost, over, under}, TokenBytes.{tokens_bytes, tokens_fit}}
+use Rattle.std.proofs.Common.{◌≡◌, ℕ, zero, suc, ◌+◌, ◌≤◌, List, [], ◌∷◌, length, Option, Some, None, option_and_then, refl, subst, arith}
 use Rattle.json.specs.Json.{Json, Parse, parse_map, after_end_array, read_key, items_step, members_step, if_last, items, members, value_with, value}
 use Rattle.json.specs.{Lex.tokens, Token.Token}
+use Rattle.serde_json.specs.{Data.{Data, string, array, object, Items, no_items, item, Members, no_members, member, put}, Read.{max_depth, of_items, of_json}}
+use Rattle.serde_json.specs.Read.{of_members, read}
 use Rattle.json.specs.Json as json
-use Rattle.serde_json.specs.Data.{Num, Data, null, boolean, number, string, array, object, Items, no_items, item, Members, no_members, member, put}
-use Rattle.serde_json.specs.Read.{max_depth, number_of, of_items, of_json, of_members, read}
-use Rattle.pass_c.proofs.TokenBytes.{tokens_bytes, tokens_fit}
 
 abbrev mutual
   json_bytes : Json → ℕ
-  json_bytes json.null = 0
-  json_bytes (json.boolean b) = 0
-  json_bytes (json.number s) = 0
   json_bytes (json.string s) = length s
   json_bytes (json.array js) = json_items_bytes js
   json_bytes (json.object ms) = json_members_bytes ms
+  json_bytes j = 0
 
   json_items_bytes : json.Items → ℕ
   json_items_bytes json.no_items = 0
@@ -27,64 +23,34 @@ abbrev mutual
   json_members_bytes json.no_members = 0
   json_members_bytes (json.member k j ms) = json_bytes j + json_members_bytes ms
 
-abbrev Within : {A : Type 0} → (A → ℕ) → ℕ → Option (A × List Token) → Type 0
-Within f n None = ⊤
-Within f n (Some p) = f p.0 + tokens_bytes p.1 ≤ n
+-- The bytes of a parsed value and of the tokens that follow the value.
+abbrev with_rest : {A : Type 0} → (A → ℕ) → A × List Token → ℕ
+with_rest f p = f p.0 + tokens_bytes p.1
 
 abbrev Uses : {A : Type 0} → (A → ℕ) → Parse A → Type 0
-Uses f p = (ts : List Token) → Within f (tokens_bytes ts) (p ts)
-
-weaken : {A : Type 0} (f : A → ℕ) (m n : ℕ) → m ≤ n → (o : Option (A × List Token)) → Within f m o → Within f n o
-weaken f m n le None x = tt
-weaken f m n le (Some p) x = omega arith
+Uses f p = (ts : List Token) → AtMost (with_rest f) (tokens_bytes ts) (p ts)
 
 mapped : {A B : Type 0} (f : A → ℕ) (g : B → ℕ) (h : A → B) (extra m n : ℕ) → extra + m ≤ n → ((a : A) → g (h a) ≡ extra + f a)
-    → (o : Option (A × List Token)) → Within f m o → Within g n (parse_map h o)
-mapped f g h extra m n le is None x = tt
-mapped f g h extra m n le is (Some p) x = omega (arith, is p.0)
+    → (o : Option (A × List Token)) → AtMost (with_rest f) m o → AtMost (with_rest g) n (parse_map h o)
+mapped f g h extra m n le is = under (with_rest f) (with_rest g) (λ p. (h p.0, p.1)) extra m n le (λ p. omega (arith, is p.0))
 
 and_more : {B : Type 0} (g : B → ℕ) (h : Json → B → B) → ((j : Json) (b : B) → g (h j b) ≡ json_bytes j + g b) → (more : Parse B) → Uses g more
-    → (n : ℕ) (o : Option (Json × List Token)) → Within json_bytes n o → Within g n (option_and_then (λ q. parse_map (h q.0) (more q.1)) o)
+    → (n : ℕ) (o : Option (Json × List Token)) → AtMost (with_rest json_bytes) n o
+    → AtMost (with_rest g) n (option_and_then (λ q. parse_map (h q.0) (more q.1)) o)
 and_more g h is more uses n None x = tt
 and_more g h is more uses n (Some q) x = mapped g g (h q.0) (json_bytes q.0) (tokens_bytes q.1) n x (is q.0) (more q.1) (uses q.1)
 
-abbrev Ends : ℕ → Option (List Token) → Type 0
-Ends n None = ⊤
-Ends n (Some rest) = tokens_bytes rest ≤ n
-
-array_ends : (ts : List Token) → Ends (tokens_bytes ts) (after_end_array ts)
+array_ends : (ts : List Token) → AtMost tokens_bytes (tokens_bytes ts) (after_end_array ts)
 array_ends [] = tt
-array_ends (Token.begin_object ∷ ts) = tt
-array_ends (Token.end_object ∷ ts) = tt
-array_ends (Token.begin_array ∷ ts) = tt
-array_ends (Token.end_array ∷ ts) = omega arith
-array_ends (Token.key s ∷ ts) = tt
-array_ends (Token.string s ∷ ts) = tt
-array_ends (Token.number s ∷ ts) = tt
-array_ends (Token.boolean b ∷ ts) = tt
-array_ends (Token.null ∷ ts) = tt
-array_ends (Token.bad ∷ ts) = tt
+array_ends (t ∷ ts) = grind arith
 
-abbrev Begins : ℕ → Option (Option (List ℕ) × List Token) → Type 0
-Begins n None = ⊤
-Begins n (Some q) = tokens_bytes q.1 ≤ n
-
-key_begins : (ts : List Token) → Begins (tokens_bytes ts) (read_key ts)
+key_begins : (ts : List Token) → AtMost (λ q. tokens_bytes q.1) (tokens_bytes ts) (read_key ts)
 key_begins [] = tt
-key_begins (Token.begin_object ∷ ts) = tt
-key_begins (Token.end_object ∷ ts) = omega arith
-key_begins (Token.begin_array ∷ ts) = tt
-key_begins (Token.end_array ∷ ts) = tt
-key_begins (Token.key s ∷ ts) = omega arith
-key_begins (Token.string s ∷ ts) = tt
-key_begins (Token.number s ∷ ts) = tt
-key_begins (Token.boolean b ∷ ts) = tt
-key_begins (Token.null ∷ ts) = tt
-key_begins (Token.bad ∷ ts) = tt
+key_begins (t ∷ ts) = grind arith
 
 module _ (p : Parse Json) (uses : Uses json_bytes p) where
-  item_turn : (more : Parse json.Items) → Uses json_items_bytes more → (ts : List Token) (o : Option (List Token)) → Ends (tokens_bytes ts) o
-      → Within json_items_bytes (tokens_bytes ts) (items_step p more ts o)
+  item_turn : (more : Parse json.Items) → Uses json_items_bytes more → (ts : List Token) (o : Option (List Token)) → AtMost tokens_bytes (tokens_bytes ts) o
+      → AtMost (with_rest json_items_bytes) (tokens_bytes ts) (items_step p more ts o)
   item_turn more again ts (Some r) e = omega arith
   item_turn more again ts None e = and_more json_items_bytes json.item (λ j b. refl) more again _ (p ts) (uses ts)
 
@@ -93,12 +59,12 @@ module _ (p : Parse Json) (uses : Uses json_bytes p) where
   items_use zero ts = tt
   items_use (suc n) ts = item_turn (items p n) (items_use n) ts (after_end_array ts) (array_ends ts)
 
-  member_turn : (more : Parse json.Members) → Uses json_members_bytes more → (n : ℕ) (o : Option (Option (List ℕ) × List Token)) → Begins n o
-      → Within json_members_bytes n (option_and_then (λ q. members_step p more q.0 q.1) o)
+  member_turn : (more : Parse json.Members) → Uses json_members_bytes more → (n : ℕ) (o : Option (Option (List ℕ) × List Token))
+      → AtMost (λ q. tokens_bytes q.1) n o → AtMost (with_rest json_members_bytes) n (option_and_then (λ q. members_step p more q.0 q.1) o)
   member_turn more again n None e = tt
   member_turn more again n (Some (None, s)) e = omega arith
   member_turn more again n (Some (Some k, s)) e =
-      and_more json_members_bytes (json.member k) (λ j b. refl) more again n (p s) (weaken json_bytes (tokens_bytes s) n e (p s) (uses s))
+      and_more json_members_bytes (json.member k) (λ j b. refl) more again n (p s) (over (with_rest json_bytes) (tokens_bytes s) n e (p s) (uses s))
 
   members_use : (n : ℕ) → Uses json_members_bytes (members p n)
   unfolding members
@@ -107,16 +73,7 @@ module _ (p : Parse Json) (uses : Uses json_bytes p) where
 
 one_level : (a : Parse json.Items) (o : Parse json.Members) → Uses json_items_bytes a → Uses json_members_bytes o → Uses json_bytes (value_with a o)
 one_level a o p q [] = tt
-one_level a o p q (Token.begin_object ∷ ts) = mapped json_members_bytes json_bytes json.object 0 _ _ (omega arith) (λ ms. omega arith) (o ts) (q ts)
-one_level a o p q (Token.end_object ∷ ts) = tt
-one_level a o p q (Token.begin_array ∷ ts) = mapped json_items_bytes json_bytes json.array 0 _ _ (omega arith) (λ js. omega arith) (a ts) (p ts)
-one_level a o p q (Token.end_array ∷ ts) = tt
-one_level a o p q (Token.key s ∷ ts) = tt
-one_level a o p q (Token.string s ∷ ts) = omega arith
-one_level a o p q (Token.number s ∷ ts) = omega arith
-one_level a o p q (Token.boolean b ∷ ts) = omega arith
-one_level a o p q (Token.null ∷ ts) = omega arith
-one_level a o p q (Token.bad ∷ ts) = tt
+one_level a o p q (t ∷ ts) = grind (arith, p ts, q ts)
 
 value_uses : (depth : ℕ) → Uses json_bytes (value depth)
 unfolding value
@@ -127,12 +84,10 @@ value_uses (suc d) =
 
 abbrev mutual
   pub data_bytes : Data → ℕ
-  data_bytes null = 0
-  data_bytes (boolean b) = 0
-  data_bytes (number n) = 0
   data_bytes (string s) = length s
   data_bytes (array ds) = items_bytes ds
   data_bytes (object ms) = members_bytes ms
+  data_bytes d = 0
 
   pub items_bytes : Items → ℕ
   items_bytes no_items = 0
@@ -142,33 +97,9 @@ abbrev mutual
   members_bytes no_members = 0
   members_bytes (member k d ms) = data_bytes d + members_bytes ms
 
-abbrev AtMost : {A : Type 0} → (A → ℕ) → ℕ → Option A → Type 0
-AtMost f n None = ⊤
-AtMost f n (Some a) = f a ≤ n
-
-over : {A : Type 0} (f : A → ℕ) (m n : ℕ) → m ≤ n → (o : Option A) → AtMost f m o → AtMost f n o
-over f m n le None x = tt
-over f m n le (Some a) x = omega arith
-
-under : {A B : Type 0} (f : A → ℕ) (g : B → ℕ) (h : A → B) (extra n m : ℕ) → extra + n ≤ m → ((a : A) → g (h a) ≡ extra + f a) → (o : Option A) → AtMost f n o
-    → AtMost g m (option_map h o)
-under f g h extra n m le is None x = tt
-under f g h extra n m le is (Some a) x = omega (arith, is a)
-
-one_item : (m n : ℕ) (o : Option Data) (rest : Option Items) → AtMost data_bytes m o → AtMost items_bytes n rest
-    → AtMost items_bytes (m + n) (option_and_then (λ d. option_map (item d) rest) o)
-one_item m n None rest x y = tt
-one_item m n (Some d) rest x y = under items_bytes items_bytes (item d) (data_bytes d) n (m + n) (omega arith) (λ ds. refl) rest y
-
-three : (o : Ordering) (a b c : Members) (n : ℕ) → members_bytes a ≤ n → members_bytes b ≤ n → members_bytes c ≤ n
-    → members_bytes (match_ordering o a b c) ≤ n
-three Less a b c n x y z = x
-three Equal a b c n x y z = y
-three Greater a b c n x y z = z
-
 put_bytes : (k : List ℕ) (d : Data) (ms : Members) → members_bytes (put k d ms) ≤ data_bytes d + members_bytes ms
 put_bytes k d no_members = omega arith
-put_bytes k d (member l e ms) = three (slice_cmp nat_cmp k l) _ _ _ _ (omega arith) (omega arith) (omega (arith, put_bytes k d ms))
+put_bytes k d (member l e ms) = grind (arith, put_bytes k d ms)
 
 one_member : (k : List ℕ) (ms : json.Members) (found : Members) (m n : ℕ) (o : Option Data) → AtMost data_bytes m o
     → ((all : Members) → AtMost members_bytes (n + members_bytes all) (of_members ms all))
@@ -177,33 +108,22 @@ one_member k ms found m n None x h = tt
 one_member k ms found m n (Some d) x h =
     over members_bytes (n + members_bytes (put k d found)) _ (omega (arith, put_bytes k d found)) (of_members ms (put k d found)) (h (put k d found))
 
-number_fits : (found : Option Num) → AtMost data_bytes 0 (option_map number found)
-number_fits None = tt
-number_fits (Some n) = omega arith
-
 mutual
   json_fits : (j : Json) → AtMost data_bytes (json_bytes j) (of_json j)
-  json_fits json.null = omega arith
-  json_fits (json.boolean b) = omega arith
-  json_fits (json.number s) = number_fits (number_of s)
-  json_fits (json.string s) = omega arith
-  json_fits (json.array js) = under items_bytes data_bytes array 0 _ _ (omega arith) (λ ds. omega arith) (of_items js) (items_fit js)
-  json_fits (json.object ms) =
-      under members_bytes data_bytes object 0 (json_members_bytes ms + members_bytes no_members) _ (omega arith) (λ all. omega arith)
-      (of_members ms no_members) (members_fit ms no_members)
+  json_fits (json.array js) = grind (arith, items_fit js)
+  json_fits (json.object ms) = grind (arith, members_fit ms no_members)
+  json_fits j = grind arith
 
   items_fit : (js : json.Items) → AtMost items_bytes (json_items_bytes js) (of_items js)
   items_fit json.no_items = omega arith
-  items_fit (json.item j js) = one_item _ _ (of_json j) (of_items js) (json_fits j) (items_fit js)
+  items_fit (json.item j js) = grind (arith, json_fits j, items_fit js)
 
   members_fit : (ms : json.Members) (found : Members) → AtMost members_bytes (json_members_bytes ms + members_bytes found) (of_members ms found)
   members_fit json.no_members found = omega arith
   members_fit (json.member k j ms) found = one_member k ms found (json_bytes j) (json_members_bytes ms) (of_json j) (json_fits j) (members_fit ms)
 
-last_fits : (n : ℕ) (o : Option (Json × List Token)) → Within json_bytes n o → AtMost json_bytes n (option_and_then (λ p. if_last p.0 p.1) o)
-last_fits n None x = tt
-last_fits n (Some (j, [])) x = omega arith
-last_fits n (Some (j, t ∷ ts)) x = tt
+last_fits : (n : ℕ) (o : Option (Json × List Token)) → AtMost (with_rest json_bytes) n o → AtMost json_bytes n (option_and_then (λ p. if_last p.0 p.1) o)
+last_fits n o x = grind arith
 
 all_fit : (n : ℕ) (o : Option Json) → AtMost json_bytes n o → AtMost data_bytes n (option_and_then of_json o)
 all_fit n None x = tt

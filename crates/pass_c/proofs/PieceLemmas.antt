@@ -1,7 +1,6 @@
 -- Lemmas about splitting bytes into pieces and overwriting a part of the bytes.
-use Rattle.std.proofs.Common.{◌≡◌, ℕ, ◌+◌, ◌≤◌, List, [], ◌∷◌, ◌++◌, length, take, drop, refl, ap, sym, suc, ◌∙◌, arith}
-use Rattle.std.proofs.lemmas.List.{take_at, drop_at, length-take-le, take-append-le, drop-append-le, take-take, drop-take, drop-drop, length-drop}
-use Rattle.std.proofs.lemmas.List.Sums.{sum_by-cons}
+use Rattle.std.proofs.{Common.{◌≡◌, ℕ, ◌+◌, ◌≤◌, List, [], ◌∷◌, ◌++◌, length, take, drop, refl, ap, sym, suc, ◌∙◌, arith}, lemmas.List.{take_at, drop_at}}
+use Rattle.std.proofs.lemmas.List.{length-take-le, take-append-le, drop-append-le, take-take, drop-take, drop-drop, length-drop, Sums.sum_by-cons}
 use Rattle.std.specs.List.{sum}
 use Rattle.pass_c.specs.Object.{pieces_of}
 

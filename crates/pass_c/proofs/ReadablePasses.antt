@@ -1,7 +1,7 @@
 -- Proof of the law that an object has room for every readable pass.
-use Rattle.std.proofs.Common.{◌≡◌, ℕ, ◌≤◌, ◌⊎◌, inl, inr, List, length, Ok, ap, arith}
+use Rattle.std.proofs.Common.{ℕ, ◌≤◌, inl, inr, List, length, ap, arith}
 use Rattle.pass_forms.specs.{Envelope.Wraps, Pass.{Plain, as_wide_pass}, declared.form.Form.{Form, TheVariants.{V1, V2, Json}}}
-use Rattle.pass_json.specs.AnyForm.{IsAnyReading, SpellsForm}
+use Rattle.pass_json.specs.AnyForm.{SpellsForm}
 use Rattle.pass_c.proofs.FormBytes.{base64_fits, json_fits, v1_fits, v2_fits}
 use Rattle.pass_c.specs.Laws.{ReadablePassesFit, fields_len}
 
