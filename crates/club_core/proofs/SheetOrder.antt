@@ -1,10 +1,10 @@
 -- Lemmas about the order of the rows in a day sheet.
-use Rattle.std.proofs.Common.{◌≡◌, ℕ, zero, suc, ◌<◌, List, [], ◌∷◌, length, get_or, refl, sym, ap, ◌∙◌, ◌⊎◌, inl, inr, arith}
-use Rattle.std.proofs.lemmas.List.{Elements.{All-cons, All-contains, All-tail, All-weaker}, Kept.{AllPairs-cons, AllPairs-filter}, Sorted.All-permutation}
-use Rattle.std.proofs.lemmas.List.Sorted.{IsPermutation-cons, IsPermutation-middle, IsPermutation-refl, IsPermutation-trans, Contains-permutation}
-use Rattle.std.proofs.lemmas.{List.Sorted.IsPermutation-sym, Map.Lookups.exact_bytes}
-use Rattle.std.specs.{Cmp.Lexicographic.{nat_list_cmp_total, slice_cmp}, Ordering.{nat_cmp, ordering_reverse}}
-use Rattle.std.specs.{Prelude.{All, AllPairs, Contains, IsPermutation, filter}, declared.cmp.Ordering.{Ordering, TheVariants.{Equal, Greater, Less}}}
+use Rattle.std.proofs.lemmas.List.{Elements.{Contains-append_right, All-cons, All-contains, All-tail, All-weaker}, Kept.{AllPairs-cons, AllPairs-filter}}
+use Rattle.std.proofs.lemmas.List.Sorted.{All-permutation, IsPermutation-cons, IsPermutation-middle, IsPermutation-refl, IsPermutation-trans}
+use Rattle.std.proofs.{lemmas.{List.Sorted.{Contains-permutation, IsPermutation-sym}, Map.Lookups.exact_bytes}, Common.{◌≡◌, ℕ, zero, suc, ◌<◌, List, [], ◌∷◌}}
+use Rattle.std.proofs.Common.{length, get_or, refl, sym, ap, ◌∙◌, ◌⊎◌, inl, inr, arith}
+use Rattle.std.specs.{Cmp.Lexicographic.{nat_list_cmp_total, slice_cmp}, Ordering.{nat_cmp, ordering_reverse}, Prelude.{All, AllPairs, Contains, IsPermutation}}
+use Rattle.std.specs.{Prelude.filter, declared.cmp.Ordering.{Ordering, TheVariants.{Equal, Greater, Less}}}
 use Rattle.club_rows.specs.declared.booking.Booking.{Booking}
 use Rattle.club_core.specs.{Club.{Club, IsSound}, Sheet.{AreRowsOf, IsBefore, Precedes, is_on}}
 
@@ -14,9 +14,6 @@ cases_at y xs x (suc k) lt e = inr (k, omega arith, e)
 
 Contains-cons_cases : {X : Type 0} (y : X) (xs : List X) (x : X) → Contains (y ∷ xs) x → (y ≡ x) ⊎ Contains xs x
 Contains-cons_cases y xs x h = cases_at y xs x h.0 h.1 h.2
-
-Contains-there : {X : Type 0} (y : X) (xs : List X) (x : X) → Contains xs x → Contains (y ∷ xs) x
-Contains-there y xs x h = (suc h.0, omega (arith, h.1), h.2)
 
 Contains-here : {X : Type 0} (x : X) (xs : List X) → Contains (x ∷ xs) x
 Contains-here x xs = (0, omega arith, refl)
@@ -37,16 +34,13 @@ module _ {X : Type 0} (R : X → X → Type 0) (asymmetric : Asymmetric R) where
       let in_xs = Contains-cons_cases x xs y y_there in
       let above = All-contains (R x) xs y (later R x xs p) in
       let below = All-contains (R y) ys x (later R y ys q) in
-      let once = asymmetric x y in
-      elim in_ys [ inl e ↦ sym e | inr x_later ↦ elim in_xs [ inl e ↦ e | inr y_later ↦ absurd (once (above y_later) (below x_later)) ] ]
+      grind (arith, in_ys, in_xs, asymmetric x y)
 
   tails : (x y : X) (xs ys : List X) → x ≡ y → AllPairs R (x ∷ xs) → ((z : X) → Contains (x ∷ xs) z → Contains (y ∷ ys) z) → (z : X) → Contains xs z →
       Contains ys z
   tails x y xs ys same p to z h =
-      elim (Contains-cons_cases y ys z (to z (Contains-there x xs z h))) [
-        | inl e ↦ let itself = rw (same ∙ e) at (All-contains (R x) xs z (later R x xs p) h) in absurd (asymmetric z z itself itself)
-        | inr there ↦ there
-      ]
+      let there = Contains-cons_cases y ys z (to z (Contains-append_right (x ∷ []) xs z h)) in
+      grind (arith, All-contains (R x) xs z (later R x xs p) h, asymmetric z z)
 
   -- Two lists are equal if they have the same elements and are both sorted by the asymmetric
   -- relation `R`.
@@ -66,9 +60,6 @@ pub record IsOrdering {X : Type 0} (R : X → X → Type 0) (xs zs : List X) : T
   pub sorted : AllPairs R zs
 
 module _ {X : Type 0} (R Same : X → X → Type 0) (transitive : (x y z : X) → R x y → R y z → R x z) (total : (x y : X) → R x y ⊎ (Same x y ⊎ R y x)) where
-  nothing_sorted : AllPairs R []
-  nothing_sorted i j d lt h = absurd (omega arith)
-
   in_front : (x y : X) (ys : List X) → R x y → AllPairs R (y ∷ ys) → IsOrdering R (x ∷ y ∷ ys) (x ∷ y ∷ ys)
   in_front x y ys below p = record {
     same = IsPermutation-refl (x ∷ y ∷ ys);
@@ -96,17 +87,13 @@ module _ {X : Type 0} (R Same : X → X → Type 0) (transitive : (x y z : X) �
 
   -- A list can be sorted by `R` if no two of its elements are related by `Same`.
   pub ordering : (xs : List X) → AllPairs (λ x y. ¬ (Same x y)) xs → (zs : List X) × IsOrdering R xs zs
-  ordering [] new = ([], record { same = IsPermutation-refl []; sorted = nothing_sorted })
+  ordering [] new = ([], record { same = IsPermutation-refl []; sorted = λ i j d lt h. absurd (omega arith) })
   ordering (x ∷ xs) new =
       let others = ordering xs (rest (λ a b. ¬ (Same a b)) x xs new) in
       let zs = others.0 in
-      let made = inserted x zs others.1.sorted (All-permutation (λ y. ¬ (Same x y)) xs zs others.1.same (later (λ a b. ¬ (Same a b)) x xs new)) in (
-        made.0,
-        record {
-          same = IsPermutation-trans (x ∷ xs) (x ∷ zs) made.0 (IsPermutation-cons x xs zs others.1.same) made.1.same;
-          sorted = made.1.sorted;
-        },
-      )
+      let made = inserted x zs others.1.sorted (All-permutation (λ y. ¬ (Same x y)) xs zs others.1.same (later (λ a b. ¬ (Same a b)) x xs new)) in
+      let same = IsPermutation-trans (x ∷ xs) (x ∷ zs) made.0 (IsPermutation-cons x xs zs others.1.same) made.1.same in
+      (made.0, record { same = same; sorted = made.1.sorted })
 
 before_once : Asymmetric IsBefore
 before_once a b h k =

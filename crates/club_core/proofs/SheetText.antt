@@ -1,24 +1,21 @@
 -- Lemmas about padded texts, such as the results of the format strings `{:<24}` and `{:>9}`.
 use Rattle.std.proofs.Common.{◌≡◌, ℕ, ◌+◌, ◌-◌, ◌<◌, ◌≤◌, ◌==◌, ◌^◌, true, false, List, [], ◌∷◌, ◌++◌, length, zero, suc, refl, ap, ◌∙◌, arith, append_assoc}
 use Rattle.std.proofs.lemmas.{Bool.Decides.nat_tests, List.{append-nil, Elements.All-tail}}
-use Rattle.std.specs.Fmt.{char_count, take_chars, padded, padded_integral, format_spec, styled_text, styled_decimal, decimal, is_char_start}
-use Rattle.std.specs.{List.{AllPass, repeat}, Prelude.{replicate, codes, sum_by}}
-use lib.Utf8.{encode}
+use Rattle.std.specs.{Fmt.{char_count, take_chars, padded, padded_integral, format_spec, styled_text, styled_decimal, decimal, is_char_start}, List.AllPass}
+use Rattle.std.specs.{List.repeat, Prelude.{replicate, codes, sum_by}}
 use Rattle.club_values.specs.{Digits.two_digits, Name.{is_name_byte, IsName}}
 use Rattle.club_rows.specs.{Booking.persons_of, declared.booking.Booking.Booking}
 use Rattle.club_core.specs.Sheet.{left_in, right_in, row_text, totals_text}
+use lib.Utf8.{encode}
 
 is_char_start-name : (b : ℕ) → is_name_byte b ≡ true → is_char_start b ≡ true
 is_char_start-name b h = grind arith
-
-name_tail : (b : ℕ) (text : List ℕ) → AllPass is_name_byte (b ∷ text) → AllPass is_name_byte text
-name_tail b text h = All-tail (λ x. is_name_byte x ≡ true) b text h
 
 char_count-name : (text : List ℕ) → AllPass is_name_byte text → char_count text ≡ length text
 unfolding char_count
 char_count-name [] h = refl
 char_count-name (b ∷ text) h =
-    let same = char_count-name text (name_tail b text h) in
+    let same = char_count-name text (All-tail (λ x. is_name_byte x ≡ true) b text h) in
     rw (is_char_start-name b (h 0 b (omega arith))) (omega arith)
 
 not_zero : (n : ℕ) → 0 < n → (n == 0) ≡ false
@@ -28,7 +25,7 @@ take_chars-name : (n : ℕ) (text : List ℕ) → AllPass is_name_byte text → 
 unfolding take_chars
 take_chars-name n [] h small = refl
 take_chars-name n (b ∷ text) h small =
-    let same = take_chars-name (n - 1) text (name_tail b text h) (omega arith) in
+    let same = take_chars-name (n - 1) text (All-tail (λ x. is_name_byte x ≡ true) b text h) (omega arith) in
     rw (is_char_start-name b (h 0 b (omega arith)), not_zero n (omega arith)) (ap (λ rest. b ∷ rest) same)
 
 fill-spaces : (n : ℕ) → repeat {A = ℕ} n (32 ∷ []) ≡ replicate n 32

@@ -1,5 +1,5 @@
-use Rattle.std.proofs.{Common.{◌≡◌, ◌+◌, ◌++◌, ap, refl, ◌∙◌, lit<}, lemmas.Result.IfOk-weaker}
-use Rattle.std.specs.{Fmt.{styled_decimal, styled_text}, String.string_bytes}
+use Rattle.std.proofs.{Common.{◌+◌, ◌++◌, ap, refl, ◌∙◌, lit<}, lemmas.Result.IfOk-weaker}
+use Rattle.std.specs.String.{string_bytes}
 use Rattle.club_core.proofs.SheetText.{laid_text, laid_text-row_text, left-of, right-of}
 use Rattle.club_core.proofs.sheet.push_row.Goals as goal
 
@@ -15,9 +15,5 @@ returns c =
     let persons = right-of 2 c.laid_out-4.result c.persons-persons.result (row.guests + 1) c.laid_out-4.ensures c.persons-persons.ensures.value (lit< tt) in
     let charge = right-of 6 c.laid_out-5.result row.charge row.charge c.laid_out-5.ensures refl (lit< tt) in
     IfOk-weaker c.writeln.result _ _
-    (λ _ h.
-    let e : string_bytes c.writeln.new.self ≡ string_bytes c.args.text.now ++ laid_text (styled_text c.laid_out.result c.as_str-facility.result.now)
-    row.slot.hour (styled_text c.laid_out-2.result c.as_str-key.result.now) (styled_decimal c.laid_out-3.result c.get-number.result)
-    (styled_decimal c.laid_out-4.result c.persons-persons.result) (styled_decimal c.laid_out-5.result row.charge) = h in
-    e ∙ ap (λ text. string_bytes c.args.text.now ++ text) (laid_text-row_text row _ _ _ _ _ facility key number persons charge))
+    (λ _ h. h ∙ ap (λ text. string_bytes c.args.text.now ++ text) (laid_text-row_text row _ _ _ _ _ facility key number persons charge))
     c.writeln.ensures.bytes

@@ -1,4 +1,4 @@
-use Rattle.std.proofs.{Common.{◌≡◌, ◌++◌, length, ap, sym, ◌∙◌}, lemmas.{Bool.eqb-false, Result.IfOk-weaker}}
+use Rattle.std.proofs.{Common.{◌++◌, ap, sym, ◌∙◌}, lemmas.{Bool.eqb-false, Result.IfOk-weaker}}
 use Rattle.std.specs.String.{string_bytes}
 use Rattle.club_core.proofs.SheetText.{laid_totals, laid_totals-totals_text}
 use Rattle.club_core.proofs.sheet.push_totals.Goals as goal
@@ -12,7 +12,5 @@ returns c =
     let totals =
     laid_totals-totals_text rows persons charge (eqb-false _ _ (sym c.if-is_empty.ensures)) c.count_persons-persons.ensures c.sum_charges-charge.ensures in
     IfOk-weaker c.writeln-2.result _ _
-    (λ _ h.
-    let e : string_bytes c.writeln-2.new.self ≡ string_bytes c.args.text.now ++ laid_totals (length rows) persons charge = h in
-    e ∙ ap (λ text. string_bytes c.args.text.now ++ text) totals)
+    (λ _ h. h ∙ ap (λ text. string_bytes c.args.text.now ++ text) totals)
     c.writeln-2.ensures.bytes
