@@ -2,7 +2,6 @@
 
 pub mod RowLemmas
 pub mod BookingRows
-pub mod PutRows
 pub mod KeyedRows
 pub mod OwnerLemmas
 pub mod SumLemmas

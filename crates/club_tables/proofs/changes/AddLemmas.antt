@@ -1,43 +1,26 @@
 -- Lemmas about statements that insert a row, and about statements that insert or update the row of
 -- a slot or an older root.
 use Rattle.club_tables.proofs.Common.{pos, List, [], map, ◌∷◌, ◌++◌, refl, sym, subst, ◌≡◌, ◌≢◌, ◌≤◌, ℕ, ◌/◌, ℤ, true, false, if◌then◌else◌, Some, Option}
-use Rattle.club_tables.proofs.Common.{length, ap, ◌∙◌, Bool, filter, slice_get, None, find, cond, AllPairs, option_map, AllByRecursion, bytes_eq}
-use Rattle.club_tables.proofs.Common.{bytes_eq-Decides, and-true, or-false, everything, Null, Int, Text, Table, Term, lit, col, op2, eval_all, Values, Insert}
-use Rattle.club_tables.proofs.Common.{understood, Value, Arith, Add, binary, Row, column, rowid, cast, cast_row, next_rowid, shown, value_rows, command_of}
-use Rattle.club_tables.proofs.Common.{first_key, conflicts, Database, works, Enforced, All-contains_itself, recursion_from_All, arith, truth, Member, Facility}
-use Rattle.club_tables.proofs.Common.{Key, Booking, Slot, same_slot, SlotUse, OlderRoot, MemberRow, ADD_MEMBER, ADD_FACILITY, ADD_KEY, ADD_BOOKING, CLOSE_SLOT}
-use Rattle.club_tables.proofs.Common.{OPEN_SLOT, ADD_TAKEN, PUT_OLDER_ROOT, members_table, facilities_table, keys_table, bookings_table, club_schema}
-use Rattle.club_tables.proofs.Common.{slots_table, old_roots_table, whole, member_values, facility_values, key_values, booking_values, flag, name_values}
-use Rattle.club_tables.proofs.Common.{use_values, slot_values, older_root_values, older_values, Rows, SlotRow, no_slot_use, OlderRow, older_by, stored_slot_use}
-use Rattle.club_tables.proofs.Common.{row_of, Holds, members_tree, facilities_tree, keys_tree, bookings_tree, HoldsRows, slots_tree, olders_tree, list_all}
-use Rattle.club_tables.proofs.{Common.{holds, is_true, Compare, Eq, Binary, ◌&&◌, not, ◌==◌, State, Executes, Ok}, lists.KeyedRows.{absent, lone, by_put}}
-use Rattle.club_tables.proofs.lists.KeyedRows.{put_once as once_put, slots_conflict, slot_table, same_itself, changed, same_row as unchanged, put_slot}
-use Rattle.club_tables.proofs.{lists.{KeyedRows.new_row as new_row_of, PutRows.put_among, RowLemmas.holds_more}, queries.KeyLemmas.same_slots}
-use Rattle.club_tables.proofs.statements.InsertLemmas.{inserts, cast_null, cast_int}
+use Rattle.club_tables.proofs.Common.{length, ap, ◌∙◌, Bool, slice_get, None, AllPairs, option_map, bytes_eq, bytes_eq-Decides, and-true, or-false, everything}
+use Rattle.club_tables.proofs.Common.{Null, Int, Text, Table, Term, lit, col, op2, eval_all, Values, Insert, understood, Value, Arith, Add, binary, Row, column}
+use Rattle.club_tables.proofs.Common.{rowid, cast, cast_row, next_rowid, shown, value_rows, command_of, first_key, conflicts, Database, works, Enforced, truth}
+use Rattle.club_tables.proofs.Common.{Member, Facility, Key, Booking, Slot, same_slot, SlotUse, OlderRoot, MemberRow, ADD_MEMBER, ADD_FACILITY, ADD_KEY}
+use Rattle.club_tables.proofs.Common.{ADD_BOOKING, CLOSE_SLOT, OPEN_SLOT, ADD_TAKEN, PUT_OLDER_ROOT, members_table, facilities_table, keys_table}
+use Rattle.club_tables.proofs.Common.{bookings_table, club_schema, slots_table, old_roots_table, whole, member_values, facility_values, key_values}
+use Rattle.club_tables.proofs.Common.{booking_values, flag, name_values, use_values, slot_values, older_root_values, older_values, Rows, SlotRow, no_slot_use}
+use Rattle.club_tables.proofs.Common.{OlderRow, older_by, stored_slot_use, row_of, Holds, members_tree, facilities_tree, keys_tree, bookings_tree, HoldsRows}
+use Rattle.club_tables.proofs.Common.{slots_tree, olders_tree, list_all, holds, is_true, Compare, Eq, Binary, ◌&&◌, not, State, Executes, Ok}
+use Rattle.club_tables.proofs.statements.{PassLemmas.found, SelectLemmas.{text_equal, whole_equal}}
+use Rattle.club_tables.proofs.lists.KeyedRows.{lone, by_put, put_once as once_put, slots_conflict, slot_table, same_itself, changed, same_row as unchanged}
+use Rattle.club_tables.proofs.{lists.KeyedRows.{put_slot, new_row as new_row_of}, statements.PutLemmas.{PutsRow, first_clause, row_put, row_allowed, put_among}}
+use Rattle.club_tables.proofs.{statements.InsertLemmas.{inserts, cast_null, cast_int}, queries.KeyLemmas.{same_slots, no_truth}, lists.RowLemmas.holds_more}
 use Rattle.club_tables.proofs.statements.MeansLemmas.{Wrote, Means, on_members, on_facilities, on_keys, on_bookings, Steps, on_slots, on_olders}
-use Rattle.club_tables.proofs.statements.{PassLemmas.contains_counts, PutLemmas.{PutsRow, first_clause, row_put, row_allowed}}
-use Rattle.club_tables.proofs.statements.{SelectLemmas.{one_passes, text_equal, whole_equal}, UpdateLemmas.each_of}
 use Rattle.std.proofs.Common.{unwrap_or}
 use Rattle.sqlite.specs.Kind.TheVariants.{Integer}
 
-pub each_weaker : {X : Type 0} {P Q : X → Type 0} → ((x : X) → P x → Q x) → (xs : List X) → AllByRecursion P xs → AllByRecursion Q xs
-each_weaker weaker [] h = tt
-each_weaker weaker (x ∷ xs) h = (weaker x h.0, each_weaker weaker xs h.1)
-
-pub only_found : {X : Type 0} (q : X → Bool) (xs : List X) → length (filter q xs) ≤ 1 → AllByRecursion (λ x. q x ≡ true → find q xs ≡ Some x) xs
-only_found q [] low = tt
-only_found {X} q (x ∷ xs) low = (λ passes. rw passes refl, go (q x) low (only_found q xs))
-  where
-    go : (b : Bool) → length (cond b (x ∷ filter q xs) (filter q xs)) ≤ 1
-        → (length (filter q xs) ≤ 1 → AllByRecursion (λ y. q y ≡ true → find q xs ≡ Some y) xs)
-        → AllByRecursion (λ y. q y ≡ true → cond b (Some x) (find q xs) ≡ Some y) xs
-    go true low more = recursion_from_All _ xs (λ k d within passes.
-        absurd (omega (arith, low, contains_counts q xs _ (All-contains_itself xs k d within) passes)))
-    go false low more = more low
-
 -- An inserted row becomes the last row of its table.
 
-added : {X : Type 0} (values : X → Row) {text : List ℕ} {at width : ℕ} {terms : List Term} → Means club_schema text (Insert at (Values terms width))
+added : {X : Type 0} (values : X → Row) {text : List ℕ} (at width : ℕ) (terms : List Term) → Means club_schema text (Insert at (Values terms width))
     → (table : Table) → slice_get club_schema.tables at ≡ Some table → table.is_counted ≡ false
     → table.stamps ≡ record { places = []; terms = []; formats = [] }
     → ((row : Row) → works club_schema Enforced 0 table.tree [] (row ∷ []) ≡ [])
@@ -47,7 +30,7 @@ added : {X : Type 0} (values : X → Row) {text : List ℕ} {at width : ℕ} {te
     → ((old new : Database) → HoldsRows old rows → Wrote club_schema old new table.tree → Holds values (new.trees table.tree) (xs ++ x ∷ [])
     → HoldsRows new next)
     → Steps (text, params) rows next
-added values means table listed uncounted unstamped still params x gives casts rows next xs held on old new count holds_rows ran =
+added values at width terms means table listed uncounted unstamped still params x gives casts rows next xs held on old new count holds_rows ran =
     let put = inserts means table listed uncounted unstamped still old new holds_rows.schema params (values x) gives casts count ran in
     (on old.now new.now holds_rows put.0 (subst (λ rs. Holds values rs (xs ++ x ∷ [])) (sym put.1) (holds_more values _ xs x (held old.now holds_rows))), put.2)
 
@@ -56,18 +39,16 @@ added values means table listed uncounted unstamped still params x gives casts r
 abbrev pub member_table : Table
 member_table = record members_table { tree = members_tree }
 
-member_means : Means club_schema ADD_MEMBER.now (Insert 1 (Values (lit Null ∷ col 0 0 ∷ col 0 1 ∷ col 0 2 ∷ lit (Int (pos 0)) ∷ []) 5))
-unfolding understood everything
-member_means = record { is = refl; plain = (refl, refl) }
-
 -- The row of a new member, who has spent no points on bookings.
 abbrev pub new_row : Member → MemberRow
 new_row member = record { member = member; used = 0 }
 
 pub member_put : (rows : Rows) (member : Member) → Steps (ADD_MEMBER.now, Text member.name ∷ whole member.credited ∷ whole member.quota ∷ []) rows
     (record rows { members = rows.members ++ new_row member ∷ [] })
+unfolding understood everything
 member_put rows member =
-    added member_values member_means member_table refl refl refl (λ row. refl) _ (new_row member) refl (simp (cast_null, cast_int)) rows _ rows.members
+    added member_values 1 5 (lit Null ∷ col 0 0 ∷ col 0 1 ∷ col 0 2 ∷ lit (Int (pos 0)) ∷ []) (record { is = refl; plain = (refl, refl) }) member_table
+    refl refl refl (λ row. refl) _ (new_row member) refl (simp (cast_null, cast_int)) rows _ rows.members
     (λ old holds_rows. holds_rows.held.members) (λ old new holds_rows wrote held. on_members holds_rows wrote held)
 
 -- Lemmas about the statement that inserts a facility.
@@ -75,14 +56,12 @@ member_put rows member =
 abbrev pub facility_table : Table
 facility_table = record facilities_table { tree = facilities_tree }
 
-facility_means : Means club_schema ADD_FACILITY.now (Insert 2 (Values (lit Null ∷ col 0 0 ∷ col 0 1 ∷ col 0 2 ∷ col 0 3 ∷ col 0 4 ∷ col 0 5 ∷ []) 7))
-unfolding understood everything
-facility_means = record { is = refl; plain = (refl, refl) }
-
 pub facility_put : (rows : Rows) (facility : Facility) → Steps (ADD_FACILITY.now, facility_values facility) rows
     (record rows { facilities = rows.facilities ++ facility ∷ [] })
+unfolding understood everything
 facility_put rows facility =
-    added facility_values facility_means facility_table refl refl refl (λ row. refl) _ facility refl (simp (cast_null, cast_int)) rows _ rows.facilities
+    added facility_values 2 7 (lit Null ∷ map (col 0) (0 ∷ 1 ∷ 2 ∷ 3 ∷ 4 ∷ 5 ∷ [])) (record { is = refl; plain = (refl, refl) }) facility_table
+    refl refl refl (λ row. refl) _ facility refl (simp (cast_null, cast_int)) rows _ rows.facilities
     (λ old holds_rows. holds_rows.held.facilities) (λ old new holds_rows wrote held. on_facilities holds_rows wrote held)
 
 -- Lemmas about the statement that inserts a key.
@@ -90,13 +69,11 @@ facility_put rows facility =
 abbrev pub key_table : Table
 key_table = record keys_table { tree = keys_tree }
 
-key_means : Means club_schema ADD_KEY.now (Insert 3 (Values (lit Null ∷ col 0 0 ∷ col 0 1 ∷ col 0 2 ∷ col 0 3 ∷ []) 5))
-unfolding understood everything
-key_means = record { is = refl; plain = (refl, refl) }
-
 pub key_put : (rows : Rows) (key : Key) → Steps (ADD_KEY.now, key_values key) rows (record rows { keys = rows.keys ++ key ∷ [] })
+unfolding understood everything
 key_put rows key =
-    added key_values key_means key_table refl refl refl (λ row. refl) _ key refl (simp (cast_null, cast_int)) rows _ rows.keys
+    added key_values 3 5 (lit Null ∷ map (col 0) (0 ∷ 1 ∷ 2 ∷ 3 ∷ [])) (record { is = refl; plain = (refl, refl) }) key_table
+    refl refl refl (λ row. refl) _ key refl (simp (cast_null, cast_int)) rows _ rows.keys
     (λ old holds_rows. holds_rows.held.keys) (λ old new holds_rows wrote held. on_keys holds_rows wrote held)
 
 -- Lemmas about the statement that inserts a booking.
@@ -104,14 +81,12 @@ key_put rows key =
 abbrev pub booking_table : Table
 booking_table = record bookings_table { tree = bookings_tree }
 
-booking_means : Means club_schema ADD_BOOKING.now (Insert 5 (Values (lit Null ∷ map (col 0) (0 ∷ 1 ∷ 2 ∷ 3 ∷ 4 ∷ 5 ∷ 6 ∷ 7 ∷ 8 ∷ 9 ∷ [])) 11))
-unfolding understood everything
-booking_means = record { is = refl; plain = (refl, refl) }
-
 pub booking_put : (rows : Rows) (booking : Booking) → Steps (ADD_BOOKING.now, booking_values booking) rows
     (record rows { bookings = rows.bookings ++ booking ∷ [] })
+unfolding understood everything
 booking_put rows booking =
-    added booking_values booking_means booking_table refl refl refl (λ row. refl) _ booking refl (simp (cast_null, cast_int)) rows _ rows.bookings
+    added booking_values 5 11 (lit Null ∷ map (col 0) (0 ∷ 1 ∷ 2 ∷ 3 ∷ 4 ∷ 5 ∷ 6 ∷ 7 ∷ 8 ∷ 9 ∷ [])) (record { is = refl; plain = (refl, refl) }) booking_table
+    refl refl refl (λ row. refl) _ booking refl (simp (cast_null, cast_int)) rows _ rows.bookings
     (λ old holds_rows. holds_rows.held.bookings) (λ old new holds_rows wrote held. on_bookings holds_rows wrote held)
 
 abbrev target : Option (List ℕ)
@@ -144,16 +119,14 @@ module _ {text : List ℕ} {terms more sets : List Term} {at : ℕ} (puts : Puts
       let alone = lone (λ (row : SlotRow). row.slot) same_slot same_slots same_itself slot rows.slots once in
       let next = next_rowid (old.now.trees slots_tree) in
       let left = row_put _ _ _ _ _ slots_tree target 4 refl text terms more sets 6 at _ puts old new holds_rows.schema params
-      (name_values slot ++ closed ∷ taken ∷ []) gives
-      (rw (cast_null, cast_int (pos slot.day), cast_int (pos slot.hour), casts_closed, casts_taken) refl) (λ id.
-      rw (cast_int id, cast_int (pos slot.day), cast_int (pos slot.hour), casts_closed, casts_taken) refl)
-      slot_values is_of_slot (changed slot change) (unchanged slot change) (new_row_of slot change)
-      (λ id x. slots_conflict id next x slot closed taken)
-      (λ id x. rw (cast_int id, cast_int (pos x.slot.day), cast_int (pos x.slot.hour), cast_int (pos (truth x.held.closed)), cast_int (pos x.held.taken)) refl)
-      rows.slots holds_rows.held.slots alone (λ none. ap (λ vs. name_values slot ++ vs) (fresh (absent is_of_slot rows.slots none))) (λ there. ids there next)
-      (each_weaker (λ x only id there passes. let y = yields x (only passes) id next there in
-      (y.0, y.1 ∙ ap (λ b. Int id ∷ Int id ∷ name_values x.slot ++ use_values (if b then change x.held else x.held)) (sym passes))) rows.slots
-      (only_found is_of_slot rows.slots (one_passes _ is_of_slot rows.slots (λ x y a b apart. apart (a, b)) alone))) count executed in
+      (name_values slot ++ closed ∷ taken ∷ []) gives (simp (cast_null, cast_int, casts_closed, casts_taken))
+      (λ id. simp (cast_int, casts_closed, casts_taken)) slot_values is_of_slot (changed slot change) (unchanged slot change) (new_row_of slot change)
+      (λ id x. slots_conflict id next x slot closed taken) (λ id x. simp cast_int) rows.slots holds_rows.held.slots alone (λ there. ids there next) (λ none. ap (λ vs. name_values slot ++ vs) (fresh none))
+      (λ x is id there. let y = yields x is id next there in (
+        y.0,
+        y.1 ∙ ap (λ b. Int id ∷ Int id ∷ name_values x.slot ++ use_values (if b then change x.held else x.held))
+            (sym (found is_of_slot rows.slots x is).1),
+      )) count executed in
       (on_slots holds_rows left.0 left.1, left.2)
 
   -- If an INSERT statement with an ON CONFLICT clause writes a row, the existing row meets the
@@ -166,13 +139,9 @@ module _ {text : List ℕ} {terms more sets : List Term} {at : ℕ} (puts : Puts
       let alone = lone (λ (row : SlotRow). row.slot) same_slot same_slots same_itself slot rows.slots once in
       let next = next_rowid (old.now.trees slots_tree) in
       row_allowed _ _ _ _ _ slots_tree target 4 refl text terms more sets 6 at _ puts old new holds_rows.schema params
-      (name_values slot ++ closed ∷ taken ∷ []) gives
-      (rw (cast_null, cast_int (pos slot.day), cast_int (pos slot.hour), casts_closed, casts_taken) refl) (λ id.
-      rw (cast_int id, cast_int (pos slot.day), cast_int (pos slot.hour), casts_closed, casts_taken) refl)
-      slot_values is_of_slot (changed slot change) (unchanged slot change) (new_row_of slot change)
-      (λ id x. slots_conflict id next x slot closed taken)
-      (λ id x. rw (cast_int id, cast_int (pos x.slot.day), cast_int (pos x.slot.hour), cast_int (pos (truth x.held.closed)), cast_int (pos x.held.taken)) refl)
-      rows.slots holds_rows.held.slots alone (λ there. ids there next) allows (λ id there x. allowed id next there x) count executed some x is
+      (name_values slot ++ closed ∷ taken ∷ []) gives (simp (cast_null, cast_int, casts_closed, casts_taken))
+      (λ id. simp (cast_int, casts_closed, casts_taken)) slot_values is_of_slot (changed slot change) (unchanged slot change) (new_row_of slot change)
+      (λ id x. slots_conflict id next x slot closed taken) (λ id x. simp cast_int) rows.slots holds_rows.held.slots alone (λ there. ids there next) allows (λ id there x. allowed id next there x) count executed some x is
 
 -- Lemmas about the statement that closes a slot.
 
@@ -189,11 +158,7 @@ close_use held = record held { closed = true }
 
 -- The SQL condition for an open slot is true if and only if the slot is open.
 open_is : (held : SlotUse) → (is_true (binary (Compare Eq Binary) (flag held.closed) (whole 0)) && true) ≡ not held.closed
-open_is held = and-true _ ∙ whole_equal (truth held.closed) 0 ∙ not_closed held.closed
-  where
-    not_closed : (b : Bool) → (truth b == 0) ≡ not b
-    not_closed true = refl
-    not_closed false = refl
+open_is held = and-true _ ∙ whole_equal (truth held.closed) 0 ∙ no_truth held.closed
 
 pub slot_closed : (rows : Rows) → AllPairs (λ (a : SlotRow) (b : SlotRow). a.slot ≢ b.slot) rows.slots → (slot : Slot)
     → (stored_slot_use slot rows.slots).closed ≡ false
@@ -296,7 +261,7 @@ module _ (key : List ℕ) (older : OlderRoot) where
 
   -- The rows of older roots after the key's older root is inserted or updated.
   abbrev pub put_older : List OlderRow → List OlderRow
-  put_older rows = put_among older_values is_of renewed (record { key = key; older = older }) rows
+  put_older rows = put_among is_of renewed (record { key = key; older = older }) rows
 
   same_older : (row : OlderRow) → is_of row ≡ false → renewed row ≡ row
   same_older row fails = rw fails refl
@@ -311,20 +276,16 @@ module _ (key : List ℕ) (older : OlderRoot) where
       → AllPairs (λ (a : OlderRow) (b : OlderRow). a.key ≢ b.key) (put_older rows)
   put_once = once_put (λ (row : OlderRow). row.key) bytes_eq same_names itself key renewed (λ row. refl) (record { key = key; older = older }) refl
 
-  casts : (id : ℤ) (row : OlderRow) → cast_row older_table (Int id ∷ older_values row) ≡ Int id ∷ older_values row
-  casts id row = rw (cast_int id, cast_int (pos row.older.until)) refl
-
 pub older_represents : (rows : Rows) → AllPairs (λ (a : OlderRow) (b : OlderRow). a.key ≢ b.key) rows.olders → (key : List ℕ) (older : OlderRoot)
     → Steps (PUT_OLDER_ROOT.now, Text key ∷ older_root_values older) rows (record rows { olders = put_older key older rows.olders })
 older_represents rows once key older old new count holds_rows executed =
     let params = Text key ∷ older_root_values older in
     let put = row_put _ _ _ _ _ olders_tree older_target 6 refl _ _ _ _ 4 3 _ put_puts old new holds_rows.schema params params refl
-    (rw (cast_null, cast_int (pos older.until)) refl) (λ id. rw (cast_int id, cast_int (pos older.until)) refl)
-    older_values (is_of key older) (renewed key older) (same_older key older) (record { key = key; older = older }) (λ id row.
-    olders_conflict id (next_rowid (old.now.trees olders_tree)) row key older) (casts key older) rows.olders holds_rows.held.olders
+    (simp (cast_null, cast_int)) (λ id. simp cast_int) older_values (is_of key older) (renewed key older) (same_older key older) (record { key = key; older = older }) (λ id row.
+    olders_conflict id (next_rowid (old.now.trees olders_tree)) row key older) (λ id row. simp cast_int) rows.olders holds_rows.held.olders
     (lone (λ (row : OlderRow). row.key) bytes_eq same_names itself key rows.olders once)
-    (λ _. refl) (λ there. refl) (each_of _ (λ x id there passes. (
+    (λ there. refl) (λ _. refl) (λ x is id there. (
       refl,
-      ap (λ b. Int id ∷ Int id ∷ Text x.key ∷ older_root_values (if b then older else x.older)) (sym passes),
-    )) rows.olders) count executed in
+      ap (λ b. Int id ∷ Int id ∷ Text x.key ∷ older_root_values (if b then older else x.older)) (sym (found (is_of key older) rows.olders x is).1),
+    )) count executed in
     (on_olders holds_rows put.0 put.1, put.2)

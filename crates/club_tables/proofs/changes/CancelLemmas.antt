@@ -1,16 +1,15 @@
 -- Lemmas about the statement that cancels a booking.
-use Rattle.club_tables.proofs.Common.{cases_Bool, inl, inr, rules, ◌≡◌, ℕ, ◌≤◌, pos, Some, Bool, true, false, ◌||◌, List, [], ◌∷◌, ◌++◌, map, refl, sym, ap}
-use Rattle.club_tables.proofs.Common.{subst, ◌∙◌, All, arith, ◌+◌, ◌-◌, if◌then◌else◌, Contains, unsigned_Decides, bytes_eq-Decides, and_parts, or-true}
-use Rattle.club_tables.proofs.Common.{or-false, list_all, AllByRecursion, bytes_eq, length-map, get_or-map, everything, Int, Text, Binary, Compare, Eq, binary}
-use Rattle.club_tables.proofs.Common.{is_true, Row, Term, lit, col, holds, inner, end, Update, understood, truth, Booking, cancelled_booking, is_marked}
-use Rattle.club_tables.proofs.Common.{booking_under, is_in, taken_in, cost_of, Slot, Member, same_slot, persons_of, Club, IsSound, is_key_of, IsBooking}
-use Rattle.club_tables.proofs.Common.{IsOwnedBy, IsToCancel, CANCEL_BOOKING, club_schema, whole, booking_values, select, is_given, Rows, member_row, used_by}
-use Rattle.club_tables.proofs.{Common.{bookings_tree, MemberRow}, changes.AddLemmas.booking_table}
-use Rattle.club_tables.proofs.{changes.ChangeLemmas.{used_row, one_found, WhenRan, FindsOne, one_changed}, lists.BookingRows.truths}
-use Rattle.club_tables.proofs.lists.OwnerLemmas.{IsAlone, picked_changed, owner_is}
-use Rattle.club_tables.proofs.{queries.KeyLemmas.{AreBookingsOnce, is_numbered, is_uncancelled, one_numbered, same_names}, statements.InsertLemmas.cast_int}
-use Rattle.club_tables.proofs.statements.{MeansLemmas.{Means, on_bookings, Steps}, PassLemmas.{found, Implies}}
-use Rattle.club_tables.proofs.statements.{SelectLemmas.{text_equal, whole_equal, test, shows, Apart, apart_from_pairs}, UpdateLemmas.{updates, finds}}
+use Rattle.club_tables.proofs.Common.{cases_Bool, inl, inr, ◌≡◌, ℕ, ◌≤◌, pos, Some, Bool, true, false, ◌||◌, List, [], ◌∷◌, ◌++◌, map, refl, sym, ap, subst}
+use Rattle.club_tables.proofs.Common.{◌∙◌, All, arith, ◌+◌, ◌-◌, if◌then◌else◌, Contains, unsigned_Decides, bytes_eq-Decides, and_parts, or-true, or-false}
+use Rattle.club_tables.proofs.Common.{bytes_eq, length-map, get_or-map, everything, Int, Text, Binary, Compare, Eq, binary, is_true, Row, Term, lit, col, holds}
+use Rattle.club_tables.proofs.Common.{understood, truth, Booking, cancelled_booking, is_marked, booking_under, is_in, taken_in, cost_of, Slot, Member}
+use Rattle.club_tables.proofs.Common.{same_slot, persons_of, Club, IsSound, is_key_of, IsBooking, IsOwnedBy, IsToCancel, CANCEL_BOOKING, whole, booking_values}
+use Rattle.club_tables.proofs.{Common.{is_given, Rows, member_row, used_by, MemberRow, all_from}, statements.MeansLemmas.{on_bookings, Steps, WhenRan}}
+use Rattle.club_tables.proofs.{statements.InsertLemmas.cast_int, queries.KeyLemmas.{AreBookingsOnce, is_numbered, is_uncancelled, one_numbered, same_names}}
+use Rattle.club_tables.proofs.{statements.PassLemmas.found, changes.ChangeLemmas.used_row, lists.BookingRows.truths}
+use Rattle.club_tables.proofs.{statements.UpdateLemmas.{finds_row, one_found, FindsOne, one_changed}, lists.OwnerLemmas.{picked_changed, owner_is}}
+use Rattle.club_tables.proofs.{changes.AddLemmas.booking_table, statements.SelectLemmas.{text_equal, whole_equal, test, shows, Apart, apart_from_pairs, IsLone}}
+use Rattle.sqlite_rules.proofs.ListLemmas.{test_has}
 
 abbrev cancel_tests : List Term
 cancel_tests =
@@ -19,14 +18,6 @@ cancel_tests =
 
 abbrev cancel_terms : List Term
 cancel_terms = col 1 0 ∷ col 1 0 ∷ col 1 1 ∷ col 1 2 ∷ col 1 3 ∷ col 1 4 ∷ col 1 5 ∷ col 1 6 ∷ col 1 7 ∷ col 1 8 ∷ lit (Int (pos 1)) ∷ col 0 10 ∷ []
-
-cancel_means : Means club_schema CANCEL_BOOKING.now (Update 5 (record { lets = []; body = select (inner bookings_tree end) cancel_tests cancel_terms }))
-unfolding understood everything
-cancel_means = record { is = refl; plain = (refl, refl) }
-
-all_true : {X : Type 0} (p : X → Bool) (xs : List X) → list_all p xs ≡ true → AllByRecursion (λ x. p x ≡ true) xs
-all_true p [] h = tt
-all_true p (x ∷ xs) h = let two = and_parts _ _ h in (two.0, all_true p xs two.1)
 
 text_itself : (a : List ℕ) → is_true (binary (Compare Eq Binary) (Text a) (Text a)) ≡ true
 text_itself a = text_equal a a ∙ (bytes_eq-Decides a a).1 refl
@@ -60,7 +51,7 @@ module _ (rows : Rows) (once : AreBookingsOnce rows.bookings) (booking : Booking
 
   as_given : (b : Booking) → is_as_given b ≡ true → (b ≡ booking) × (b.cancelled ≡ false)
   as_given b h =
-      let t = all_true (holds (params ∷ (Int (pos 0) ∷ booking_values b) ∷ [])) cancel_tests h in
+      let t = all_from (λ test. holds (params ∷ (Int (pos 0) ∷ booking_values b) ∷ []) test ≡ true) cancel_tests (λ test. test_has (holds (params ∷ (Int (pos 0) ∷ booking_values b) ∷ [])) cancel_tests test h) in
       let key : b.key ≡ booking.key = text_same _ _ t.0 in
       let number : b.number ≡ booking.number = whole_same _ _ t.1.0 in
       let facility : b.slot.facility ≡ booking.slot.facility = text_same _ _ t.1.1.0 in
@@ -88,12 +79,11 @@ module _ (rows : Rows) (once : AreBookingsOnce rows.bookings) (booking : Booking
 
   cancel_finds : WhenRan (CANCEL_BOOKING.now, params) rows (λ old new count.
       FindsOne booking_values is_as_given is_here rows.bookings (shows params cancel_tests cancel_terms) old new booking_table count)
-  cancel_finds old new count holds_rows ran =
-      let hit = finds booking_values is_as_given rows.bookings (updates cancel_means booking_table refl holds_rows.schema ran) holds_rows.held.bookings
-      (λ id b. refl) in
-      let wide : Implies is_as_given is_here = λ b passes. subst (λ (x : Booking). is_here x ≡ true) (sym (as_given b passes).0) here_itself in
-      let low = one_numbered booking.key booking.number rows.bookings once in
-      search rules
+  unfolding understood everything
+  cancel_finds =
+      finds_row 5 params cancel_tests cancel_terms (record { is = refl; plain = (refl, refl) }) refl (λ db holds_rows. holds_rows.held.bookings) (λ id b. refl)
+      (λ b passes. subst (λ (x : Booking). is_here x ≡ true) (sym (as_given b passes).0) here_itself)
+      (one_numbered booking.key booking.number rows.bookings once)
 
   -- If the statement that cancels a booking writes a row, the booking was stored and not yet
   -- cancelled.
@@ -132,7 +122,7 @@ module _ (club : Club) (sound : IsSound club) (booking : Booking) (cancels : IsT
   abbrev next : Club
   next = record club { bookings = map change club.bookings }
 
-  alone : Apart (IsAlone (is_numbered key number) change (other_stays key number refund)) club.bookings
+  alone : Apart (IsLone (is_numbered key number)) club.bookings
   alone = apart_from_pairs _ club.bookings (λ i j d less low both.
       let mine = and_parts _ _ both.0 in
       let its = and_parts _ _ both.1 in

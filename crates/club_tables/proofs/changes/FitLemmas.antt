@@ -1,19 +1,22 @@
 -- Proof that a change fits the club if each of its statements wrote a row.
-use Rattle.club_tables.proofs.Common.{◌≡◌, ◌≢◌, ℕ, ◌+◌, ◌≤◌, Bool, true, false, ◌&&◌, ◌==◌, List, [], ◌∷◌, ◌++◌, map, Contains, All, refl, sym, ap, subst, ◌∙◌}
-use Rattle.club_tables.proofs.Common.{arith, true≢false, find, filter, slice_get, AllPairs, Some, bytes_eq, bytes_eq-Decides, unsigned_Decides, and_parts}
-use Rattle.club_tables.proofs.Common.{nat_le, nat_tests, AllByRecursion, All-from_recursion, All-contains, all_from_map, all_has, has_found, has_kept, Has}
-use Rattle.club_tables.proofs.Common.{map-map, Ghosts, Held, state, Database, HoldsClub, Ran, Club, Member, Facility, Key, Booking, Slot, SlotRow, SlotUse}
-use Rattle.club_tables.proofs.Common.{MemberRow, IsMember, InLimits, InsertMember, AddCredit, InsertFacility, InsertKey, MarkRevoked, ReplaceRoot, MarkClosed}
-use Rattle.club_tables.proofs.Common.{MarkOpen, ReplaceQuota, InsertBooking, MarkCancelled, member_row, member_named, facility_named, same_slot, cost_of}
-use Rattle.club_tables.proofs.Common.{taken_in, used_by, statements_of, FitsClub, row_of, TakeCredit, ReplaceNumbers}
-use Rattle.club_tables.proofs.changes.AddLemmas.{new_row, close_use, take_use, member_put, facility_put, key_put, slot_closed, slot_was_open, each_weaker}
-use Rattle.club_tables.proofs.changes.{ChangeLemmas.{credit_found, whole_to}, DebitLemmas.{debit_found, enough_left, leaves}}
-use Rattle.club_tables.proofs.changes.{FoundLemmas.{slot_placed, the_named}, NumberLemmas.{numbers_found, few_by_rows}}
-use Rattle.club_tables.proofs.changes.ObeyLemmas.{members_apart, facilities_apart, keys_apart, key_members, slot_facilities}
-use Rattle.club_tables.proofs.changes.PlanLemmas.{start, is_true, booked_by, adds, filled_use, member_of, members_once, facilities_once}
-use Rattle.club_tables.proofs.{lists.{KeyedRows.{put_slot, slot_once, same_itself}, OwnerLemmas.all_last, TakenRows.the_slot}, queries.KeyLemmas.same_slots}
-use Rattle.club_tables.proofs.{queries.MemberLemmas.total, statements.{PassLemmas.found, SelectLemmas.{apart_from_pairs, one_passes, find_first, only}}}
-use Rattle.club_rows.specs.Limits.{credited_limit}
+use Rattle.club_tables.proofs.Common.{None, ◌≡◌, ◌≢◌, ℕ, ◌+◌, ◌≤◌, true, false, ◌&&◌, ◌==◌, List, ◌∷◌, map, Contains, All, refl, sym, ap, subst, ◌∙◌, arith}
+use Rattle.club_tables.proofs.Common.{true≢false, find, Some, bytes_eq, bytes_eq-Decides, unsigned_Decides, and_parts, nat_le, nat_tests, AllByRecursion}
+use Rattle.club_tables.proofs.Common.{All-from_recursion, all_from_map, Has, map-map, Ghosts, Held, state, Database, HoldsClub, Ran, Club, Member, Facility}
+use Rattle.club_tables.proofs.Common.{Key, Booking, Slot, SlotRow, SlotUse, MemberRow, InLimits, InsertMember, AddCredit, InsertFacility, InsertKey}
+use Rattle.club_tables.proofs.Common.{MarkRevoked, ReplaceRoot, MarkClosed, MarkOpen, ReplaceQuota, InsertBooking, MarkCancelled, member_row, member_named}
+use Rattle.club_tables.proofs.Common.{facility_named, same_slot, cost_of, used_by, statements_of, FitsClub, TakeCredit, ReplaceNumbers, all_weaker, Bool}
+use Rattle.club_tables.proofs.Common.{BoundStatement, IsBooking, IsTrueOf, Option, Rows, State, adding_booking, booking_under, good_until, neg_ℤ, option_map}
+use Rattle.club_tables.proofs.Common.{pos, transaction_start, Add, Arith, Binary, Compare, binary, is_true, whole, cancelled_booking}
+use Rattle.club_tables.proofs.{statements.UpdateLemmas.one_found, queries.MemberLemmas.total, lists.{KeyedRows.slot_once, TakenRows.the_slot}}
+use Rattle.club_tables.proofs.changes.ChangeLemmas.{quota_finds, revoke_finds, root_finds, used_finds, whole_to, StoresKey, StoresMember, credit_finds}
+use Rattle.club_tables.proofs.changes.{ChangeLemmas.{debit_finds, name_of, owned_key}, AddLemmas.{older_represents, open_use, slot_opened}}
+use Rattle.club_tables.proofs.{changes.{NumberLemmas.{few_by_rows, numbers_finds}, ChargeLemmas.{Charged, charge_found, pays}}, statements.MeansLemmas.WhenRan}
+use Rattle.club_tables.proofs.{queries.KeyLemmas.{same_slots, find_mapped}, changes.CancelLemmas.{booking_cancelled, cancel_found}, lists.OwnerLemmas.all_last}
+use Rattle.club_tables.proofs.changes.PlanLemmas.{adds, filled_use, members_once, facilities_once, bookings_once, filled, filled_rows, keys_once}
+use Rattle.club_tables.proofs.changes.AddLemmas.{new_row, close_use, take_use, member_put, facility_put, key_put, slot_closed, slot_was_open, booking_put}
+use Rattle.club_tables.proofs.changes.{FoundLemmas.{slot_placed, the_named, facility_there}, DebitLemmas.{enough_left, credited_little, spent_little}}
+use Rattle.club_tables.proofs.changes.ObeyLemmas.{members_apart, facilities_apart, keys_apart, key_members, booking_facilities, bookings_apart}
+use Rattle.sqlite_sql.specs.declared.ops.CompareOp.TheVariants.{Le}
 use Rattle.club_core.specs.declared.change.Change.{Change}
 use Rattle.club_laws.specs.SoundRuns.{Suits, SuitsBooking, SuitingChangesKeepSound}
 
@@ -21,13 +24,13 @@ differs : (a b : List ℕ) → bytes_eq a b ≡ false → b ≢ a
 differs a b other e = true≢false (sym ((bytes_eq-Decides a b).1 (sym e)) ∙ other)
 
 unnamed : {X : Type 0} (name : X → List ℕ) (n : List ℕ) (xs : List X) → AllByRecursion (λ x. bytes_eq n (name x) ≡ false) xs → All (λ x. name x ≢ n) xs
-unnamed name n xs apart = All-from_recursion (λ x. name x ≢ n) xs (each_weaker (λ x other. differs n (name x) other) xs apart)
+unnamed name n xs apart = All-from_recursion (λ x. name x ≢ n) xs (all_weaker _ _ (λ x other. differs n (name x) other) xs apart)
 
 unnumbered : (booking : Booking) (bookings : List Booking)
     → AllByRecursion (λ (b : Booking). (bytes_eq booking.key b.key && booking.number == b.number) ≡ false) bookings
     → All (λ (b : Booking). ¬ ((b.key ≡ booking.key) × (b.number ≡ booking.number))) bookings
 unnumbered booking bookings apart =
-    All-from_recursion (λ (b : Booking). ¬ ((b.key ≡ booking.key) × (b.number ≡ booking.number))) bookings (each_weaker (λ b other same.
+    All-from_recursion (λ (b : Booking). ¬ ((b.key ≡ booking.key) × (b.number ≡ booking.number))) bookings (all_weaker _ _ (λ b other same.
     let key = (bytes_eq-Decides booking.key b.key).1 (sym same.0) in
     let number = (unsigned_Decides booking.number b.number).1 (sym same.1) in
     let both : (bytes_eq booking.key b.key && booking.number == b.number) ≡ true = rw (key, number) refl in
@@ -50,41 +53,60 @@ room_parts row facility slot h =
     ((bytes_eq-Decides facility.name slot.facility).0 one.0, same_slots row.slot slot is, at_most row.held.taken facility.places four.1)
 
 module _ {S : Type 0} (g : Ghosts S) (old : Held S) (club : Club) (tables : HoldsClub (state g old).now club) where
-  credited : (name : List ℕ) (row : MemberRow) (m : Member) → member_named name club ≡ Some m → row ≡ member_row club m → row.member.credited ≤ credited_limit
-  credited name row m named is =
-      let there = found (λ (n : Member). bytes_eq n.name name) club.members m named in
-      let low = (All-contains IsMember club.members m tables.sound.rows.members there.0).credited in
-      subst (λ (r : MemberRow). r.member.credited ≤ credited_limit) (sym is) low
+  when_ran : {statement : BoundStatement} {more : List BoundStatement} {db : Database} {P : State → State → ℕ → Type 0}
+      → WhenRan statement tables.rows P → (ran : Ran g 1 (statement ∷ more) old db)
+      → P (state g (transaction_start old)) (state g ran.turns.0) ran.turns.1
+  when_ran each ran = each (state g (transaction_start old)) (state g ran.turns.0) ran.turns.1 tables.holds_rows ran.turns.2
 
-  spent_little : (name : List ℕ) (row : MemberRow) (m : Member) → member_named name club ≡ Some m → row ≡ member_row club m → row.used ≤ row.member.credited
-  spent_little name row m named is =
-      let there = found (λ (n : Member). bytes_eq n.name name) club.members m named in
-      subst (λ (r : MemberRow). r.used ≤ r.member.credited) (sym is)
-      (All-contains (λ (n : Member). used_by club n.name ≤ n.credited) club.members m tables.sound.balances there.0)
+  member_of : (p : MemberRow → Bool) (name : List ℕ) → (row : MemberRow) × StoresMember name tables.rows.members row × (p row ≡ true)
+      → (m : Member) × (member_named name club ≡ Some m) × (p (member_row club m) ≡ true)
+  member_of p name it =
+      let is_of : MemberRow → Bool = λ r. bytes_eq (name_of r) name in
+      by (member_named name club) refl (sym (find_mapped is_of (member_row club) club.members)
+      ∙ subst (λ ms. find is_of ms ≡ Some it.0) tables.storage.members it.1)
+    where
+      by : (o : Option Member) → member_named name club ≡ o → option_map (member_row club) o ≡ Some it.0
+          → (m : Member) × (member_named name club ≡ Some m) × (p (member_row club m) ≡ true)
+      by None is e = absurd cc
+      by (Some m) is e = let same : it.0 ≡ member_row club m = cc in (m, is, sym (ap p same) ∙ it.2)
 
-  booking_suits : (db : Database) (booking : Booking) (member : List ℕ) → InLimits (InsertBooking booking member)
-      → Ran g 1 (statements_of (InsertBooking booking member)) old db → SuitsBooking booking club
-  booking_suits db booking member within ran =
-      let by = booked_by g old club tables db booking member within ran in
+  abbrev filled_club : Booking → Rows
+  filled_club = filled_rows g old club tables
+
+  record BookedBy (booking : Booking) (member : List ℕ) : Type 0 where
+    free : AllByRecursion (λ (b : Booking). (bytes_eq booking.key b.key && booking.number == b.number) ≡ false) tables.rows.bookings
+    charged : Charged (filled_club booking) (members_once g old club tables) member (pos (cost_of booking)) booking.key booking.slot
+
+  booked_by : {db : Database} (booking : Booking) (member : List ℕ) → IsBooking booking → (ran : Ran g 1 (adding_booking booking member) old db)
+      → BookedBy booking member
+  booked_by booking member row ran =
+      let t1 = ran.turns in
+      let t2 = t1.3 in
+      let t3 = t2.3 in
+      let first = when_ran (booking_put tables.rows booking) ran in
+      let known = subst (λ (fs : List Facility). Contains (map (λ (f : Facility). f.name) fs) booking.slot.facility) tables.storage.facilities
+      (all_last (λ (b : Booking). Contains (map (λ (f : Facility). f.name) tables.rows.facilities) b.slot.facility) tables.rows.bookings booking
+      (booking_facilities first.0)) in
+      let second = filled g old club tables booking row known (state g t1.0) (state g t2.0) t2.1 first.0 t2.2 in
+      record {
+        free = bookings_apart tables.rows booking first.0;
+        charged = charge_found (filled_club booking) (members_once g old club tables) member (pos (cost_of booking)) booking.key booking.slot
+            (keys_once g old club tables) (state g t2.0) (state g t3.0) t3.1 second.0 t3.2 t3.4;
+      }
+
+  booking_suits : (booking : Booking) (member : List ℕ) → IsBooking booking → BookedBy booking member → SuitsBooking booking club
+  booking_suits booking member within by =
       let it = by.charged in
-      let m = member_of g old club tables member it.row it.stores in
-      let low = credited member it.row m.0 m.1 m.2 in
-      let few = spent_little member it.row m.0 m.1 m.2 in
-      let paid = rw (
-        total it.row.used (cost_of booking) (omega (arith, low, few, within.charge)),
-        whole_to (it.row.used + cost_of booking) it.row.member.credited,
-      ) at it.pays_it in
+      let m = member_of (pays (filled_club booking) (members_once g old club tables) member (pos (cost_of booking)) booking.key booking.slot) member
+      (it.row, it.stores, it.pays_it) in
+      let used = used_by club m.0.name + cost_of booking in
+      let low = credited_little club tables.sound member 0 m.0 m.1 in
+      let few = spent_little club tables.sound member 0 m.0 m.1 in
+      let paid = rw (total (used_by club m.0.name) (cost_of booking) (omega (arith, low, few, within.charge)), whole_to used m.0.credited) at m.2 in
       let room = room_parts it.at it.facility booking.slot it.room in
-      let named = room.0 in
-      let same = room.1 in
-      let here = the_slot booking.slot _ it.at (slot_once booking.slot (take_use (adds g old club tables booking)) tables.rows.slots tables.storage.once)
-      it.among same in
-      let taken = filled_use g old club tables booking it.at here in
+      let once = slot_once booking.slot (take_use (adds g old club tables booking)) tables.rows.slots tables.storage.once in
+      let taken = filled_use g old club tables booking it.at (the_slot booking.slot _ it.at once it.among room.1) in
       let there = subst (λ (fs : List Facility). Has fs it.facility) tables.storage.facilities it.located in
-      let enough : used_by club m.0.name + cost_of booking ≤ m.0.credited =
-      subst (λ (r : MemberRow). r.used + cost_of booking ≤ r.member.credited) m.2 (at_most (it.row.used + cost_of booking) it.row.member.credited paid) in
-      let fits : taken_in booking.slot (club.bookings ++ booking ∷ []) ≤ it.facility.places =
-      subst (λ n. n ≤ it.facility.places) taken room.2 in
       record {
         row = within;
         free = unnumbered booking club.bookings (subst (λ bs. AllByRecursion (λ (b : Booking). (bytes_eq booking.key b.key && booking.number == b.number)
@@ -93,80 +115,106 @@ module _ {S : Type 0} (g : Ghosts S) (old : Held S) (club : Club) (tables : Hold
         known = subst (λ ks. find (λ (k : Key). bytes_eq k.name booking.key) ks ≡ Some it.owner) tables.storage.keys it.known;
         payer = m.0;
         owned = subst (λ n. member_named n club ≡ Some m.0) (sym it.own) m.1;
-        paid = enough;
+        paid = at_most used m.0.credited paid;
         facility = it.facility;
-        located = subst (λ n. facility_named n club ≡ Some it.facility) named
+        located = subst (λ n. facility_named n club ≡ Some it.facility) room.0
             (the_named (λ (f : Facility). f.name) club.facilities it.facility tables.sound.unique.facilities there);
-        placed = fits;
+        placed = subst (λ n. n ≤ it.facility.places) taken room.2;
       }
 
-  pub suits : (db : Database) (change : Change) → InLimits change → Ran g 1 (statements_of change) old db → Suits change club
-  suits db (InsertMember member) within ran =
-      let t = ran.turns in
-      let put = member_put tables.rows member (start g old club tables) (state g t.0) t.1 tables.holds_rows t.2 in
+  fits : (db : Database) (change : Change) → InLimits change → Ran g 1 (statements_of change) old db → IsTrueOf change club × Suits change club
+  fits db (InsertMember member) within ran =
+      let put = when_ran (member_put tables.rows member) ran in
       let apart = subst (λ ms. AllByRecursion (λ (y : MemberRow). bytes_eq member.name y.member.name ≡ false) ms) tables.storage.members
-      (members_apart put.0 tables.rows.members (new_row member) refl) in (
-        within,
-        unnamed (λ (m : Member). m.name) member.name club.members (all_from_map (λ (y : MemberRow). bytes_eq member.name y.member.name ≡ false)
-            (member_row club) club.members apart),
+      (members_apart tables.rows (new_row member) put.0) in (
+        tt,
+        (
+          within,
+          unnamed (λ (m : Member). m.name) member.name club.members
+              (all_from_map (λ (y : MemberRow). bytes_eq member.name y.member.name ≡ false) (member_row club) club.members apart),
+        ),
       )
-  suits db (AddCredit name points) within ran =
-      let t = ran.turns in
-      let row = credit_found tables.rows (members_once g old club tables) name points (start g old club tables) (state g t.0) t.1 tables.holds_rows t.2 t.4 in
-      let m = member_of g old club tables name row.0 row.1 in
-      let few = credited name row.0 m.0 m.1 m.2 in
-      let low = rw (total row.0.member.credited points (omega (arith, few, within)), whole_to (row.0.member.credited + points) 999_999_999) at row.2 in
-      (m.0, m.1, subst (λ (r : MemberRow). r.member.credited + points ≤ credited_limit) m.2 (at_most (row.0.member.credited + points) 999_999_999 low))
-  suits db (TakeCredit name points) within ran =
-      let t = ran.turns in
-      let row = debit_found tables.rows (members_once g old club tables) name points (start g old club tables) (state g t.0) t.1 tables.holds_rows t.2 t.4 in
-      let m = member_of g old club tables name row.0 row.1 in
-      (m.0, m.1, enough_left club tables.sound name points m.0 m.1 within (subst (λ (r : MemberRow). leaves points r ≡ true) m.2 row.2))
-  suits db (ReplaceQuota name quota) within ran = within
-  suits db (InsertFacility facility) within ran =
-      let t = ran.turns in
-      let put = facility_put tables.rows facility (start g old club tables) (state g t.0) t.1 tables.holds_rows t.2 in
+  fits db (AddCredit name points) within ran =
+      let m = member_of _ name (one_found (when_ran (credit_finds tables.rows (members_once g old club tables) name points) ran) ran.turns.4) in
+      let few = credited_little club tables.sound name points m.0 m.1 in
+      let sum : is_true (binary (Compare Le Binary) (binary (Arith Add) (whole m.0.credited) (whole points)) (whole 999_999_999)) ≡ true =
+      (and_parts _ _ (and_parts _ _ m.2).1).0 in
+      let low = rw (total m.0.credited points (omega (arith, few, within)), whole_to (m.0.credited + points) 999_999_999) at sum in
+      ((m.0, m.1), (m.0, m.1, at_most (m.0.credited + points) 999_999_999 low))
+  fits db (TakeCredit name points) within ran =
+      let m = member_of _ name (one_found (when_ran (debit_finds tables.rows (members_once g old club tables) name points) ran) ran.turns.4) in
+      let left = enough_left club tables.sound name points m.0 m.1 within (and_parts _ _ (and_parts _ _ m.2).1).0 in
+      ((m.0, m.1, omega (arith, left)), (m.0, m.1, left))
+  fits db (ReplaceQuota name quota) within ran =
+      let m = member_of _ name (one_found (when_ran (quota_finds tables.rows (members_once g old club tables) name quota) ran) ran.turns.4) in
+      ((m.0, m.1), within)
+  fits db (InsertFacility facility) within ran =
+      let put = when_ran (facility_put tables.rows facility) ran in
       let apart = subst (λ fs. AllByRecursion (λ (y : Facility). bytes_eq facility.name y.name ≡ false) fs) tables.storage.facilities
-      (facilities_apart put.0 tables.rows.facilities facility refl) in
-      (within, unnamed (λ (f : Facility). f.name) facility.name club.facilities apart)
-  suits db (ReplaceNumbers name places price opens shuts) within ran =
-      let t = ran.turns in
-      let it = numbers_found tables.rows (facilities_once g old club tables) name places price opens shuts (start g old club tables) (state g t.0) t.1
-      tables.holds_rows t.2 t.4 in
-      (within, few_by_rows club tables.rows tables.storage name places it.2)
-  suits db (InsertKey key) within ran =
-      let t = ran.turns in
-      let put = key_put tables.rows key (start g old club tables) (state g t.0) t.1 tables.holds_rows t.2 in
-      let apart = subst (λ ks. AllByRecursion (λ (y : Key). bytes_eq key.name y.name ≡ false) ks) tables.storage.keys
-      (keys_apart put.0 tables.rows.keys key refl) in
+      (facilities_apart tables.rows facility put.0) in
+      (tt, (within, unnamed (λ (f : Facility). f.name) facility.name club.facilities apart))
+  fits db (ReplaceNumbers name places price opens shuts) within ran =
+      let finds = when_ran (numbers_finds tables.rows (facilities_once g old club tables) name places price opens shuts) ran in
+      let it = one_found finds ran.turns.4 in (
+        (it.0, subst (λ fs. find (λ (f : Facility). bytes_eq f.name name) fs ≡ Some it.0) tables.storage.facilities it.1),
+        (within, few_by_rows club tables.rows tables.storage name places (and_parts _ _ it.2).1),
+      )
+  fits db (InsertKey key) within ran =
+      let put = when_ran (key_put tables.rows key) ran in
+      let apart = subst (λ ks. AllByRecursion (λ (y : Key). bytes_eq key.name y.name ≡ false) ks) tables.storage.keys (keys_apart tables.rows key put.0) in
       let known = all_last (λ (k : Key). Contains (map (λ (row : MemberRow). row.member.name) tables.rows.members) k.member) tables.rows.keys key
       (key_members put.0) in (
-        within.0,
-        unnamed (λ (k : Key). k.name) key.name club.keys apart,
-        subst (λ names. Contains names key.member)
-            (ap (map (λ (row : MemberRow). row.member.name)) tables.storage.members
-            ∙ map-map (λ (row : MemberRow). row.member.name) (member_row club) club.members)
-            known,
+        within.1,
+        (
+          within.0,
+          unnamed (λ (k : Key). k.name) key.name club.keys apart,
+          subst (λ names. Contains names key.member)
+              (ap (map (λ (row : MemberRow). row.member.name)) tables.storage.members
+              ∙ map-map (λ (row : MemberRow). row.member.name) (member_row club) club.members)
+              known,
+        ),
       )
-  suits db (MarkRevoked name) within ran = tt
-  suits db (ReplaceRoot name was root until) within ran = within
-  suits db (MarkClosed slot) within ran =
-      let t = ran.turns in
-      let opened = slot_was_open tables.rows tables.storage.once slot (start g old club tables) (state g t.0) t.1 tables.holds_rows t.2 t.4 in
-      let put = slot_closed tables.rows tables.storage.once slot opened (start g old club tables) (state g t.0) t.1 tables.holds_rows t.2 in (
-        within,
-        sym (ap (λ (u : SlotUse). u.closed) (tables.storage.slots slot)) ∙ opened,
-        slot_placed club.facilities tables.rows tables.storage.facilities slot close_use put.0,
+  fits db (MarkRevoked name) within ran =
+      let one = one_found (when_ran (revoke_finds tables.rows (keys_once g old club tables) name) ran) ran.turns.4 in
+      ((one.0, subst (λ keys. StoresKey name keys one.0) tables.storage.keys one.1), tt)
+  fits db (ReplaceRoot name was root until) within ran =
+      let put = when_ran (older_represents tables.rows tables.storage.olders_once name (good_until until was)) ran in
+      let t1 = ran.turns in
+      let t2 = t1.3 in
+      let one = one_found (root_finds _ (keys_once g old club tables) name root was (state g t1.0) (state g t2.0) t2.1 put.0 t2.2) t2.4 in
+      let same = (bytes_eq-Decides one.0.root was).0 (and_parts _ _ one.2).1 in
+      ((one.0, subst (λ keys. StoresKey name keys one.0) tables.storage.keys one.1, same), within)
+  fits db (MarkClosed slot) within ran =
+      let opened = when_ran (slot_was_open tables.rows tables.storage.once slot) ran ran.turns.4 in
+      let put = when_ran (slot_closed tables.rows tables.storage.once slot opened) ran in (
+        tt,
+        (
+          within,
+          sym (ap (λ (u : SlotUse). u.closed) (tables.storage.slots slot)) ∙ opened,
+          slot_placed club.facilities tables.rows tables.storage.facilities slot close_use put.0,
+        ),
       )
-  suits db (MarkOpen slot) within ran = tt
-  suits db (InsertBooking booking member) within ran = booking_suits db booking member within ran
-  suits db (MarkCancelled booking member refund) within ran =
-      let it = is_true g old club tables db (MarkCancelled booking member refund) within ran in (it.0.0, within)
+  fits db (MarkOpen slot) within ran =
+      let put = when_ran (slot_opened tables.rows tables.storage.once slot) ran in
+      (facility_there club slot.facility (slot_placed club.facilities tables.rows tables.storage.facilities slot open_use put.0), tt)
+  fits db (InsertBooking booking member) within ran =
+      let by = booked_by booking member within ran in
+      let it = by.charged in
+      ((it.owner, subst (λ keys. StoresKey booking.key keys it.owner) tables.storage.keys it.known, it.own), booking_suits booking member within by)
+  fits db (MarkCancelled booking member refund) within ran =
+      let t1 = ran.turns in
+      let t2 = t1.3 in
+      let given = when_ran (cancel_found tables.rows (bookings_once g old club tables) booking refund) ran t1.4 in
+      let first = when_ran (booking_cancelled tables.rows (bookings_once g old club tables) booking refund given.0 given.1) ran in
+      let on_record = subst (λ bookings. booking_under booking.key booking.number bookings ≡ Some booking) tables.storage.bookings given.0 in
+      let next : Rows = record tables.rows { bookings = map (cancelled_booking booking.key booking.number refund) tables.rows.bookings } in
+      let once = members_once g old club tables in
+      let finds = used_finds next once member (neg_ℤ (pos refund)) booking.key (state g t1.0) (state g t2.0) t2.1 first.0 t2.2 in
+      let owner = owned_key next once member (neg_ℤ (pos refund)) booking.key (keys_once g old club tables) (and_parts _ _ (one_found finds t2.4).2).1 in
+      (((on_record, given.1), (owner.0, subst (λ keys. StoresKey booking.key keys owner.0) tables.storage.keys owner.1, owner.2)), (on_record, within))
 
   pub fits_if_ran : SuitingChangesKeepSound → (db : Database) (change : Change) → InLimits change → Ran g 1 (statements_of change) old db
       → FitsClub change club
   fits_if_ran law db change within ran =
-      record {
-        carries = is_true g old club tables db change within ran;
-        sound = law club change tables.sound (suits db change within ran);
-      }
+      let it = fits db change within ran in
+      record { carries = it.0; sound = law club change tables.sound it.1 }

@@ -1,22 +1,18 @@
 -- Lemmas about searches for rows, and about upper bounds on the number of persons in a slot.
-use Rattle.club_tables.proofs.Common.{rules, ◌≡◌, ℕ, ◌≤◌, pos, neg_ℤ, Bool, None, List, Option, Some, refl, sym, ◌∙◌, ◌≢◌, ◌+◌, ◌-◌, true, if◌then◌else◌, []}
-use Rattle.club_tables.proofs.Common.{◌∷◌, ◌++◌, map, Contains, ap, arith, zero, suc, All-contains, bytes_eq-Decides, find, option_map, bytes_eq, binary, Arith}
-use Rattle.club_tables.proofs.Common.{Add, ◌<◌, ◌^◌, cond, SlotUse, IsFacility, Int, Club, IsSound, taken_in, same_slot, IsBooking, Booking, Facility, Slot}
-use Rattle.club_tables.proofs.Common.{whole, persons_taken, SlotRow, AllPairs, Has, has_kept, slice_get, filter, all_has, has_found, Database, HoldsRows, Rows}
-use Rattle.club_tables.proofs.Common.{subst, FitsClub, MarkClosed, is_closed, AllByRecursion, false, list_any, find-append, option_or, row_of}
-use Rattle.club_tables.proofs.changes.{CancelLemmas.there, ObeyLemmas.slot_facilities}
-use Rattle.club_tables.proofs.lists.{KeyedRows.{not_same, put_slot, changed, new_row, absent, same_itself}, OwnerLemmas.apart_last}
+use Rattle.club_tables.proofs.Common.{rules, ◌≡◌, ℕ, ◌≤◌, pos, neg_ℤ, Bool, None, List, Some, refl, sym, ◌∙◌, ◌≢◌, ◌-◌, true, if◌then◌else◌, [], ◌∷◌, ◌++◌, map}
+use Rattle.club_tables.proofs.Common.{Contains, ap, arith, All-contains, bytes_eq-Decides, find, option_map, bytes_eq, binary, Arith, Add, ◌<◌, ◌^◌, cond}
+use Rattle.club_tables.proofs.Common.{SlotUse, IsFacility, Int, Club, IsSound, taken_in, same_slot, IsBooking, Booking, Facility, Slot, whole, persons_taken}
+use Rattle.club_tables.proofs.Common.{SlotRow, AllPairs, Has, has_kept, slice_get, filter, all_has, has_found, Database, HoldsRows, Rows, subst, FitsClub}
+use Rattle.club_tables.proofs.Common.{MarkClosed, is_closed, AllByRecursion, false, list_any, find-append, option_or, row_of, contains_had, has_contained}
+use Rattle.club_tables.proofs.{lists.OwnerLemmas.apart_last, statements.SelectLemmas.{apart_from_pairs, find_first, only}}
+use Rattle.club_tables.proofs.{changes.ObeyLemmas.slot_facilities, lists.KeyedRows.{not_same, put_slot, changed, new_row, absent, same_itself}}
 use Rattle.club_tables.proofs.{queries.KeyLemmas.{one_named, same_slots, find_mapped}, statements.PassLemmas.{any_counts, contains_counts, find_some}}
-use Rattle.club_tables.proofs.statements.SelectLemmas.{apart_from_pairs, find_first, only}
+use Rattle.sqlite_rules.proofs.ProbeLemmas.{has_mapped}
 use Rattle.club_core.specs.Store.{HasFacility}
 use Rattle.club_rows.specs.Limits.{places_limit}
 
 pub contains_mapped : {X Y : Type 0} (f : X → Y) (xs : List X) (y : Y) → Contains (map f xs) y → (x : X) × Contains xs x × (f x ≡ y)
-contains_mapped f [] y has = absurd (omega (arith, has.1))
-contains_mapped f (x ∷ xs) y (zero, low, is) = (x, (0, omega arith, refl), is)
-contains_mapped f (x ∷ xs) y (suc k, low, is) =
-    let later = contains_mapped f xs y (k, omega (arith, low), is) in
-    (later.0, (suc later.1.0, omega (arith, later.1.1), later.1.2), later.2)
+contains_mapped f xs y has = let it = has_mapped f xs y (has_contained (map f xs) y has) in (it.0, contains_had xs it.0 it.1, sym it.2)
 
 pub minus : (m r : ℕ) → r ≤ m → m < 2 ^ 63 → binary (Arith Add) (whole m) (Int (neg_ℤ (pos r))) ≡ whole (m - r)
 unfolding binary

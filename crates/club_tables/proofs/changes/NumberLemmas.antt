@@ -1,22 +1,17 @@
 -- Lemmas about the statement that sets a facility's places, price and hours.
-use Rattle.club_tables.proofs.Common.{rules, ◌≡◌, ◌≢◌, ◌≤◌, ◌<◌, ℕ, pos, min, Bool, true, false, not, ◌&&◌, None, Option, Some, List, [], ◌∷◌, length, map}
-use Rattle.club_tables.proofs.Common.{refl, sym, ap, ◌∙◌, subst, find, filter, list_all, option_map, unwrap_or, bytes_eq, bytes_eq-Decides, and_parts}
-use Rattle.club_tables.proofs.Common.{everything, Int, Text, Binary, Compare, Eq, binary, Row, Term, col, op2, holds, Query, inner, end, counted, Update}
-use Rattle.club_tables.proofs.Common.{understood, Club, is_true, club_schema, whole, facility_values, slot_values, select, is_given, Rows, IsStoredAs}
-use Rattle.club_tables.proofs.Common.{facilities_tree, slots_tree, nat_tests, arith, AllByRecursion, AllPairs, Has, Facility, Slot, SlotRow, SlotUse, same_slot}
-use Rattle.club_tables.proofs.Common.{taken_in, row_of, stored_slot_use, no_slot_use, IsSound, FitsClub, after, ReplaceNumbers, facility_with_numbers}
-use Rattle.club_tables.proofs.Common.{SET_NUMBERS, op1, unary, Not, facility_named, from_truth, value_cmp-Int, int_cmp, nat_lt, is_gt, cast_row, ℤ, Contains}
-use Rattle.club_tables.proofs.{Common.{contains_had, inl, inr, true≢false, all_from, if◌then◌else◌, IsFacility}, changes.AddLemmas.facility_table}
-use Rattle.club_tables.proofs.changes.{CancelLemmas.mapped_holds, ChangeLemmas.{WhenRan, FindsOne, one_found, one_changed}}
-use Rattle.club_tables.proofs.{lists.TakenRows.{row_taken, slot_taken_by}, queries.{KeyLemmas.{both_tests, one_named}, MemberLemmas.whole_above}}
-use Rattle.club_tables.proofs.statements.InsertLemmas.{cast_int}
+use Rattle.club_tables.proofs.Common.{rules, ◌≡◌, ◌≢◌, ◌≤◌, ◌<◌, ℕ, pos, min, Bool, true, false, not, ◌&&◌, Some, List, [], ◌∷◌, length, map, refl, sym, ap}
+use Rattle.club_tables.proofs.Common.{◌∙◌, subst, find, filter, list_all, bytes_eq, bytes_eq-Decides, and_parts, everything, Int, Binary, Compare, Eq, Row}
+use Rattle.club_tables.proofs.Common.{Term, col, op2, holds, understood, Club, is_true, facility_values, slot_values, is_given, Rows, IsStoredAs}
+use Rattle.club_tables.proofs.Common.{facilities_tree, slots_tree, nat_tests, arith, AllPairs, Has, Facility, Slot, SlotRow, taken_in, FitsClub, after}
+use Rattle.club_tables.proofs.Common.{ReplaceNumbers, facility_with_numbers, SET_NUMBERS, op1, unary, Not, nat_lt, cast_row, ℤ, Contains, contains_had, inl}
+use Rattle.club_tables.proofs.{Common.{inr, true≢false, all_from, if◌then◌else◌, IsFacility, Gt}, statements.UpdateLemmas.{FindsOne, one_changed, finds_by}}
+use Rattle.club_tables.proofs.{statements.{MeansLemmas.{WhenRan, on_facilities, Steps}, InsertLemmas.cast_int}, lists.TakenRows.{row_taken, slot_taken_by}}
+use Rattle.club_tables.proofs.{changes.AddLemmas.facility_table, statements.PassLemmas.{contains_counts, found}, queries.MemberLemmas.whole_above}
+use Rattle.club_tables.proofs.{changes.CancelLemmas.mapped_holds, statements.SelectLemmas.{text_equal, none_pass}, queries.KeyLemmas.{both_tests, one_named}}
 use Rattle.club_tables.proofs.statements.JoinLemmas.{is_counted, counted_some, passes, shown, with_count, answered_counted, counts_elements}
-use Rattle.club_tables.proofs.statements.{MeansLemmas.{Means, on_facilities, Steps}, PassLemmas.{contains_counts, each_row, found, Implies}}
-use Rattle.club_tables.proofs.statements.{SelectLemmas.{text_equal, none_pass}, UpdateLemmas.{Updates, updates}}
 use Rattle.club_rows.specs.Limits.{places_limit, price_limit, shutting_limit}
 use Rattle.club_core.specs.Office.{are_limits}
 use Rattle.club_tables.specs.ChangeStatements.{numbers_values}
-use Rattle.sqlite_sql.specs.declared.ops.CompareOp.TheVariants.{Gt}
 
 abbrev numbers_terms : List Term
 numbers_terms = col 1 0 ∷ col 1 0 ∷ col 1 1 ∷ col 1 2 ∷ col 0 1 ∷ col 0 2 ∷ col 0 3 ∷ col 0 4 ∷ []
@@ -26,13 +21,6 @@ crowd_tests = op2 (Compare Eq Binary) (col 2 1) (col 0 0) ∷ op2 (Compare Gt Bi
 
 abbrev numbers_tests : List Term
 numbers_tests = is_given 1 0 ∷ op1 Not (col 2 0) ∷ []
-
-abbrev numbers_query : Query
-numbers_query = select (inner facilities_tree (counted 1 (inner slots_tree end) crowd_tests end)) numbers_tests numbers_terms
-
-numbers_means : Means club_schema SET_NUMBERS.now (Update 2 (record { lets = []; body = numbers_query }))
-unfolding understood everything
-numbers_means = record { is = refl; plain = (refl, refl) }
 
 none_counted : {X : Type 0} (xs : List X) → is_true (unary Not (Int (pos (min 1 (length xs))))) ≡ not (is_counted (length xs))
 unfolding unary
@@ -61,31 +49,20 @@ module _ (rows : Rows) (once : AllPairs (λ (a : Facility) (b : Facility). a.nam
   abbrev is_renumbered : Facility → Bool
   is_renumbered f = is_named f && not (is_crowded name places rows.slots)
 
-  numbers_finds : WhenRan (SET_NUMBERS.now, params) rows (λ old new count. FindsOne facility_values is_renumbered is_named rows.facilities
+  pub numbers_finds : WhenRan (SET_NUMBERS.now, params) rows (λ old new count. FindsOne facility_values is_renumbered is_named rows.facilities
       (shown params crowd_tests numbers_tests numbers_terms (old.now.trees slots_tree)) old new facility_table count)
-  numbers_finds old new count holds_rows ran =
-      let others = old.now.trees slots_tree in
-      let before = old.now.trees facilities_tree in
-      let hit = passes params crowd_tests numbers_tests numbers_terms others in
-      let put : Updates old new facility_table numbers_query params count = updates numbers_means facility_table refl holds_rows.schema ran in
-      let hits = each_row facility_values hit is_renumbered (λ id f.
-      let as_row : Row = Int id ∷ facility_values f in
-      ap (λ n. list_all (holds (with_count params crowd_tests numbers_tests numbers_terms n as_row)) numbers_tests)
+  unfolding understood everything
+  numbers_finds =
+      finds_by 2 (λ trees. shown params crowd_tests numbers_tests numbers_terms (trees slots_tree))
+      (λ trees. passes params crowd_tests numbers_tests numbers_terms (trees slots_tree)) (record { is = refl; plain = (refl, refl) }) refl
+      (λ db holds_rows. holds_rows.held.facilities) (λ db holds_rows id f.
+      ap (λ n. list_all (holds (with_count params crowd_tests numbers_tests numbers_terms n (Int id ∷ facility_values f))) numbers_tests)
       (counts_elements params crowd_tests numbers_tests numbers_terms slot_values (crowds name places)
-      (λ id row s. both_tests _ _ _ _ (text_equal s.slot.facility name) (whole_above s.held.taken places)) others rows.slots holds_rows.held.slots as_row)
-      ∙ both_tests _ _ _ _ (text_equal f.name name) (none_counted (filter (crowds name places) rows.slots))) before rows.facilities
-      holds_rows.held.facilities.same in
-      let answer = answered_counted params crowd_tests numbers_tests numbers_terms facilities_tree slots_tree
-      (record { schema = club_schema; trees = old.now.trees }) put.rows put.answers in
-      let wide : Implies is_renumbered is_named = λ f passes. (and_parts (is_named f) _ passes).0 in
-      let low = one_named (λ (f : Facility). f.name) name rows.facilities once in
-      search rules
-
-  pub numbers_found : WhenRan (SET_NUMBERS.now, params) rows (λ old new count. 1 ≤ count → (f : Facility)
-      × (find is_named rows.facilities ≡ Some f) × (not (is_crowded name places rows.slots) ≡ true))
-  numbers_found old new count holds_rows ran some =
-      let one = one_found (numbers_finds old new count holds_rows ran) some in
-      (one.0, one.1, (and_parts (is_named one.0) _ one.2).1)
+      (λ id row s. both_tests _ _ _ _ (text_equal s.slot.facility name) (whole_above s.held.taken places)) (db.trees slots_tree) rows.slots
+      holds_rows.held.slots (Int id ∷ facility_values f))
+      ∙ both_tests _ _ _ _ (text_equal f.name name) (none_counted (filter (crowds name places) rows.slots)))
+      (answered_counted params crowd_tests numbers_tests numbers_terms facilities_tree slots_tree) (λ f passes. (and_parts (is_named f) _ passes).0)
+      (one_named (λ (f : Facility). f.name) name rows.facilities once)
 
   pub facility_renumbered : (f : Facility) → find is_named rows.facilities ≡ Some f → not (is_crowded name places rows.slots) ≡ true
       → Steps (SET_NUMBERS.now, params) rows (record rows { facilities = map (facility_with_numbers name places price opens shuts) rows.facilities })

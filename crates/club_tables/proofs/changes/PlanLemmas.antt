@@ -1,31 +1,25 @@
 -- Proof that the statements of a change apply the change to the tables.
-use Rattle.club_tables.proofs.Common.{rules, ◌≡◌, ℕ, ◌≤◌, ℤ, pos, neg_ℤ, Bool, Ok, None, List, Option, Some, refl, sym, subst, ◌∙◌, ◌≢◌, ◌+◌, ◌-◌, true}
-use Rattle.club_tables.proofs.Common.{if◌then◌else◌, [], ◌∷◌, ◌++◌, map, Contains, ap, arith, IsTrue, inl, inr, recursion_from_All, All-contains}
-use Rattle.club_tables.proofs.Common.{bytes_eq-Decides, find, option_map, bytes_eq, Database, Held, state, Row, binary, Arith, Add, cond, SlotUse, IsMember}
-use Rattle.club_tables.proofs.Common.{Executes, State, Ghosts, Int, good_until, after, cancelled_booking, credited_member, Club, member_named, key_named}
-use Rattle.club_tables.proofs.Common.{IsOwnedBy, IsTrueOf, FitsClub, booking_under, cost_of, taken_in, InsertMember, AddCredit, InsertFacility, InsertKey}
-use Rattle.club_tables.proofs.Common.{MarkRevoked, ReplaceRoot, MarkClosed, MarkOpen, ReplaceQuota, InsertBooking, MarkCancelled, StoreFault, same_slot}
-use Rattle.club_tables.proofs.Common.{persons_of, IsBooking, Booking, Facility, Key, Member, Slot, used_values, statements_of, adding_booking, cancelling}
-use Rattle.club_tables.proofs.Common.{whole, name_values, FailsInTurn, Rows, member_row, used_by, persons_taken, IsStoredAs, HoldsClub, HoldsRows, Ran}
-use Rattle.club_tables.proofs.Common.{transaction_start, BoundStatement, RanInTurn, MemberRow, ADD_USED, InLimits, ADD_TAKEN, CANCEL_BOOKING, SlotRow}
-use Rattle.club_tables.proofs.Common.{AllByRecursion, Has, has_found, has_contained, ◌&&◌, ◌==◌, false, list_any, unwrap_or, stored_slot_use, no_slot_use}
-use Rattle.club_tables.proofs.Common.{row_of, nat_le, nat_tests, unsigned_Decides, cancelling_with, is_closed, TakeCredit, ReplaceNumbers, AllPairs}
-use Rattle.club_tables.proofs.changes.AddLemmas.{take_use, booking_put, member_put, facility_put, key_put, slot_taken, slot_closed, slot_opened, open_use}
-use Rattle.club_tables.proofs.changes.AddLemmas.{older_represents, put_older}
-use Rattle.club_tables.proofs.changes.CancelLemmas.{booking_cancelled, cancel_found, there, used_back, taken_back, mapped_holds, used_less, taken_less}
-use Rattle.club_tables.proofs.changes.ChangeLemmas.{credit_found, whole_to, owner_found, AreKeysOnce, StoresKey, name_of, member_used, AreNamedOnce, used_row}
-use Rattle.club_tables.proofs.changes.ChangeLemmas.{StoresMember, one_found, member_credited, member_given, quota_found, root_found, key_revoked, revoke_finds}
-use Rattle.club_tables.proofs.changes.{ChangeLemmas.root_set, ChargeLemmas.{Charged, charge_found, member_charged}}
-use Rattle.club_tables.proofs.changes.DebitLemmas.{debit_found, enough_left, leaves, enough_if_fits, credited_little, member_debited, debit_stored}
-use Rattle.club_tables.proofs.changes.FoundLemmas.{contains_mapped, minus, few_taken, put_there, few_persons, facility_there, slot_placed, still_open}
-use Rattle.club_tables.proofs.changes.InTurnLemmas.{GoThrough, left_by}
-use Rattle.club_tables.proofs.changes.NumberLemmas.{numbers_found, few_in_rows, few_if_fits, facility_renumbered, numbers_stored}
-use Rattle.club_tables.proofs.changes.{ObeyLemmas.{bookings_apart, booking_facilities}, StoredLemmas.{taken_more, member_stored, credit_stored}}
-use Rattle.club_tables.proofs.changes.StoredLemmas.{facility_stored, key_stored, revoke_stored, rotate_stored, close_stored, open_stored, quota_stored}
-use Rattle.club_tables.proofs.{changes.StoredLemmas.{used_more, bookings_stored}, lists.KeyedRows.{put_slot, use_put, changed, not_same, same_itself}}
-use Rattle.club_tables.proofs.{lists.OwnerLemmas.{apart_last, all_last, owner_is}, queries.KeyLemmas.{same_slots, find_mapped, AreBookingsOnce}}
-use Rattle.club_tables.proofs.{queries.MemberLemmas.total, statements.{MeansLemmas.Steps, PassLemmas.{contains_counts, find_some, found}}}
-use Rattle.club_tables.proofs.statements.SelectLemmas.{apart_from_pairs, pairs_mapped}
+use Rattle.club_tables.proofs.Common.{◌≡◌, ℕ, ◌≤◌, ℤ, pos, neg_ℤ, Bool, List, Some, refl, sym, subst, ◌∙◌, ◌≢◌, ◌+◌, ◌-◌, true, if◌then◌else◌, [], ◌∷◌, ◌++◌}
+use Rattle.club_tables.proofs.Common.{map, Contains, ap, arith, recursion_from_All, All-contains, bytes_eq-Decides, find, option_map, bytes_eq, Database, Held}
+use Rattle.club_tables.proofs.Common.{state, Row, binary, Arith, Add, cond, SlotUse, IsMember, Ghosts, Int, good_until, after, cancelled_booking}
+use Rattle.club_tables.proofs.Common.{credited_member, Club, member_named, key_named, IsOwnedBy, FitsClub, booking_under, cost_of, taken_in, InsertMember}
+use Rattle.club_tables.proofs.Common.{AddCredit, InsertFacility, InsertKey, MarkRevoked, ReplaceRoot, MarkClosed, MarkOpen, ReplaceQuota, InsertBooking}
+use Rattle.club_tables.proofs.Common.{MarkCancelled, same_slot, persons_of, IsBooking, Booking, Facility, Key, Member, Slot, used_values, statements_of}
+use Rattle.club_tables.proofs.Common.{adding_booking, cancelling, whole, name_values, Rows, member_row, used_by, persons_taken, IsStoredAs, HoldsClub, Ran}
+use Rattle.club_tables.proofs.Common.{transaction_start, BoundStatement, MemberRow, ADD_TAKEN, CANCEL_BOOKING, SlotRow, Has, has_found, has_contained}
+use Rattle.club_tables.proofs.Common.{unwrap_or, stored_slot_use, no_slot_use, row_of, nat_le, nat_tests, unsigned_Decides, cancelling_with, TakeCredit}
+use Rattle.club_tables.proofs.{Common.{ReplaceNumbers, AllPairs}, changes.FoundLemmas.{contains_mapped, minus, few_taken, put_there, few_persons, still_open}}
+use Rattle.club_tables.proofs.changes.AddLemmas.{take_use, booking_put, member_put, facility_put, key_put, slot_taken, slot_closed, slot_opened}
+use Rattle.club_tables.proofs.changes.{AddLemmas.{older_represents, put_older}, NumberLemmas.{few_in_rows, few_if_fits, facility_renumbered, numbers_stored}}
+use Rattle.club_tables.proofs.{lists.KeyedRows.{put_slot, use_put, same_itself}, queries.KeyLemmas.{same_slots, find_mapped, AreBookingsOnce}}
+use Rattle.club_tables.proofs.changes.ChangeLemmas.{member_credited, member_given, key_revoked, root_set, whole_to, AreKeysOnce, StoresKey, name_of}
+use Rattle.club_tables.proofs.changes.{ChangeLemmas.{member_used, AreNamedOnce, used_row, StoresMember, member_debited}, ChargeLemmas.{Charged, member_charged}}
+use Rattle.club_tables.proofs.{statements.MeansLemmas.Steps, changes.InTurnLemmas.{GoThrough, left_by}, lists.OwnerLemmas.{all_last, owner_is}}
+use Rattle.club_tables.proofs.changes.CancelLemmas.{booking_cancelled, there, used_back, taken_back, mapped_holds, used_less, taken_less}
+use Rattle.club_tables.proofs.{changes.DebitLemmas.{enough_if_fits, credited_little, debit_stored}, statements.PassLemmas.{contains_counts, find_some, found}}
+use Rattle.club_tables.proofs.queries.MemberLemmas.{total}
+use Rattle.club_tables.proofs.changes.StoredLemmas.{taken_more, member_stored, credit_stored, facility_stored, key_stored, revoke_stored, rotate_stored}
+use Rattle.club_tables.proofs.{changes.StoredLemmas.{close_stored, open_stored, quota_stored, used_more, bookings_stored}, statements.SelectLemmas.pairs_mapped}
 use Rattle.club_core.specs.declared.change.Change.{Change}
 use Rattle.club_rows.specs.Limits.{credited_limit}
 
@@ -43,29 +37,6 @@ module _ {S : Type 0} (g : Ghosts S) (old : Held S) (club : Club) (tables : Hold
   members_once = subst AreNamedOnce (sym tables.storage.members)
       (pairs_mapped (λ (a : MemberRow) (b : MemberRow). name_of a ≢ name_of b) (member_row club) (λ row. row.member) club.members tables.sound.unique.members)
 
-  abbrev pub start : State
-  start = state g (transaction_start old)
-
-  pub member_of : (name : List ℕ) (row : MemberRow) → StoresMember name tables.rows.members row
-      → (m : Member) × (member_named name club ≡ Some m) × (row ≡ member_row club m)
-  member_of name row stores =
-      let is_of : MemberRow → Bool = λ r. bytes_eq (name_of r) name in
-      by (member_named name club) refl (sym (find_mapped is_of (member_row club) club.members)
-      ∙ subst (λ ms. find is_of ms ≡ Some row) tables.storage.members stores)
-    where
-      by : (o : Option Member) → member_named name club ≡ o → option_map (member_row club) o ≡ Some row
-          → (m : Member) × (member_named name club ≡ Some m) × (row ≡ member_row club m)
-      by None is e = absurd cc
-      by (Some m) is e = let same : row ≡ member_row club m = cc in (m, is, same)
-
-  owned_by : (at now : Held S) (rows : Rows) → HoldsRows (state g at).now rows → rows.keys ≡ club.keys → AreNamedOnce rows.members
-      → (member key : List ℕ) (points : ℤ) (count : ℕ)
-      → Executes ADD_USED.now (used_values member points key) (state g at) (state g now) (Ok count) → 1 ≤ count → IsOwnedBy member key club
-  owned_by at now rows holds_rows same once member key points count ran some =
-      let one = owner_found rows once member points key (subst AreKeysOnce (sym same) tables.sound.unique.keys) (state g at) (state g now) count holds_rows ran
-      some in
-      (one.0, subst (λ keys. StoresKey key keys one.0) same one.1, one.2)
-
   -- The rows after a booking is inserted.
   abbrev pub booked_rows : Booking → Rows
   booked_rows booking = record tables.rows { bookings = tables.rows.bookings ++ booking ∷ [] }
@@ -76,7 +47,7 @@ module _ {S : Type 0} (g : Ghosts S) (old : Held S) (club : Club) (tables : Hold
   abbrev pub filled_rows : Booking → Rows
   filled_rows booking = record (booked_rows booking) { slots = put_slot booking.slot (take_use (adds booking)) tables.rows.slots }
 
-  filled : (booking : Booking) → IsBooking booking → Contains (map (λ (f : Facility). f.name) club.facilities) booking.slot.facility
+  pub filled : (booking : Booking) → IsBooking booking → Contains (map (λ (f : Facility). f.name) club.facilities) booking.slot.facility
       → Steps (ADD_TAKEN.now, name_values booking.slot ++ Int (pos (persons_taken booking)) ∷ []) (booked_rows booking) (filled_rows booking)
   filled booking row known =
       let few = few_taken club tables.sound booking.slot known in
@@ -86,78 +57,6 @@ module _ {S : Type 0} (g : Ghosts S) (old : Held S) (club : Club) (tables : Hold
       (λ none. let e : persons_taken booking ≡ 0 + persons_taken booking = omega arith in ap pos e)
       (subst (λ (u : SlotUse). binary (Arith Add) (whole u.taken) (Int (pos (persons_taken booking))) ≡ whole (u.taken + persons_taken booking)) (sym held)
       (total (taken_in booking.slot club.bookings) (persons_taken booking) (omega (arith, few, persons))))
-
-  pub record BookedBy (booking : Booking) (member : List ℕ) (at : Held S) : Type 0 where
-    pub free : AllByRecursion (λ (b : Booking). (bytes_eq booking.key b.key && booking.number == b.number) ≡ false) tables.rows.bookings
-    pub known : Contains (map (λ (f : Facility). f.name) club.facilities) booking.slot.facility
-    pub charged : Charged (filled_rows booking) members_once member (pos (cost_of booking)) booking.key booking.slot
-
-  pub booked_by : (db : Database) (booking : Booking) (member : List ℕ) → IsBooking booking → (ran : Ran g 1 (adding_booking booking member) old db)
-      → BookedBy booking member ran.last
-  booked_by db booking member row ran =
-      let t1 = ran.turns in
-      let t2 = t1.3 in
-      let t3 = t2.3 in
-      let first = booking_put tables.rows booking start (state g t1.0) t1.1 tables.holds_rows t1.2 in
-      let known = subst (λ (fs : List Facility). Contains (map (λ (f : Facility). f.name) fs) booking.slot.facility) tables.storage.facilities
-      (all_last (λ (b : Booking). Contains (map (λ (f : Facility). f.name) tables.rows.facilities) b.slot.facility) tables.rows.bookings booking
-      (booking_facilities first.0)) in
-      let second = filled booking row known (state g t1.0) (state g t2.0) t2.1 first.0 t2.2 in
-      record {
-        free = bookings_apart first.0 tables.rows.bookings booking refl;
-        known = known;
-        charged = charge_found (filled_rows booking) members_once member (pos (cost_of booking)) booking.key booking.slot keys_once
-            (state g t2.0) (state g t3.0) t3.1 second.0 t3.2 t3.4;
-      }
-
-  pub is_true : (db : Database) (change : Change) → InLimits change → Ran g 1 (statements_of change) old db → IsTrueOf change club
-  is_true db (InsertMember member) within ran = tt
-  is_true db (InsertFacility facility) within ran = tt
-  is_true db (InsertKey key) within ran = within.1
-  is_true db (ReplaceNumbers name places price opens shuts) within ran =
-      let t = ran.turns in
-      let it = numbers_found tables.rows facilities_once name places price opens shuts start (state g t.0) t.1 tables.holds_rows t.2 t.4 in
-      (it.0, subst (λ fs. find (λ (f : Facility). bytes_eq f.name name) fs ≡ Some it.0) tables.storage.facilities it.1)
-  is_true db (AddCredit name points) within ran =
-      let t = ran.turns in
-      let row = credit_found tables.rows members_once name points start (state g t.0) t.1 tables.holds_rows t.2 t.4 in
-      let m = member_of name row.0 row.1 in (m.0, m.1)
-  is_true db (TakeCredit name points) within ran =
-      let t = ran.turns in
-      let row = debit_found tables.rows members_once name points start (state g t.0) t.1 tables.holds_rows t.2 t.4 in
-      let m = member_of name row.0 row.1 in
-      let left = enough_left club tables.sound name points m.0 m.1 within (subst (λ (r : MemberRow). leaves points r ≡ true) m.2 row.2) in
-      (m.0, m.1, omega (arith, left))
-  is_true db (ReplaceQuota name quota) within ran =
-      let t = ran.turns in
-      let row = quota_found tables.rows members_once name quota start (state g t.0) t.1 tables.holds_rows t.2 t.4 in
-      let m = member_of name row.0 row.1 in (m.0, m.1)
-  is_true db (MarkRevoked name) within ran =
-      let t = ran.turns in
-      let one = one_found (revoke_finds tables.rows keys_once name start (state g t.0) t.1 tables.holds_rows t.2) t.4 in
-      (one.0, subst (λ keys. StoresKey name keys one.0) tables.storage.keys one.1)
-  is_true db (ReplaceRoot name was root until) within ran =
-      let t1 = ran.turns in
-      let t2 = t1.3 in
-      let put = older_represents tables.rows tables.storage.olders_once name (good_until until was) start (state g t1.0) t1.1 tables.holds_rows t1.2 in
-      let one = root_found _ keys_once name root was (state g t1.0) (state g t2.0) t2.1 put.0 t2.2 t2.4 in
-      (one.0, subst (λ keys. StoresKey name keys one.0) tables.storage.keys one.1, one.2)
-  is_true db (MarkClosed slot) within ran = tt
-  is_true db (MarkOpen slot) within ran =
-      let t = ran.turns in
-      let put = slot_opened tables.rows tables.storage.once slot start (state g t.0) t.1 tables.holds_rows t.2 in
-      facility_there club slot.facility (slot_placed club.facilities tables.rows tables.storage.facilities slot open_use put.0)
-  is_true db (InsertBooking booking member) within ran =
-      let it = (booked_by db booking member within ran).charged in
-      (it.owner, subst (λ keys. StoresKey booking.key keys it.owner) tables.storage.keys it.known, it.own)
-  is_true db (MarkCancelled booking member refund) within ran =
-      let t1 = ran.turns in
-      let t2 = t1.3 in
-      let on_record = cancel_found tables.rows bookings_once booking refund start (state g t1.0) t1.1 tables.holds_rows t1.2 t1.4 in
-      let first = booking_cancelled tables.rows bookings_once booking refund on_record.0 on_record.1 start (state g t1.0) t1.1 tables.holds_rows t1.2 in (
-        (subst (λ bookings. booking_under booking.key booking.number bookings ≡ Some booking) tables.storage.bookings on_record.0, on_record.1),
-        owned_by t1.0 t2.0 _ first.0 tables.storage.keys members_once member booking.key (neg_ℤ (pos refund)) t2.1 t2.2 t2.4,
-      )
 
   pub filled_use : (booking : Booking) (row : SlotRow) → row_of booking.slot (filled_rows booking).slots ≡ Some row
       → row.held.taken ≡ taken_in booking.slot (club.bookings ++ booking ∷ [])

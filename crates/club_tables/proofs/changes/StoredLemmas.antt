@@ -6,12 +6,11 @@ use Rattle.club_tables.proofs.Common.{bytes_eq-Decides, or-true, or-false, recur
 use Rattle.club_tables.proofs.Common.{InsertMember, AddCredit, InsertFacility, InsertKey, MarkRevoked, ReplaceRoot, MarkClosed, InsertBooking, after}
 use Rattle.club_tables.proofs.Common.{credited_member, revoked_key, good_until, rotated_key, same_slot, persons_of, Club, IsSound, key_named, is_key_of}
 use Rattle.club_tables.proofs.Common.{is_closed, slot_use, older_root_of, IsOwnedBy, HasRoot, is_in, taken_in, cost_of, MemberRow, Rows, OlderRow, IsStoredAs}
-use Rattle.club_tables.proofs.Common.{older_by, member_row, used_by, persons_taken, map-map, MarkOpen, ReplaceQuota}
+use Rattle.club_tables.proofs.{Common.{older_by, member_row, used_by, persons_taken, map-map, MarkOpen, ReplaceQuota}, queries.MemberLemmas.any_filtered}
 use Rattle.club_tables.proofs.changes.AddLemmas.{new_row, close_use, open_use, take_use, put_older, older_put, put_once as olders_once}
 use Rattle.club_tables.proofs.{changes.ChangeLemmas.{credited_row, quota_row, used_row}, lists.KeyedRows.{put_slot, use_put, slot_once, not_same}}
 use Rattle.club_tables.proofs.{lists.OwnerLemmas.{map_agree, apart_last, not_among, unequal, sum_more, owner_is}, queries.KeyLemmas.{find_mapped, same_slots}}
-use Rattle.club_tables.proofs.{queries.MemberLemmas.any_filtered, statements.PassLemmas.found}
-use Rattle.club_tables.proofs.statements.{SelectLemmas.{apart_from_pairs, none_pass, filter_same, none_of}, UpdateLemmas.each_of}
+use Rattle.club_tables.proofs.statements.{PassLemmas.found, SelectLemmas.{apart_from_pairs, none_pass, filter_same, none_of}, UpdateLemmas.each_of}
 use Rattle.club_core.specs.After.{closed_but, member_with_quota}
 
 -- Lemmas about the rows of members.

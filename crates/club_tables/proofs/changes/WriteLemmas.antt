@@ -2,15 +2,13 @@
 use Rattle.club_tables.proofs.Common.{◌≡◌, ◌<◌, length, List, [], ◌∷◌, IsTrue, Result, Ok, Err, OnOk, OnErr, inl, inr, refl, sym, subst, arith, MatchResult}
 use Rattle.club_tables.proofs.Common.{IfErr-weaker, on_err_weaker, Trees, Ghosts, Database, HasCleanDisk, Survives, Held, state, after, IsSound, FitsClub, Club}
 use Rattle.club_tables.proofs.Common.{StoreFault, HoldsClub, IsLeftOf, Represents, ChangesClub, IsChangeFault, IsRunFault, InLimits, BoundStatement, Ran}
-use Rattle.club_tables.proofs.Common.{IsKept, transaction_start, Commits, FailsToRun, AreStatementsOf, statements_of, ℕ, ◌≤◌, ◌++◌, true, if◌then◌else◌}
-use Rattle.club_tables.proofs.Common.{recursion_from_All, Member, Facility, Key, Booking, IsMember, IsFacility, IsBooking, InsertMember, InsertFacility}
-use Rattle.club_tables.proofs.Common.{InsertKey, InsertBooking, MarkCancelled, cancelled_booking, is_marked, ReplaceQuota, bytes_eq}
-use Rattle.club_tables.proofs.changes.{CancelLemmas.mapped_holds, FitLemmas.fits_if_ran, InTurnLemmas.less_in_turn, PlanLemmas.{plan, made}}
-use Rattle.club_tables.proofs.crashes.{RepresentsLemmas.represents_by, SurviveLemmas.{may_commit, kept_when_idle, commits_nothing, survives_itself}}
-use Rattle.club_tables.proofs.{lists.OwnerLemmas.all_last, opening.OpenLemmas.{IsSettled, settles}, queries.{KeyLemmas.is_numbered, ReadLemmas.at_once}}
-use Rattle.club_tables.proofs.statements.PassLemmas.{found}
-use Rattle.club_rows.specs.{Limits.quota_limit, Rows.IsKey}
-use Rattle.club_core.specs.{After.member_with_quota, declared.{change.Change.Change, store.StoreFault.TheVariants.Storage}}
+use Rattle.club_tables.proofs.Common.{IsKept, transaction_start, Commits, FailsToRun, AreStatementsOf, statements_of, ℕ, ◌≤◌, true, if◌then◌else◌, Member}
+use Rattle.club_tables.proofs.Common.{Booking, IsMember, IsBooking, MarkCancelled, cancelled_booking, is_marked, ReplaceQuota, bytes_eq}
+use Rattle.club_tables.proofs.{changes.CancelLemmas.mapped_holds, crashes.RepresentsLemmas.represents_by, queries.{KeyLemmas.is_numbered, ReadLemmas.at_once}}
+use Rattle.club_tables.proofs.{changes.{FitLemmas.fits_if_ran, InTurnLemmas.less_in_turn, PlanLemmas.{plan, made}}, statements.PassLemmas.found}
+use Rattle.club_tables.proofs.{crashes.SurviveLemmas.{may_commit, kept_when_idle, commits_nothing, survives_itself}, opening.OpenLemmas.{IsSettled, settles}}
+use Rattle.club_rows.specs.Limits.{quota_limit}
+use Rattle.club_core.specs.{After.member_with_quota, declared.{store.StoreFault.TheVariants.Storage, change.Change.Change}}
 use Rattle.club_laws.specs.SoundRuns.{SuitingChangesKeepSound}
 
 module _ {S : Type 0} (g : Ghosts S) (all : List BoundStatement) (some : 0 < length all) (old new : Held S)
@@ -105,20 +103,6 @@ refuses {g = g} change out within_if_fits held = record {
   fault = λ clean. inr (out, refl);
   fault_if_fits = λ clean club others represents fits. absurd (out (within_if_fits club fits));
 }
-
-pub member_if_fits : (member : Member) (club : Club) → FitsClub (InsertMember member) club → IsMember member
-member_if_fits member club fits = all_last IsMember club.members member (recursion_from_All IsMember (club.members ++ member ∷ []) fits.sound.rows.members)
-
-pub facility_if_fits : (facility : Facility) (club : Club) → FitsClub (InsertFacility facility) club → IsFacility facility
-facility_if_fits facility club fits =
-    all_last IsFacility club.facilities facility (recursion_from_All IsFacility (club.facilities ++ facility ∷ []) fits.sound.rows.facilities)
-
-pub new_key_if_fits : (key : Key) (club : Club) → FitsClub (InsertKey key) club → InLimits (InsertKey key)
-new_key_if_fits key club fits = (all_last IsKey club.keys key (recursion_from_All IsKey (club.keys ++ key ∷ []) fits.sound.rows.keys), fits.carries)
-
-pub booking_if_fits : (booking : Booking) (member : List ℕ) (club : Club) → FitsClub (InsertBooking booking member) club → IsBooking booking
-booking_if_fits booking member club fits =
-    all_last IsBooking club.bookings booking (recursion_from_All IsBooking (club.bookings ++ booking ∷ []) fits.sound.rows.bookings)
 
 pub quota_if_fits : (name : List ℕ) (quota : ℕ) (club : Club) → FitsClub (ReplaceQuota name quota) club → quota ≤ quota_limit
 quota_if_fits name quota club fits =

@@ -3,7 +3,7 @@ use Rattle.club_tables.proofs.Common.{rules, Trees, IsLeftOf, filter, IsPermutat
 use Rattle.club_tables.proofs.Common.{Int, Row, Schema, Ghosts, Database, Reads, Select, Term, holds, eval_all, Query, inner, end, understood, reads_listing}
 use Rattle.club_tables.proofs.Common.{State, HasCleanDisk, Survives, Shown, Held, state, survives_then, IsPlain, command_of, reads_as, Club, club_schema}
 use Rattle.club_tables.proofs.Common.{key_values, booking_values, HoldsClub, Holds, RepresentsBy, Represents, keys_tree, bookings_tree, select, BoundStatement}
-use Rattle.club_tables.proofs.{Common.{Asked, IsKept, transaction_start}, statements.SelectLemmas.selected}
+use Rattle.club_tables.proofs.{Common.{Asked, IsKept, transaction_start, shown}, statements.SelectLemmas.selected}
 
 pub represents_by : (IsHeld : Database → Club → Type 0) (old new : State) → IsKept old new → (HasCleanDisk new → HasCleanDisk old) → (club : Club)
     (others next : List Club) → RepresentsBy IsHeld old club others
@@ -36,20 +36,24 @@ pub asked_reads : {S : Type 0} {g : Ghosts S} {sql : List ℕ} {params : Row} {o
 asked_reads {g = g} {sql = sql} {params = params} {old = old} {rows = rows} {schema = schema} asked asks over =
     reads_as sql params (state g (transaction_start old)) (state g asked.mid) schema over _ asks.is asks.plain asks.unlisted rows asked.shown
 
-pub asked_shows : {S : Type 0} {g : Ghosts S} {sql : List ℕ} {params : Row} {old : Held S} {rows : List Row} {tree : ℕ} {tests project : List Term}
-    {names : List (List ℕ)} {club : Club} → Asked g sql params old rows → Asks club_schema sql (select (inner tree end) tests project) names
-    → HoldsClub (state g old).now club → {X : Type 0} (values : X → Row) (p : X → Bool) (show : X → Row)
-    → ((id : ℤ) (x : X) → list_all (holds (params ∷ (Int id ∷ values x) ∷ [])) tests ≡ p x)
-    → ((id : ℤ) (x : X) → eval_all project (params ∷ (Int id ∷ values x) ∷ []) ≡ show x)
-    → (xs : List X) → Holds values ((state g old).now.trees tree) xs → IsPermutation (map show (filter p xs)) rows
-asked_shows {g = g} {params = params} {old = old} {rows = rows} {tree = tree} {tests = tests} {project = project} {names = names} asked asks tables values p
-    show tested shown xs held =
-    selected values params tests project p show tested shown tree names (state g old).now xs rows held (asked_reads asked asks tables.holds_rows.schema)
-
 abbrev pub Shows : {S : Type 0} → Ghosts S → Held S → BoundStatement → (Club → List Row → Type 0) → Type 0
 Shows g old statement IsShown =
     (rows : List Row) → HasCleanDisk (state g old) → Asked g statement.0 statement.1 old rows → (club : Club) (others : List Club)
     → Represents (state g old) club others → IsShown club rows
+
+-- The query returns the elements that pass a test.
+pub shown_by : {S : Type 0} {g : Ghosts S} {old : Held S} {sql : List ℕ} {params : Row} {tree : ℕ} {tests project : List Term} {names : List (List ℕ)}
+    {IsShown : Club → List Row → Type 0} → Asks club_schema sql (select (inner tree end) tests project) names → {X : Type 0} (values : X → Row) (p : X → Bool)
+    (show : X → Row) → ((id : ℤ) (x : X) → list_all (holds (params ∷ (Int id ∷ values x) ∷ [])) tests ≡ p x)
+    → ((id : ℤ) (x : X) → eval_all project (params ∷ (Int id ∷ values x) ∷ []) ≡ show x)
+    → ((club : Club) (tables : HoldsClub (state g old).now club) → (xs : List X) × Holds values ((state g old).now.trees tree) xs
+    × ((rows : List Row) → IsPermutation (map show (filter p xs)) rows → IsShown club rows)) → Shows g old (sql, params) IsShown
+shown_by {g = g} {old = old} {params = params} {tree = tree} {tests = tests} {project = project} {names = names} asks values p show tested shown each rows
+    clean asked club others represents =
+    let tables = asked_tables asked clean club others represents in
+    let it = each club tables in
+    it.2 rows (selected values params tests project p show tested shown tree names (state g old).now it.0 rows it.1
+    (asked_reads asked asks tables.holds_rows.schema))
 
 pub survives_none : (a b c : State) → Survives a b (λ _. ⊥) → Survives b c (λ _. ⊥) → Survives a c (λ _. ⊥)
 survives_none a b c p q = survives_then a b c (λ _. ⊥) (λ _. ⊥) (λ _. ⊥) (λ _ db none. none) (λ _ db none. none) p q

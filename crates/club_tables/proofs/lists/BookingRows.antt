@@ -8,7 +8,7 @@ use Rattle.club_tables.proofs.lists.RowLemmas.{zip_more}
 use Rattle.club_core.specs.Sheet.{AreRowsOf}
 use Rattle.club_tables.specs.Use.{ShowsUse}
 use Rattle.std.proofs.lemmas.Iterator.Adapters.{option_map_id}
-use Rattle.club_values.specs.{Kind.kind_text, declared.kind.Kind.{Kind, TheVariants.{Court, Boat, Room}}}
+use Rattle.club_values.specs.{Kind.kind_text, declared.kind.Kind.{TheVariants.{Court, Boat, Room}, Kind}}
 use Rattle.club_rows.specs.{Key.{key_of_row, row_of_key}, declared.key.KeyRow.KeyRow}
 
 pub truths : (a b : Bool) → truth a ≡ truth b → a ≡ b

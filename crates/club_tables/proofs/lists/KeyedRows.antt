@@ -1,10 +1,10 @@
 -- Lemmas about lists with at most one row for each primary key, such as the rows of slots.
 use Rattle.club_tables.proofs.Common.{◌≡◌, ◌≢◌, Bool, true, false, cond, if◌then◌else◌, Option, Some, None, List, [], ◌∷◌, ◌++◌, map, refl, sym, ap, subst, ◌∙◌}
-use Rattle.club_tables.proofs.Common.{true≢false, ℤ, ◌==◌, find, option_map, AllPairs, unwrap_or, option_or, list_any, false_from_ne_true, or_parts}
+use Rattle.club_tables.proofs.Common.{true≢false, ℤ, ◌==◌, find, option_map, AllPairs, unwrap_or, option_or, list_any, false_from_ne_true, or_parts, slots_tree}
 use Rattle.club_tables.proofs.Common.{find-append, list_any_at, bytes_eq, nat_list_eq_equiv, nat_eq_equiv, or-false, Value, Int, first_key, Table, conflicts}
 use Rattle.club_tables.proofs.Common.{Slot, SlotUse, same_slot, slots_table, club_schema, name_values, slot_values, SlotRow, no_slot_use, stored_slot_use}
-use Rattle.club_tables.proofs.{Common.slots_tree, queries.KeyLemmas.{same_slots, three, find_mapped}, statements.PassLemmas.{any_counts, find_some, found}}
-use Rattle.club_tables.proofs.statements.SelectLemmas.{Apart, apart_from_pairs, text_equal, whole_equal, pairs_mapped}
+use Rattle.club_tables.proofs.{queries.KeyLemmas.{same_slots, three, find_mapped}, statements.PassLemmas.{any_counts, find_some, found}}
+use Rattle.club_tables.proofs.statements.{SelectLemmas.{Apart, apart_from_pairs, text_equal, whole_equal, pairs_mapped, IsLone}, PutLemmas.put_among}
 use Rattle.std.proofs.lemmas.List.Quantifiers.{all_pairs_push}
 
 pub absent : {X : Type 0} (p : X → Bool) (xs : List X) → list_any p xs ≡ false → find p xs ≡ None
@@ -26,11 +26,8 @@ module _ {X K : Type 0} (key_of : X → K) (same : K → K → Bool) (same_keys 
   abbrev named : K → List X → Option X
   named name rows = find (λ (x : X). same (key_of x) name) rows
 
-  abbrev IsLone : X → X → Type 0
-  IsLone a b = ¬ ((is_of a ≡ true) × (is_of b ≡ true))
-
-  pub lone : (rows : List X) → AllPairs Differ rows → Apart IsLone rows
-  lone rows once = apart_from_pairs IsLone rows (λ i j d less low both.
+  pub lone : (rows : List X) → AllPairs Differ rows → Apart (IsLone is_of) rows
+  lone rows once = apart_from_pairs (IsLone is_of) rows (λ i j d less low both.
       once i j d less low (same_keys _ key both.0 ∙ sym (same_keys _ key both.1)))
 
   module _ (changed : X → X) (kept : (x : X) → key_of (changed x) ≡ key_of x) (first : X) (of_key : key_of first ≡ key) where
@@ -82,9 +79,6 @@ module _ {X K : Type 0} (key_of : X → K) (same : K → K → Bool) (same_keys 
 abbrev pub slot_table : Table
 slot_table = record slots_table { tree = slots_tree }
 
-abbrev pub AreApart : List SlotRow → Type 0
-AreApart = Apart (λ (a : SlotRow) (b : SlotRow). a.slot ≢ b.slot)
-
 pub slots_conflict : (id id' : ℤ) (a : SlotRow) (b : Slot) (v w : Value) → conflicts (Some (1 ∷ 2 ∷ 3 ∷ [])) club_schema.indexes slot_table (Int id'
     ∷ name_values b ++ v ∷ w ∷ []) (Int id ∷ slot_values a) ≡ same_slot a.slot b
 unfolding first_key
@@ -107,7 +101,7 @@ module _ (slot : Slot) (change : SlotUse → SlotUse) where
 
   -- The rows of slots after the slot's row is updated, or inserted if the slot had no row.
   abbrev pub put_slot : List SlotRow → List SlotRow
-  put_slot rows = if list_any (λ (row : SlotRow). same_slot row.slot slot) rows then map changed rows else rows ++ new_row ∷ []
+  put_slot = put_among (λ row. same_slot row.slot slot) changed new_row
 
   pub same_row : (row : SlotRow) → same_slot row.slot slot ≡ false → changed row ≡ row
   same_row row fails = ap (λ b. let r : SlotRow = record row { held = if b then change row.held else row.held } in r) fails

@@ -2,8 +2,8 @@
 use Rattle.club_tables.proofs.Common.{◌≡◌, ◌≢◌, ℕ, ◌+◌, Bool, true, false, cond, List, [], ◌∷◌, ◌++◌, map, Some, Contains, refl, sym, ap, ◌∙◌, arith, filter}
 use Rattle.club_tables.proofs.Common.{find, sum_by, AllByRecursion, list_any, bytes_eq, false_from_ne_true, sum_by-cons, sum_by_push, bytes_eq-Decides}
 use Rattle.club_tables.proofs.Common.{nat_list_eq_equiv, and_comm, or-false, option_to_list, Key, Club, IsSound, is_key_of, IsOwnedBy, all_weaker, all-map}
-use Rattle.club_tables.proofs.{Common.{all_has, has_last, has_contained}, queries.{KeyLemmas.{one_listed, one_named}, MemberLemmas.any_filtered}}
-use Rattle.club_tables.proofs.statements.SelectLemmas.{Apart}
+use Rattle.club_tables.proofs.{Common.{all_has, has_last, has_contained}, statements.SelectLemmas.{one_listed, Apart, IsLone}, queries.KeyLemmas.one_named}
+use Rattle.club_tables.proofs.queries.MemberLemmas.{any_filtered}
 
 pub map_agree : {X Y : Type 0} (f g : X → Y) → ((x : X) → f x ≡ g x) → (xs : List X) → map f xs ≡ map g xs
 map_agree f g same xs = λ i. map (λ x. same x i) xs
@@ -34,14 +34,11 @@ sum_more {X} w q xs x =
     omega (arith, sum_picked w q (xs ++ x ∷ []), sum_picked w q xs, sum_by_push c xs x)
 
 module _ {X : Type 0} (p : X → Bool) (f : X → X) (kept : (x : X) → p x ≡ false → f x ≡ x) where
-  abbrev pub IsAlone : X → X → Type 0
-  IsAlone x y = ¬ ((p x ≡ true) × (p y ≡ true))
-
-  pub none_changed : (xs : List X) → AllByRecursion (λ x. p x ≡ false) xs → map f xs ≡ xs
+  none_changed : (xs : List X) → AllByRecursion (λ x. p x ≡ false) xs → map f xs ≡ xs
   none_changed [] h = refl
   none_changed (x ∷ xs) h = let e = kept x h.0 in let more = none_changed xs h.1 in cc
 
-  sum_changed : (c : X → ℕ) (xs : List X) (x : X) → Apart IsAlone xs → find p xs ≡ Some x → sum_by c (map f xs) + c x ≡ sum_by c xs + c (f x)
+  sum_changed : (c : X → ℕ) (xs : List X) (x : X) → Apart (IsLone p) xs → find p xs ≡ Some x → sum_by c (map f xs) + c x ≡ sum_by c xs + c (f x)
   sum_changed c [] x alone is = absurd cc
   sum_changed c (y ∷ xs) x alone is = go (sum_changed c xs x alone.1) (p y) refl is
     where
@@ -49,12 +46,12 @@ module _ {X : Type 0} (p : X → Bool) (f : X → X) (kept : (x : X) → p x ≡
           → sum_by c (map f (y ∷ xs)) + c x ≡ sum_by c (y ∷ xs) + c (f x)
       go later true passes e =
           let same : y ≡ x = cc in
-          let fail = all_weaker (IsAlone y) _ (λ z apart. false_from_ne_true (p z) (λ h. apart (passes, h))) xs alone.0 in
+          let fail = all_weaker (IsLone p y) _ (λ z apart. false_from_ne_true (p z) (λ h. apart (passes, h))) xs alone.0 in
           let rest : sum_by c (map f xs) ≡ sum_by c xs = ap (sum_by c) (none_changed xs fail) in
           omega (arith, sum_by-cons c (f y) (map f xs), sum_by-cons c y xs, rest, ap c same, ap (λ z. c (f z)) same)
       go later false fails e = omega (arith, sum_by-cons c (f y) (map f xs), sum_by-cons c y xs, later e, ap c (kept y fails))
 
-  pub picked_changed : (w : X → ℕ) (q : X → Bool) (xs : List X) (x : X) → Apart IsAlone xs → find p xs ≡ Some x
+  pub picked_changed : (w : X → ℕ) (q : X → Bool) (xs : List X) (x : X) → Apart (IsLone p) xs → find p xs ≡ Some x
       → sum_by w (filter q (map f xs)) + cond (q x) (w x) 0 ≡ sum_by w (filter q xs) + cond (q (f x)) (w (f x)) 0
   picked_changed w q xs x alone is =
       let c : X → ℕ = λ y. cond (q y) (w y) 0 in

@@ -3,8 +3,7 @@ use Rattle.club_tables.proofs.Common.{◌≡◌, ℤ, pos, ◌+ℤ◌, List, [],
 use Rattle.club_tables.proofs.Common.{value_cmp_total, value_cmp-Int, id_in, IsRowOf, Holds}
 use Rattle.std.proofs.lemmas.Int.{ints}
 use Rattle.sqlite_value.specs.Order.{Row, value_cmp}
-use Rattle.sqlite_trees.specs.Tree.{rowid, put_row, IsTable}
-use Rattle.sqlite_trees.proofs.TreeLemmas.{IsTable-put_row}
+use Rattle.sqlite_trees.{specs.Tree.{rowid, put_row, IsTable}, proofs.TreeLemmas.IsTable-put_row}
 use Rattle.sqlite_rules.specs.Edit.{next_rowid}
 
 abbrev pub IsKeyed : Row → Type 0

@@ -1,16 +1,14 @@
 -- Lemmas about the number of persons in a slot, which is stored in the slot's row.
-use Rattle.club_tables.proofs.Common.{◌≡◌, ◌≢◌, ◌⊎◌, ℕ, Bool, true, None, Option, Some, List, [], ◌∷◌, refl, sym, ap, ◌∙◌, inl, inr, filter, option_map}
-use Rattle.club_tables.proofs.Common.{unwrap_or, slice_get, AllPairs, Has, has_kept, has_contained, Club, Slot, SlotRow, SlotUse, same_slot, taken_in, row_of}
-use Rattle.club_tables.proofs.{Common.{no_slot_use, Rows, IsStoredAs}, lists.KeyedRows.same_itself, queries.KeyLemmas.same_slots, statements.PassLemmas.found}
-use Rattle.club_tables.proofs.statements.SelectLemmas.{apart_from_pairs, find_first, only, one_passes}
+use Rattle.club_tables.proofs.Common.{◌≡◌, ◌≢◌, ◌⊎◌, Bool, None, Option, Some, List, refl, sym, ap, ◌∙◌, inl, inr, filter, option_map, unwrap_or, slice_get}
+use Rattle.club_tables.proofs.Common.{AllPairs, Has, has_kept, has_contained, Club, Slot, SlotRow, SlotUse, same_slot, taken_in, row_of, no_slot_use, Rows}
+use Rattle.club_tables.proofs.{Common.IsStoredAs, statements.PassLemmas.found}
+use Rattle.club_tables.proofs.{lists.KeyedRows.same_itself, queries.KeyLemmas.{same_slots, one_slot}, statements.SelectLemmas.{find_first, only}}
 
 pub the_slot : (slot : Slot) (rows : List SlotRow) (x : SlotRow) → AllPairs (λ (a : SlotRow) (b : SlotRow). a.slot ≢ b.slot) rows → Has rows x → x.slot ≡ slot
     → row_of slot rows ≡ Some x
 the_slot slot rows x once has same =
     let is_of : SlotRow → Bool = λ row. same_slot row.slot slot in
-    let R : SlotRow → SlotRow → Type 0 = λ a b. a.slot ≢ b.slot in
-    let low = one_passes R is_of rows (λ a b p q apart. apart (same_slots a.slot slot p ∙ sym (same_slots b.slot slot q))) (apart_from_pairs R rows once) in
-    find_first is_of rows ∙ ap (λ ys. slice_get ys 0) (only (filter is_of rows) x low
+    find_first is_of rows ∙ ap (λ ys. slice_get ys 0) (only (filter is_of rows) x (one_slot slot rows once)
     (has_kept is_of rows x has (ap (λ s. same_slot s slot) same ∙ same_itself slot)))
 
 module _ (club : Club) (rows : Rows) (stored : IsStoredAs club rows) where

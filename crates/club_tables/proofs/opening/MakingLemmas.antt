@@ -1,15 +1,17 @@
 -- Lemmas about the statements that create the tables, migrate tables of version 1, or create the
 -- index of the bookings.
-use Rattle.club_tables.proofs.Common.{◌≡◌, pos, List, [], ◌∷◌, refl, sym, ap, subst, ◌∙◌, arith, ℕ, true, inl, inr, is_ok, rules, everything, Null, Int, Ghosts}
+use Rattle.club_tables.proofs.Common.{◌≡◌, pos, List, [], ◌∷◌, refl, sym, ap, subst, ◌∙◌, arith, true, inl, inr, is_ok, rules, everything, Null, Int, Ghosts}
 use Rattle.club_tables.proofs.Common.{Term, lit, col, Values, Insert, Update, Database, understood, ExecutesIn, HasCleanDisk, Survives, Held, state, inner, end}
 use Rattle.club_tables.proofs.Common.{Table, IsSound, empty_club, Club, ADD_VERSION, SET_VERSION, DROP_BOOKINGS_BY_KEY, no_schema, desk_table, club_schema}
 use Rattle.club_tables.proofs.Common.{unindexed_schema, whole, version_values, table_batch, HasNoDesk, migration, index_batch, Rows, IsStoredAs, HoldsClub}
 use Rattle.club_tables.proofs.Common.{HoldsRows, Holds, HoldsClubVersion1, HoldsRowsVersion1, HoldsTrees, RepresentsVersion1, desk_tree, HoldsClubUnindexed}
 use Rattle.club_tables.proofs.Common.{HoldsRowsWith, Represents, RepresentsVersion2, HoldsClubVersion2, Ran, transaction_start, IsKept, IsUnderstood, select}
-use Rattle.club_tables.proofs.{crashes.RepresentsLemmas.represents_on, lists.RowLemmas.{holds_more, holds_none}}
+use Rattle.club_tables.proofs.{crashes.RepresentsLemmas.represents_on, statements.SelectLemmas.{answered, shows}, opening.VersionLemmas.desk_made}
+use Rattle.club_tables.proofs.{lists.RowLemmas.{holds_more, holds_none}, statements.UpdateLemmas.{updates, FindsOne, one_changed}}
 use Rattle.club_tables.proofs.opening.MakesLemmas.{makes_six, makes_keys_by_member, makes_old_roots, makes_bookings_by_key, indexes_again, never_ran}
-use Rattle.club_tables.proofs.{opening.VersionLemmas.desk_made, statements.InsertLemmas.{creates, indexes, inserts, cast_null, cast_int}}
-use Rattle.club_tables.proofs.statements.{MeansLemmas.{Means, but, others_kept, trees_kept}, UpdateLemmas.{updates, finds, changes_one}}
+use Rattle.club_tables.proofs.statements.{InsertLemmas.{creates, indexes, inserts, cast_null, cast_int}, MeansLemmas.{Means, but, others_kept, trees_kept}}
+use Rattle.club_tables.specs.Tables.{without_olders}
+use Rattle.sqlite_trees.proofs.ListLemmas.{all_both}
 
 abbrev version_terms : List Term
 version_terms = lit Null ∷ lit (Int (pos 2)) ∷ []
@@ -104,25 +106,30 @@ module _ {S : Type 0} (g : Ghosts S) (old : Held S) (db : Database) (ran : Ran g
       let c2 = indexes makes_bookings_by_key (state g t1.0) (state g t2.0) c1.1 t2.1 t2.2 in
       let put = updates second_means version_table refl {old = state g t2.0} {new = state g t3.0} c2.0 t3.2 in
       let next = (state g t3.0).now in
-      let kept = c2.1 in
       let is : db ≡ next = ran.is ∙ ap (λ h. (state g h).now) t3.3 in
-      let was : HoldsTrees 1 mid.trees rows = trees_kept (
-        kept.0 ∙ c1.3.0,
-        (
-          kept.1.0 ∙ c1.3.1.0,
-          (
-            kept.1.1.0 ∙ c1.3.1.1.0,
-            (kept.1.1.1.0 ∙ c1.3.1.1.1.0, (kept.1.1.1.1.0 ∙ c1.3.1.1.1.1.0, (kept.1.1.1.1.1.0 ∙ c1.3.1.1.1.1.1.0, (kept.1.1.1.1.1.1.0 ∙ c1.2, tt)))),
-          ),
-        ),
-      ) holds_rows.held in
-      let found = finds {X = ℕ} version_values (λ _. true) (1 ∷ []) put was.version (λ id n. refl) in
-      let two = changes_one found (λ _. true) (refl, tt) (λ _. 2) (λ n fails. absurd cc) (λ _. Unit {0}) (tt, tt) (λ id n _ passes. refl)
-      (λ id n. rw (cast_int id, cast_int (pos n)) refl) (omega arith) in
-      let k = trees_kept {new = but desk_tree mid.trees next.trees} (others_kept desk_tree mid.trees next.trees club_schema.tables put.wrote.others) was in
-      let schema = put.wrote.schema in
-      let left : HoldsRows next rows = search rules in
-      subst (λ (d : Database). HoldsRows d rows) (sym is) left
+      let first = without_olders (state g old).now.trees in
+      let made = (state g t1.0).now.trees in
+      let was : HoldsTrees 1 mid.trees rows = trees_kept (all_both (λ t. mid.trees t.tree ≡ made t.tree) (λ t. made t.tree ≡ first t.tree)
+      (λ t. mid.trees t.tree ≡ first t.tree) (λ t p q. p ∙ q) club_schema.tables c2.1
+      (c1.3.0, (c1.3.1.0, (c1.3.1.1.0, (c1.3.1.1.1.0, (c1.3.1.1.1.1.0, (c1.3.1.1.1.1.1.0, (c1.2, tt)))))))) holds_rows.held in
+      let one : FindsOne version_values (λ _. true) (λ _. true) (1 ∷ []) (shows [] [] second_terms) (state g t2.0) (state g t3.0) version_table t3.1 =
+      record {
+        query = select (inner desk_tree end) [] second_terms;
+        params = [];
+        put = put;
+        held = was.version;
+        hit = λ _. true;
+        hits = λ id n. refl;
+        answer = answered [] [] second_terms desk_tree (record { schema = club_schema; trees = mid.trees }) put.rows put.answers;
+        wide = λ n passes. passes;
+        low = omega arith;
+      } in
+      let left = one_changed one 1 refl refl (λ _. 2) (λ n fails. absurd cc) (λ id passes. refl) (λ id n. simp cast_int) (λ wrote version.
+      let k = trees_kept {new = but desk_tree mid.trees next.trees} (others_kept desk_tree mid.trees next.trees club_schema.tables wrote.others) was in
+      let schema = wrote.schema in
+      let now : HoldsRows next rows = search rules in
+      now) in
+      subst (λ (d : Database). HoldsRows d rows) (sym is) left.0
 
 pub holds_first : {S : Type 0} (g : Ghosts S) (old : Held S) (db : Database) → Ran g 0 migration old db → HasCleanDisk (state g old)
     → (club : Club) (others : List Club) → RepresentsVersion1 (state g old) club others → HoldsClub db club

@@ -4,9 +4,9 @@ use Rattle.club_tables.proofs.Common.{arith, is_ok, on_ok_weaker, on_err_weaker,
 use Rattle.club_tables.proofs.Common.{HasValues, version_values, select, Ghosts, Trees, Database, State, HasCleanDisk, Shown, Held, state, Club, StoreFault}
 use Rattle.club_tables.proofs.Common.{club_schema, first_schema, unindexed_schema, no_schema, HoldsClub, HoldsClubVersion2, Holds, desk_tree, RepresentsBy}
 use Rattle.club_tables.proofs.Common.{Represents, RepresentsVersion1, RepresentsVersion2, IsFound, IsOpeningBatch, RunsBatch, table_batch, BoundStatement}
-use Rattle.club_tables.proofs.{Common.{Asked, Ran, IsKept, Commits}, crashes.RepresentsLemmas.{represents_by, Asks, asked_open, asked_reads}}
+use Rattle.club_tables.proofs.Common.{Asked, Ran, IsKept, Commits}
+use Rattle.club_tables.proofs.{crashes.RepresentsLemmas.{represents_by, Asks, asked_open, asked_reads}, statements.SelectLemmas.{selected, short_permutation}}
 use Rattle.club_tables.proofs.{crashes.SurviveLemmas.{may_commit, was_clean}, opening.{MakesLemmas.{never_ran, makes_again}, MakingLemmas.made_tables}}
-use Rattle.club_tables.proofs.statements.SelectLemmas.{selected, short_permutation}
 
 abbrev pub IsSettled : State → Type 0
 IsSettled state = IsTrue state.is_open → (trees : Trees) → state.may_leave trees → trees ≡ state.committed.trees

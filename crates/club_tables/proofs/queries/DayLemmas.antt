@@ -7,8 +7,7 @@ use Rattle.club_tables.proofs.Common.{Held, state, truth, Booking, DAY, club_sch
 use Rattle.club_tables.proofs.crashes.RepresentsLemmas.{Asks, Shows, asked_tables, asked_reads, bookings_held}
 use Rattle.club_tables.proofs.queries.KeyLemmas.{booking_terms, booking_names, is_uncancelled, no_truth}
 use Rattle.club_tables.proofs.statements.SelectLemmas.{whole_equal, apart_from_pairs, pairs_from_apart, selected_in_order, none_greater, apart-permutation}
-use Rattle.std.proofs.{Common.int_cmp, lemmas.{List.Kept.AllPairs-filter, Map.Lookups.{exact_bytes, exact_unsigned}}}
-use Rattle.std.specs.Cmp.Lexicographic.{slice_cmp}
+use Rattle.std.{proofs.{Common.int_cmp, lemmas.{List.Kept.AllPairs-filter, Map.Lookups.{exact_bytes, exact_unsigned}}}, specs.Cmp.Lexicographic.slice_cmp}
 use Rattle.club_core.specs.Sheet.{is_on, Precedes}
 
 abbrev sheet_cmp : Booking → Booking → Ordering

@@ -1,16 +1,15 @@
 -- Lemmas about the queries that read a row by its primary key, and about the query for the costs of
 -- a key's bookings.
-use Rattle.club_tables.proofs.Common.{◌≡◌, ℕ, ◌≤◌, List, [], ◌∷◌, length, map, codes, Option, Some, None, cond, subst, false, Bool, true, ◌&&◌, ◌≢◌, slice_get}
-use Rattle.club_tables.proofs.Common.{refl, sym, ap, ◌∙◌, arith, pos, not, ◌==◌, inl, inr, filter, find, option_map, AllPairs, IsPermutation, unwrap_or}
-use Rattle.club_tables.proofs.Common.{length-map, option_to_list, bytes_eq, bytes_eq-Decides, and-true, and_assoc, unsigned_Decides, and_parts, everything}
-use Rattle.club_tables.proofs.Common.{Text, Int, Row, Ghosts, col, Term, lit, op2, inner, end, understood, Held, Binary, Compare, Eq, Key, Facility, key_named}
-use Rattle.club_tables.proofs.Common.{member_named, facility_named, Club, older_root_of, Slot, truth, Booking, same_slot, is_under, booking_under, slot_use}
-use Rattle.club_tables.proofs.Common.{MemberRow, KEY, MEMBER, FACILITY, OLDER_ROOT, SLOT, BOOKING, COSTS_UNDER_KEY, club_schema, key_values, member_values}
-use Rattle.club_tables.proofs.Common.{facility_values, older_values, older_root_values, whole, name_values, slot_values, use_values, booking_values}
-use Rattle.club_tables.proofs.Common.{cost_values, OlderRow, member_row, SlotRow, no_slot_use, row_of, Holds, keys_tree, members_tree, facilities_tree}
-use Rattle.club_tables.proofs.Common.{olders_tree, slots_tree, bookings_tree, select, is_given}
-use Rattle.club_tables.proofs.crashes.RepresentsLemmas.{Asks, Shows, asked_tables, asked_shows, keys_held, bookings_held}
-use Rattle.club_tables.proofs.statements.SelectLemmas.{pairs_mapped, text_equal, find_first, apart_from_pairs, one_passes, short_permutation, whole_equal}
+use Rattle.club_tables.proofs.Common.{◌≡◌, ℕ, ◌≤◌, List, [], ◌∷◌, length, map, codes, Option, Some, None, cond, subst, false, Bool, true, ◌&&◌, ◌≢◌, refl, sym}
+use Rattle.club_tables.proofs.Common.{ap, ◌∙◌, arith, pos, not, ◌==◌, inl, inr, filter, find, option_map, AllPairs, IsPermutation, unwrap_or, length-map}
+use Rattle.club_tables.proofs.Common.{option_to_list, bytes_eq, bytes_eq-Decides, and-true, and_assoc, unsigned_Decides, and_parts, everything, Text, Int, Row}
+use Rattle.club_tables.proofs.Common.{Ghosts, col, Term, lit, op2, inner, end, understood, Held, Binary, Compare, Eq, Key, Facility, key_named, member_named}
+use Rattle.club_tables.proofs.Common.{facility_named, Club, older_root_of, Slot, truth, Booking, same_slot, is_under, booking_under, slot_use, MemberRow, KEY}
+use Rattle.club_tables.proofs.Common.{MEMBER, FACILITY, OLDER_ROOT, SLOT, BOOKING, COSTS_UNDER_KEY, club_schema, key_values, member_values, facility_values}
+use Rattle.club_tables.proofs.Common.{older_values, older_root_values, whole, name_values, slot_values, use_values, booking_values, cost_values, OlderRow}
+use Rattle.club_tables.proofs.Common.{member_row, SlotRow, no_slot_use, row_of, Holds, keys_tree, members_tree, facilities_tree, olders_tree, slots_tree}
+use Rattle.club_tables.proofs.{Common.{bookings_tree, select, is_given}, crashes.RepresentsLemmas.{Asks, Shows, keys_held, bookings_held, shown_by}}
+use Rattle.club_tables.proofs.statements.SelectLemmas.{pairs_mapped, text_equal, apart_from_pairs, one_passes, short_permutation, whole_equal, one_listed}
 use Rattle.club_tables.specs.Use.{ShowsUse}
 
 pub find_mapped : {X Y : Type 0} (p : Y → Bool) (f : X → Y) (xs : List X) → find p (map f xs) ≡ option_map f (find (λ x. p (f x)) xs)
@@ -23,14 +22,6 @@ same_names name a b p q = (bytes_eq-Decides a name).0 p ∙ sym ((bytes_eq-Decid
 
 pub both_tests : (a a' b b' : Bool) → a ≡ a' → b ≡ b' → (a && (b && true)) ≡ (a' && b')
 both_tests a a' b b' p q = let e = and-true b in cc
-
-pub one_listed : {X : Type 0} (p : X → Bool) (xs : List X) → length (filter p xs) ≤ 1 → filter p xs ≡ option_to_list (find p xs)
-one_listed {X} p xs low = short (filter p xs) low ∙ ap option_to_list (sym (find_first p xs))
-  where
-    short : (ys : List X) → length ys ≤ 1 → ys ≡ option_to_list (slice_get ys 0)
-    short [] low = refl
-    short (y ∷ []) low = refl
-    short (y ∷ z ∷ ys) low = absurd (omega arith)
 
 pub first_returned : {X : Type 0} (show : X → Row) (p : X → Bool) (xs : List X) (rows : List Row) → length (filter p xs) ≤ 1
     → IsPermutation (map show (filter p xs)) rows → rows ≡ map show (option_to_list (find p xs))
@@ -47,14 +38,15 @@ one_named {X} name_of name xs unique =
 pub key_shown : {S : Type 0} (g : Ghosts S) (old : Held S) (name : List ℕ)
     → Shows g old (KEY.now, Text name ∷ []) (λ club rows. rows ≡ map key_values (option_to_list (key_named name club)))
 unfolding understood everything
-key_shown g old name rows clean asked club others represents =
-    let tables = asked_tables asked clean club others represents in
+key_shown g old name =
     let asks : Asks club_schema KEY.now (select (inner keys_tree end) (is_given 1 0 ∷ []) (map (col 1) (1 ∷ 2 ∷ 3 ∷ 4 ∷ [])))
     (map codes ("name" ∷ "member" ∷ "root" ∷ "revoked" ∷ [])) = record { is = refl; plain = (refl, refl); unlisted = refl } in
-    let p : Key → Bool = λ key. bytes_eq key.name name in
-    let same = asked_shows asked asks tables key_values p key_values (λ id key. and-true _ ∙ text_equal key.name name) (λ id key. refl) club.keys
-    (keys_held _ club tables) in
-    first_returned key_values p club.keys rows (one_named (λ (key : Key). key.name) name club.keys tables.sound.unique.keys) same
+    shown_by asks key_values (λ key. bytes_eq key.name name) key_values (λ id key. and-true _ ∙ text_equal key.name name) (λ id key. refl) (λ club tables. (
+      club.keys,
+      keys_held _ club tables,
+      λ rows. first_returned key_values _ club.keys rows
+          (one_named (λ (key : Key). key.name) name club.keys tables.sound.unique.keys),
+    ))
 
 shown_again : (found : Option OlderRow) → map (λ (row : OlderRow). older_root_values row.older) (option_to_list found)
     ≡ map older_root_values (option_to_list (option_map (λ (row : OlderRow). row.older) found))
@@ -64,45 +56,48 @@ shown_again (Some row) = refl
 pub older_shown : {S : Type 0} (g : Ghosts S) (old : Held S) (name : List ℕ)
     → Shows g old (OLDER_ROOT.now, Text name ∷ []) (λ club rows. rows ≡ map older_root_values (option_to_list (older_root_of name club)))
 unfolding understood everything
-older_shown g old name rows clean asked club others represents =
-    let tables = asked_tables asked clean club others represents in
+older_shown g old name =
     let asks : Asks club_schema OLDER_ROOT.now (select (inner olders_tree end) (is_given 1 0 ∷ []) (map (col 1) (2 ∷ 3 ∷ [])))
     (map codes ("root" ∷ "until" ∷ [])) = record { is = refl; plain = (refl, refl); unlisted = refl } in
     let p : OlderRow → Bool = λ row. bytes_eq row.key name in
     let show : OlderRow → Row = λ row. older_root_values row.older in
-    let olders = tables.rows.olders in
-    let same = asked_shows asked asks tables older_values p show (λ id row. and-true _ ∙ text_equal row.key name) (λ id row. refl) olders
-    tables.holds_rows.held.olders in
-    first_returned show p olders rows (one_named (λ (row : OlderRow). row.key) name olders tables.storage.olders_once) same
-    ∙ shown_again (find p olders) ∙ ap (λ o. map older_root_values (option_to_list o)) (tables.storage.olders name)
+    shown_by asks older_values p show (λ id row. and-true _ ∙ text_equal row.key name) (λ id row. refl) (λ club tables.
+    let olders = tables.rows.olders in (
+      olders,
+      tables.holds_rows.held.olders,
+      λ rows same. first_returned show p olders rows (one_named (λ (row : OlderRow). row.key) name olders tables.storage.olders_once) same
+          ∙ shown_again (find p olders) ∙ ap (λ o. map older_root_values (option_to_list o)) (tables.storage.olders name),
+    ))
 
 pub member_shown : {S : Type 0} (g : Ghosts S) (old : Held S) (name : List ℕ) → Shows g old (MEMBER.now, Text name ∷ [])
     (λ club rows. rows ≡ map member_values (option_to_list (option_map (member_row club) (member_named name club))))
 unfolding understood everything
-member_shown g old name rows clean asked club others represents =
-    let tables = asked_tables asked clean club others represents in
+member_shown g old name =
     let asks : Asks club_schema MEMBER.now (select (inner members_tree end) (is_given 1 0 ∷ []) (map (col 1) (1 ∷ 2 ∷ 3 ∷ 4 ∷ [])))
     (map codes ("name" ∷ "credited" ∷ "quota" ∷ "used" ∷ [])) = record { is = refl; plain = (refl, refl); unlisted = refl } in
     let p : MemberRow → Bool = λ row. bytes_eq row.member.name name in
-    let same = asked_shows asked asks tables member_values p member_values (λ id row. and-true _ ∙ text_equal row.member.name name) (λ id row. refl)
-    (map (member_row club) club.members) (subst (Holds member_values _) tables.storage.members tables.holds_rows.held.members) in
+    shown_by asks member_values p member_values (λ id row. and-true _ ∙ text_equal row.member.name name) (λ id row. refl) (λ club tables.
     let unique = pairs_mapped (λ (a : MemberRow) (b : MemberRow). a.member.name ≢ b.member.name) (member_row club) (λ row. row.member) club.members
-    tables.sound.unique.members in
-    first_returned member_values p (map (member_row club) club.members) rows (one_named (λ (row : MemberRow). row.member.name) name _ unique) same
-    ∙ ap (λ o. map member_values (option_to_list o)) (find_mapped p (member_row club) club.members)
+    tables.sound.unique.members in (
+      map (member_row club) club.members,
+      subst (Holds member_values _) tables.storage.members tables.holds_rows.held.members,
+      λ rows same. first_returned member_values p _ rows (one_named (λ (row : MemberRow). row.member.name) name _ unique) same
+          ∙ ap (λ o. map member_values (option_to_list o)) (find_mapped p (member_row club) club.members),
+    ))
 
 pub facility_shown : {S : Type 0} (g : Ghosts S) (old : Held S) (name : List ℕ)
     → Shows g old (FACILITY.now, Text name ∷ []) (λ club rows. rows ≡ map facility_values (option_to_list (facility_named name club)))
 unfolding understood everything
-facility_shown g old name rows clean asked club others represents =
-    let tables = asked_tables asked clean club others represents in
+facility_shown g old name =
     let asks : Asks club_schema FACILITY.now (select (inner facilities_tree end) (is_given 1 0 ∷ []) (map (col 1) (1 ∷ 2 ∷ 3 ∷ 4 ∷ 5 ∷ 6 ∷ [])))
     (map codes ("name" ∷ "kind" ∷ "places" ∷ "price" ∷ "opens" ∷ "shuts" ∷ [])) = record { is = refl; plain = (refl, refl); unlisted = refl } in
-    let p : Facility → Bool = λ facility. bytes_eq facility.name name in
-    let same = asked_shows asked asks tables facility_values p facility_values (λ id facility. and-true _ ∙ text_equal facility.name name)
-    (λ id facility. refl) club.facilities (subst (Holds facility_values _) tables.storage.facilities tables.holds_rows.held.facilities) in
-    first_returned facility_values p club.facilities rows
-    (one_named (λ (facility : Facility). facility.name) name club.facilities tables.sound.unique.facilities) same
+    shown_by asks facility_values (λ facility. bytes_eq facility.name name) facility_values (λ id facility. and-true _ ∙ text_equal facility.name name)
+    (λ id facility. refl) (λ club tables. (
+      club.facilities,
+      subst (Holds facility_values _) tables.storage.facilities tables.holds_rows.held.facilities,
+      λ rows. first_returned facility_values _ club.facilities rows
+          (one_named (λ (facility : Facility). facility.name) name club.facilities tables.sound.unique.facilities),
+    ))
 
 pub three : (a b c : Bool) → (a && (b && (c && true))) ≡ (a && b && c)
 three a b c = ap (λ d. a && (b && d)) (and-true c) ∙ sym (and_assoc a b c)
@@ -115,6 +110,12 @@ same_slots a b h =
     ∙ ap (λ d. let s : Slot = record b { day = d; hour = a.hour } in s) ((unsigned_Decides a.day b.day).0 two.1)
     ∙ ap (λ h. let s : Slot = record b { hour = h } in s) ((unsigned_Decides a.hour b.hour).0 one.1)
 
+pub one_slot : (slot : Slot) (rows : List SlotRow) → AllPairs (λ (a : SlotRow) (b : SlotRow). a.slot ≢ b.slot) rows
+    → length (filter (λ (row : SlotRow). same_slot row.slot slot) rows) ≤ 1
+one_slot slot rows once =
+    let R : SlotRow → SlotRow → Type 0 = λ a b. a.slot ≢ b.slot in
+    one_passes R _ rows (λ x y a b apart. apart (same_slots x.slot slot a ∙ sym (same_slots y.slot slot b))) (apart_from_pairs R rows once)
+
 shows_by : (club : Club) (slot : Slot) (found : Option SlotRow) (rows : List Row) → rows ≡ map (λ (row : SlotRow). use_values row.held) (option_to_list found)
     → unwrap_or (option_map (λ (row : SlotRow). row.held) found) no_slot_use ≡ slot_use club slot → ShowsUse club slot rows
 shows_by club slot (Some row) rows is same = inl (is ∙ ap (λ held. use_values held ∷ []) same)
@@ -122,20 +123,20 @@ shows_by club slot None rows is same = inr (is, sym same)
 
 pub slot_shown : {S : Type 0} (g : Ghosts S) (old : Held S) (slot : Slot) → Shows g old (SLOT.now, name_values slot) (λ club. ShowsUse club slot)
 unfolding understood everything
-slot_shown g old slot rows clean asked club others represents =
-    let tables = asked_tables asked clean club others represents in
+slot_shown g old slot =
     let asks : Asks club_schema SLOT.now (select (inner slots_tree end) (is_given 1 0 ∷ is_given 2 1 ∷ is_given 3 2 ∷ []) (col 1 4 ∷ col 1 5 ∷ []))
     (codes "closed" ∷ codes "taken" ∷ []) = record { is = refl; plain = (refl, refl); unlisted = refl } in
     let p : SlotRow → Bool = λ row. same_slot row.slot slot in
     let show : SlotRow → Row = λ row. use_values row.held in
-    let R : SlotRow → SlotRow → Type 0 = λ a b. a.slot ≢ b.slot in
-    let same = asked_shows asked asks tables slot_values p show (λ id row.
+    shown_by asks slot_values p show (λ id row.
     rw (text_equal row.slot.facility slot.facility, whole_equal row.slot.day slot.day, whole_equal row.slot.hour slot.hour)
-    (three (bytes_eq row.slot.facility slot.facility) (row.slot.day == slot.day) (row.slot.hour == slot.hour))) (λ id row. refl) tables.rows.slots
-    tables.holds_rows.held.slots in
-    let low = one_passes R p tables.rows.slots (λ x y a b apart. apart (same_slots x.slot slot a ∙ sym (same_slots y.slot slot b)))
-    (apart_from_pairs R tables.rows.slots tables.storage.once) in
-    shows_by club slot (row_of slot tables.rows.slots) rows (first_returned show p tables.rows.slots rows low same) (tables.storage.slots slot)
+    (three (bytes_eq row.slot.facility slot.facility) (row.slot.day == slot.day) (row.slot.hour == slot.hour))) (λ id row. refl) (λ club tables.
+    let slots = tables.rows.slots in (
+      slots,
+      tables.holds_rows.held.slots,
+      λ rows same. shows_by club slot (row_of slot slots) rows
+          (first_returned show p slots rows (one_slot slot slots tables.storage.once) same) (tables.storage.slots slot),
+    ))
 
 abbrev pub booking_terms : List Term
 booking_terms = map (col 1) (1 ∷ 2 ∷ 3 ∷ 4 ∷ 5 ∷ 6 ∷ 7 ∷ 8 ∷ 9 ∷ 10 ∷ [])
@@ -161,14 +162,16 @@ one_numbered key number bookings unique =
 pub booking_shown : {S : Type 0} (g : Ghosts S) (old : Held S) (key : List ℕ) (number : ℕ) → Shows g old (BOOKING.now, Text key ∷ whole number ∷ [])
     (λ club rows. rows ≡ map booking_values (option_to_list (booking_under key number club.bookings)))
 unfolding understood everything
-booking_shown g old key number rows clean asked club others represents =
-    let tables = asked_tables asked clean club others represents in
+booking_shown g old key number =
     let asks : Asks club_schema BOOKING.now (select (inner bookings_tree end) (is_given 1 0 ∷ is_given 2 1 ∷ []) booking_terms) booking_names =
     record { is = refl; plain = (refl, refl); unlisted = refl } in
-    let p = is_numbered key number in
-    let same = asked_shows asked asks tables booking_values p booking_values (λ id b.
-    both_tests _ _ _ _ (text_equal b.key key) (whole_equal b.number number)) (λ id b. refl) club.bookings (bookings_held _ club tables) in
-    first_returned booking_values p club.bookings rows (one_numbered key number club.bookings tables.sound.unique.bookings) same
+    shown_by asks booking_values (is_numbered key number) booking_values (λ id b. both_tests _ _ _ _ (text_equal b.key key) (whole_equal b.number number))
+    (λ id b. refl) (λ club tables. (
+      club.bookings,
+      bookings_held _ club tables,
+      λ rows.
+          first_returned booking_values _ club.bookings rows (one_numbered key number club.bookings tables.sound.unique.bookings),
+    ))
 
 abbrev pub is_uncancelled : Term
 is_uncancelled = op2 (Compare Eq Binary) (col 1 9) (lit (Int (pos 0)))
@@ -180,9 +183,8 @@ no_truth false = refl
 pub costs_shown : {S : Type 0} (g : Ghosts S) (old : Held S) (key : List ℕ) → Shows g old (COSTS_UNDER_KEY.now, Text key ∷ [])
     (λ club. IsPermutation (map cost_values (filter (is_under key) club.bookings)))
 unfolding understood everything
-costs_shown g old key rows clean asked club others represents =
-    let tables = asked_tables asked clean club others represents in
+costs_shown g old key =
     let asks : Asks club_schema COSTS_UNDER_KEY.now (select (inner bookings_tree end) (is_given 1 0 ∷ []) (col 1 7 ∷ col 1 10 ∷ []))
     (map codes ("charge" ∷ "refund" ∷ [])) = record { is = refl; plain = (refl, refl); unlisted = refl } in
-    asked_shows asked asks tables booking_values (is_under key) cost_values (λ id b. and-true _ ∙ text_equal b.key key) (λ id b. refl) club.bookings
-    (bookings_held _ club tables)
+    shown_by asks booking_values (is_under key) cost_values (λ id b. and-true _ ∙ text_equal b.key key) (λ id b. refl) (λ club tables.
+    (club.bookings, bookings_held _ club tables, λ rows same. same))

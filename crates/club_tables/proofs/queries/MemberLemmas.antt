@@ -7,8 +7,8 @@ use Rattle.club_tables.proofs.Common.{everything, Value, Int, Text, Binary, valu
 use Rattle.club_tables.proofs.Common.{Term, lit, col, op2, inner, end, understood, Held, state, truth, Key, Booking, IsBooking, is_to_come, count_to_come, Club}
 use Rattle.club_tables.proofs.Common.{is_key_of, bookings_of, OPEN, club_schema, whole, key_values, booking_values, keys_tree, bookings_tree, select, is_given}
 use Rattle.club_tables.proofs.{Common.map-flat_map, crashes.RepresentsLemmas.{Asks, Shows, asked_tables, asked_reads, keys_held, bookings_held}}
-use Rattle.club_tables.proofs.{queries.KeyLemmas.no_truth, statements.JoinLemmas.{filter_filter, IsElsewhere, pairs_counted, selected_both}}
-use Rattle.club_tables.proofs.statements.SelectLemmas.{apart_from_pairs, from_truth_is, text_equal, whole_equal, filter_same}
+use Rattle.club_tables.proofs.{queries.KeyLemmas.no_truth, statements.SelectLemmas.{apart_from_pairs, from_truth_is, text_equal, whole_equal, filter_same}}
+use Rattle.club_tables.proofs.statements.JoinLemmas.{filter_filter, IsElsewhere, pairs_counted, selected_both}
 use Rattle.club_values.specs.Slot.{start_of}
 
 abbrev under_it : Term

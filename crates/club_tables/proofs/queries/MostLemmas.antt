@@ -1,14 +1,12 @@
 -- Lemmas about the query for the highest number of persons in a slot of a facility.
-use Rattle.club_tables.proofs.Common.{◌≡◌, ◌≤◌, ◌+◌, ◌<◌, ℕ, Bool, true, false, ◌&&◌, not, None, Option, Some, List, [], ◌∷◌, ◌++◌, length, get_or, take, map}
-use Rattle.club_tables.proofs.Common.{refl, sym, ap, ◌∙◌, subst, filter, fold, max, sum_by, option_map, unwrap_or, bytes_eq, bytes_eq-Decides, and_parts, inl}
-use Rattle.club_tables.proofs.Common.{inr, arith, everything, Text, Row, column, select, is_given, inner, end, col, codes, IsPermutation, All-get_or, Has}
-use Rattle.club_tables.proofs.Common.{has_kept, has_filtered, has_contained, contains_had, Contains, club_schema, Ghosts, Held, Club, Booking, Slot, SlotRow}
-use Rattle.club_tables.proofs.Common.{SlotUse, same_slot, persons_of, is_in, taken_in, is_at, most_taken_in, slot_values, slots_tree, whole, whole_in, row_of}
-use Rattle.club_tables.proofs.Common.{no_slot_use, IsStoredAs, Rows, IsTakenRow, IsMostIn, most_in, TAKEN, and-true, understood}
-use Rattle.club_tables.proofs.{crashes.RepresentsLemmas.{Asks, Shows, asked_tables, asked_shows}, lists.TakenRows.{row_taken, slot_taken_by}}
-use Rattle.club_tables.proofs.{queries.KeyLemmas.same_slots, statements.SelectLemmas.text_equal}
+use Rattle.club_tables.proofs.Common.{◌≡◌, ◌≤◌, ◌+◌, ◌<◌, ℕ, Bool, true, List, [], ◌∷◌, length, get_or, take, map, refl, sym, ap, ◌∙◌, subst, filter, fold, max}
+use Rattle.club_tables.proofs.Common.{sum_by, bytes_eq, and_parts, inl, inr, arith, everything, Text, Row, column, select, is_given, inner, end, col, codes}
+use Rattle.club_tables.proofs.Common.{IsPermutation, All-get_or, Has, has_kept, has_filtered, has_contained, contains_had, club_schema, Ghosts, Held, Club}
+use Rattle.club_tables.proofs.Common.{Booking, Slot, SlotRow, persons_of, is_in, taken_in, is_at, most_taken_in, slot_values, slots_tree, whole, whole_in}
+use Rattle.club_tables.proofs.{Common.{IsStoredAs, Rows, IsTakenRow, IsMostIn, most_in, TAKEN, and-true, understood, take_more}, queries.KeyLemmas.same_slots}
+use Rattle.club_tables.proofs.{crashes.RepresentsLemmas.{Asks, Shows, shown_by}, lists.TakenRows.{row_taken, slot_taken_by}, statements.SelectLemmas.text_equal}
 use Rattle.club_rows.specs.Limits.{places_limit}
-use Rattle.std.proofs.lemmas.List.{take_more, Folds.fold-map, Sorted.{Contains-permutation, IsPermutation-sym}, Sums.fold-append}
+use Rattle.std.proofs.lemmas.List.{Folds.fold-map, Sorted.{Contains-permutation, IsPermutation-sym}, Sums.fold-append}
 
 module _ {X : Type 0} (f : X → ℕ) where
   abbrev pub greatest : ℕ → List X → ℕ
@@ -88,13 +86,15 @@ module _ (club : Club) (rows : Rows) (stored : IsStoredAs club rows) (facility :
 pub taken_shown : {S : Type 0} (g : Ghosts S) (old : Held S) (facility : List ℕ) → Shows g old (TAKEN.now, Text facility ∷ [])
     (λ club rows. most_in rows ≡ most_taken_in facility club.bookings)
 unfolding understood everything
-taken_shown g old facility rows clean asked club others represents =
-    let tables = asked_tables asked clean club others represents in
+taken_shown g old facility =
     let asks : Asks club_schema TAKEN.now (select (inner slots_tree end) (is_given 1 0 ∷ []) (col 1 5 ∷ [])) (codes "taken" ∷ []) =
     record { is = refl; plain = (refl, refl); unlisted = refl } in
-    most_by_answer club tables.rows tables.storage facility rows
-    (asked_shows asked asks tables slot_values (is_of club tables.rows tables.storage facility) (shown club tables.rows tables.storage facility) (λ id row.
-    and-true _ ∙ text_equal row.slot.facility facility) (λ id row. refl) tables.rows.slots tables.holds_rows.held.slots)
+    shown_by asks slot_values (λ row. bytes_eq row.slot.facility facility) (λ row. whole row.held.taken ∷ []) (λ id row.
+    and-true _ ∙ text_equal row.slot.facility facility) (λ id row. refl) (λ club tables. (
+      tables.rows.slots,
+      tables.holds_rows.held.slots,
+      most_by_answer club tables.rows tables.storage facility,
+    ))
 
 pub most_more : (rows : List Row) (at : ℕ) (row : Row) → at < length rows → row ≡ get_or rows at row
     → most_in (take (at + 1) rows) ≡ max (most_in (take at rows)) (whole_in (column row 0))

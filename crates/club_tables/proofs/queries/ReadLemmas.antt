@@ -1,7 +1,7 @@
 -- Lemmas about the results and the faults of reads.
 use Rattle.club_tables.proofs.Common.{List, Result, IfOk, IfErr, inl, inr, arith, IfErr-weaker, IfOk-weaker, Row, Ghosts, HasCleanDisk, Survives, Held, state}
 use Rattle.club_tables.proofs.Common.{StoreFault, Club, FailsAtReading, FailsToRead, IsAfterReadings, IsReadFault, Reading, CanRead, reading_statement}
-use Rattle.club_tables.proofs.{Common.{ReadsClub, Asked, IsKept, BoundStatement, HoldsClub}, crashes.RepresentsLemmas.{Shows, represents_on}}
+use Rattle.club_tables.proofs.{Common.{ReadsClub, Asked, IsKept, BoundStatement, HoldsClub, shown}, crashes.RepresentsLemmas.{Shows, represents_on}}
 use Rattle.club_tables.proofs.crashes.SurviveLemmas.{kept_when_idle}
 use Rattle.club_tables.specs.Answers.{Answers}
 

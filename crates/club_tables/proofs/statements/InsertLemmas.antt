@@ -6,11 +6,10 @@ use Rattle.club_tables.proofs.Common.{CreateIndex, created, next_tree, is_used, 
 use Rattle.club_tables.proofs.Common.{with_rowid, taken_by, works, Enforced, Written, Task, stamped, count_of, rowids_for, Error, Database, IsDatabase}
 use Rattle.club_tables.proofs.Common.{value_rows, understood, State, mode_of, Runs, Writes, Executes, statement_of, runs_as, one_step}
 use Rattle.club_tables.proofs.statements.MeansLemmas.{Makes, MakesIndex, Means, Wrote}
-use Rattle.sqlite_rules.proofs.RowLemmas.{length-numbered}
+use Rattle.sqlite_rules.{proofs.RowLemmas.length-numbered, specs.Action.Writes as ActionWrites}
 use Rattle.sqlite.specs.{Does.{Tally, Does, OnTable, OnRows, WritesRows, lacks_sequence}, Kind.TheVariants.Integer, Ops.unary}
 use Rattle.sqlite_schema.specs.declared.schema.Index.{Index}
 use Rattle.sqlite_catalog.specs.Change.{indexed}
-use Rattle.sqlite_rules.specs.Action.{Writes as ActionWrites}
 
 pub went : {B E R : Type 0} {b : B} {Stops : E → Type 0} → ((stop : E) × Stops stop × (Ok b ≡ Err stop)) ⊎ R → R
 went (inl stopped) = absurd (let e = stopped.2 in cc)

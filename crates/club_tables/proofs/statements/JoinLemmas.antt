@@ -3,7 +3,7 @@ use Rattle.club_tables.proofs.Common.{◌≡◌, ℕ, ℤ, Bool, true, false, co
 use Rattle.club_tables.proofs.Common.{filter, flat_map, IsPermutation, AllByRecursion, list_all, list_any, length-map, Int, Row, Term, Env, holds, eval_all}
 use Rattle.club_tables.proofs.Common.{inner, end, IsAnswer, output, counted, Select, Database, Reads, Answers, map-map, map-flat_map, flat_map-map}
 use Rattle.club_tables.proofs.Common.{flat_map_same_on, filter-filter, filter_agree, and-true, not, sym, ◌+◌, length-append, is_true, Holds, select, AllZip}
-use Rattle.club_tables.proofs.{Common.{Has, has_filtered, has_kept, inl, inr}, statements.PassLemmas.{as_many, each_row}}
+use Rattle.club_tables.proofs.{Common.{Has, has_filtered, has_kept, inl, inr, IsRowOf}, statements.PassLemmas.as_many}
 use Rattle.club_tables.proofs.statements.SelectLemmas.{Apart, pick_by_if, plain_answer, picked, none_of, shown_of, row_of, paired as with_rowids}
 use Rattle.std.proofs.lemmas.List.Filters.{length-filter_both}
 
@@ -130,7 +130,7 @@ module _ (params : Row) (inside_tests tests project : List Term) where
   pub counts_elements : {X : Type 0} (values : X → Row) (p : X → Bool) → ((id : ℤ) (row : Row) (x : X) → passes_inside row (Int id ∷ values x) ≡ p x)
       → (others : List Row) (xs : List X) → Holds values others xs → (row : Row) → count_in others row ≡ length (filter p xs)
   counts_elements values p tested others xs held row =
-      as_many (passes_inside row) p others xs (each_row values (passes_inside row) p (λ id x. tested id row x) others xs held.same)
+      as_many values (passes_inside row) p (λ id x. tested id row x) others xs held.same
 
 has_some : {X : Type 0} (xs : List X) (x : X) → Has xs x → 1 ≤ length xs
 has_some [] x has = absurd has
@@ -167,20 +167,14 @@ pair_counts p (z ∷ xs) ys x y (inl is) there passes =
 pair_counts p (z ∷ xs) ys x y (inr has) there passes =
     omega (arith, pair_counts p xs ys x y has there passes, length-append (filter (p z) ys) (flat_map (λ w. filter (p w) ys) xs))
 
-pub as_many_pairs : {X Y : Type 0} (hit : Row → Row → Bool) (p : X → Y → Bool) (others : List Row) (ys : List Y) (rows : List Row) (xs : List X)
-    → AllZip (λ row x. length (filter (hit row) others) ≡ length (filter (p x) ys)) rows xs
+pub as_many_pairs : {X Y : Type 0} (values : X → Row) (hit : Row → Row → Bool) (p : X → Y → Bool) (others : List Row) (ys : List Y)
+    → ((id : ℤ) (x : X) → length (filter (hit (Int id ∷ values x)) others) ≡ length (filter (p x) ys)) → (rows : List Row) (xs : List X)
+    → AllZip (λ row x. IsRowOf (values x) row) rows xs
     → length (flat_map (λ row. filter (hit row) others) rows) ≡ length (flat_map (λ x. filter (p x) ys) xs)
-as_many_pairs hit p others ys [] [] same = refl
-as_many_pairs hit p others ys [] (x ∷ xs) same = absurd same
-as_many_pairs hit p others ys (r ∷ rows) [] same = absurd same
-as_many_pairs hit p others ys (r ∷ rows) (x ∷ xs) same =
-    let more = as_many_pairs hit p others ys rows xs same.1 in
-    let here = same.0 in
-    omega (
-      arith,
-      length-append (filter (hit r) others) (flat_map (λ row. filter (hit row) others) rows),
-      length-append (filter (p x) ys) (flat_map (λ z. filter (p z) ys) xs),
-    )
+as_many_pairs values hit p others ys each rows xs same =
+    let it = with_rowids values rows xs same in
+    ap (λ rs. length (flat_map (λ row. filter (hit row) others) rs)) it.rows_are ∙ simp flat_map-map (lengths_alike _ _ (λ q. each q.0 q.1) it.pairs)
+    ∙ sym (ap (λ zs. length (flat_map (λ x. filter (p x) ys) zs)) it.xs_are)
 
 module _ (params : Row) (inside_tests pair_tests tests project : List Term) where
   abbrev counts : ℕ → Row

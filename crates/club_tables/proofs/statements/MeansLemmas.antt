@@ -3,8 +3,8 @@ use Rattle.club_tables.proofs.Common.{◌≡◌, ◌≢◌, ℕ, List, Ok, Some,
 use Rattle.club_tables.proofs.Common.{true≢false, ◌≤◌, AllByRecursion, unsigned_Decides, Table, Database, IsDatabase, Schema, Command, CreateTable, CreateIndex}
 use Rattle.club_tables.proofs.Common.{created, understood, IsPlain, command_of, statement_of, Trees, State, Executes, Facility, Key, Booking, club_schema}
 use Rattle.club_tables.proofs.Common.{version_values, member_values, facility_values, key_values, slot_values, booking_values, older_values, MemberRow, Rows}
-use Rattle.club_tables.proofs.Common.{SlotRow, OlderRow, Holds, HoldsTrees, HoldsRows, desk_tree, members_tree, facilities_tree, keys_tree, slots_tree}
-use Rattle.club_tables.proofs.Common.{bookings_tree, olders_tree, BoundStatement}
+use Rattle.club_tables.proofs.Common.{SlotRow, OlderRow, Holds, HoldsTrees, HoldsRows, members_tree, facilities_tree, keys_tree, slots_tree, bookings_tree}
+use Rattle.club_tables.proofs.Common.{olders_tree, BoundStatement, rules}
 use Rattle.sqlite.specs.{Compile.table_defined_by, Does.lacks_sequence}
 use Rattle.sqlite_resolve.specs.Compile.{index_defined_by}
 use Rattle.sqlite_schema.specs.declared.schema.Index.{Index}
@@ -36,9 +36,13 @@ pub record Wrote (tables : Schema) (old new : Database) (tree : ℕ) : Type 0 wh
   pub others : AllByRecursion (λ (t : Table). t.tree ≢ tree → new.trees t.tree ≡ old.trees t.tree) tables.tables
   pub sound : IsDatabase new
 
+-- The relation `P` holds after the statement has run on tables that contain these rows.
+abbrev pub WhenRan : BoundStatement → Rows → (State → State → ℕ → Type 0) → Type 1
+WhenRan statement rows P =
+    (old new : State) (count : ℕ) → HoldsRows old.now rows → Executes statement.0 statement.1 old new (Ok count) → P old new count
+
 abbrev pub Steps : BoundStatement → Rows → Rows → Type 1
-Steps statement rows next =
-    (old new : State) (count : ℕ) → HoldsRows old.now rows → Executes statement.0 statement.1 old new (Ok count) → HoldsRows new.now next × (1 ≤ count)
+Steps statement rows next = WhenRan statement rows (λ old new count. HoldsRows new.now next × (1 ≤ count))
 
 pub trees_kept : {number : ℕ} {old new : Trees} {rows : Rows} → AllByRecursion (λ (t : Table). new t.tree ≡ old t.tree) club_schema.tables
     → HoldsTrees number old rows → HoldsTrees number new rows
@@ -68,42 +72,26 @@ module _ {old new : Database} {rows : Rows} (holds_rows : HoldsRows old rows) wh
   kept : {tree : ℕ} → Wrote club_schema old new tree → HoldsTrees 2 (but tree old.trees new.trees) rows
   kept {tree = tree} wrote = trees_kept (others_kept tree old.trees new.trees club_schema.tables wrote.others) holds_rows.held
 
-  whole : {tree : ℕ} {next : Rows} → Wrote club_schema old new tree → Holds version_values (new.trees desk_tree) (2 ∷ [])
-      → Holds member_values (new.trees members_tree) next.members → Holds facility_values (new.trees facilities_tree) next.facilities
-      → Holds key_values (new.trees keys_tree) next.keys → Holds slot_values (new.trees slots_tree) next.slots
-      → Holds booking_values (new.trees bookings_tree) next.bookings → Holds older_values (new.trees olders_tree) next.olders → HoldsRows new next
-  whole wrote version members facilities keys slots bookings olders = record {
-    schema = wrote.schema;
-    held = record { version = version; members = members; facilities = facilities; keys = keys; slots = slots; bookings = bookings; olders = olders };
-    database = wrote.sound;
-  }
-
   pub on_members : Wrote club_schema old new members_tree → {members : List MemberRow} → Holds member_values (new.trees members_tree) members
       → HoldsRows new (record rows { members = members })
-  on_members wrote held =
-      let k = kept wrote in whole wrote k.version held k.facilities k.keys k.slots k.bookings k.olders
+  on_members wrote held = let k = kept wrote in search rules
 
   pub on_facilities : Wrote club_schema old new facilities_tree → {facilities : List Facility} → Holds facility_values (new.trees facilities_tree) facilities
       → HoldsRows new (record rows { facilities = facilities })
-  on_facilities wrote held =
-      let k = kept wrote in whole wrote k.version k.members held k.keys k.slots k.bookings k.olders
+  on_facilities wrote held = let k = kept wrote in search rules
 
   pub on_keys : Wrote club_schema old new keys_tree → {keys : List Key} → Holds key_values (new.trees keys_tree) keys
       → HoldsRows new (record rows { keys = keys })
-  on_keys wrote held =
-      let k = kept wrote in whole wrote k.version k.members k.facilities held k.slots k.bookings k.olders
+  on_keys wrote held = let k = kept wrote in search rules
 
   pub on_slots : Wrote club_schema old new slots_tree → {slots : List SlotRow} → Holds slot_values (new.trees slots_tree) slots
       → HoldsRows new (record rows { slots = slots })
-  on_slots wrote held =
-      let k = kept wrote in whole wrote k.version k.members k.facilities k.keys held k.bookings k.olders
+  on_slots wrote held = let k = kept wrote in search rules
 
   pub on_bookings : Wrote club_schema old new bookings_tree → {bookings : List Booking} → Holds booking_values (new.trees bookings_tree) bookings
       → HoldsRows new (record rows { bookings = bookings })
-  on_bookings wrote held =
-      let k = kept wrote in whole wrote k.version k.members k.facilities k.keys k.slots held k.olders
+  on_bookings wrote held = let k = kept wrote in search rules
 
   pub on_olders : Wrote club_schema old new olders_tree → {olders : List OlderRow} → Holds older_values (new.trees olders_tree) olders
       → HoldsRows new (record rows { olders = olders })
-  on_olders wrote held =
-      let k = kept wrote in whole wrote k.version k.members k.facilities k.keys k.slots k.bookings held
+  on_olders wrote held = let k = kept wrote in search rules

@@ -1,26 +1,13 @@
 -- Lemmas about the row that an UPDATE statement changes.
 use Rattle.club_tables.proofs.Common.{◌≡◌, ◌≤◌, ℤ, Contains, Bool, true, false, ◌||◌, cond, Some, List, [], ◌∷◌, length, refl, sym, ap, ◌∙◌, not, arith}
-use Rattle.club_tables.proofs.Common.{true≢false, slice_get, suc, ◌==◌, nat_tests, filter, find, AllByRecursion, AllZip, list_any, list_any_at, Int, Row}
-use Rattle.club_tables.proofs.Common.{filter-filter, has_found, has_kept, contains_had, all_from, Has, false_from_ne_true, inl, inr, IsRowOf}
-use Rattle.club_tables.proofs.statements.SelectLemmas.{find_first, filter_same, only}
-use Rattle.std.proofs.lemmas.{List.Filters.length-filter_both, Option.slice_get_within}
+use Rattle.club_tables.proofs.Common.{true≢false, slice_get, ◌==◌, nat_tests, filter, find, AllByRecursion, AllZip, list_any, list_any_at, Int, Row, has_found}
+use Rattle.club_tables.proofs.Common.{has_kept, contains_had, all_from, Has, false_from_ne_true, inl, inr, IsRowOf, length-map}
+use Rattle.club_tables.proofs.statements.SelectLemmas.{find_first, filter_same, only, picked}
 
-pub each_row : {X : Type 0} (values : X → Row) (hit : Row → Bool) (p : X → Bool) → ((id : ℤ) (x : X) → hit (Int id ∷ values x) ≡ p x) → (rows : List Row)
-    (xs : List X) → AllZip (λ row x. IsRowOf (values x) row) rows xs → AllZip (λ row x. hit row ≡ p x) rows xs
-each_row values hit p tested [] [] same = tt
-each_row values hit p tested [] (x ∷ xs) same = absurd same
-each_row values hit p tested (r ∷ rows) [] same = absurd same
-each_row values hit p tested (r ∷ rows) (x ∷ xs) same =
-    (ap hit same.0.1 ∙ tested same.0.0 x, each_row values hit p tested rows xs same.1)
-
-pub as_many : {X : Type 0} (hit : Row → Bool) (p : X → Bool) (rows : List Row) (xs : List X) → AllZip (λ row x. hit row ≡ p x) rows xs
-    → length (filter hit rows) ≡ length (filter p xs)
-as_many hit p [] [] same = refl
-as_many hit p [] (x ∷ xs) same = absurd same
-as_many hit p (r ∷ rows) [] same = absurd same
-as_many hit p (r ∷ rows) (x ∷ xs) same =
-    rw same.0 (elim (p x) as (λ b. length (cond b (r ∷ filter hit rows) (filter hit rows)) ≡ length (cond b (x ∷ filter p xs) (filter p xs)))
-    [ true ↦ ap suc (as_many hit p rows xs same.1) | false ↦ as_many hit p rows xs same.1 ])
+pub as_many : {X : Type 0} (values : X → Row) (hit : Row → Bool) (p : X → Bool) → ((id : ℤ) (x : X) → hit (Int id ∷ values x) ≡ p x) → (rows : List Row)
+    (xs : List X) → AllZip (λ row x. IsRowOf (values x) row) rows xs → length (filter hit rows) ≡ length (filter p xs)
+as_many values hit p tested rows xs same =
+    simp length-map at (ap length (picked {B = Unit {0}} values p (λ _. tt) hit (λ _. tt) tested (λ id x. refl) rows xs same))
 
 pub find_some : {X : Type 0} (p : X → Bool) (xs : List X) → 1 ≤ length (filter p xs) → (x : X) × (find p xs ≡ Some x)
 find_some {X} p xs some = go (filter p xs) (find_first p xs) some
@@ -43,14 +30,6 @@ contains_counts p xs one has passes = any_counts p xs (list_any_at p xs has.0 on
 abbrev pub Implies : {X : Type 0} → (X → Bool) → (X → Bool) → Type 0
 Implies {X} p q = (x : X) → p x ≡ true → q x ≡ true
 
-pub found_counts : {X : Type 0} (p : X → Bool) (xs : List X) (one : X) → find p xs ≡ Some one → 1 ≤ length (filter p xs)
-found_counts p xs one found = slice_get_within (filter p xs) 0 one (sym (find_first p xs) ∙ found)
-
-pub fewer : {X : Type 0} (p q : X → Bool) → Implies p q → (xs : List X) → length (filter p xs) ≤ length (filter q xs)
-fewer p q implies xs =
-    let parts = length-filter_both p (λ x. not (p x)) (λ x. refl) (filter q xs) in
-    omega (arith, parts, ap length (filter-filter p q implies xs))
-
 pub agree : {X : Type 0} (p q : X → Bool) → Implies p q → (xs : List X) (one : X) → length (filter q xs) ≤ 1 → find p xs ≡ Some one
     → AllByRecursion (λ x. p x ≡ q x) xs
 agree {X} p q implies xs one low is = all_from (λ x. p x ≡ q x) xs (λ x has. go x has (q x) refl)
@@ -67,3 +46,7 @@ found_by_both p q xs same = find_first p xs ∙ ap (λ ys. slice_get ys 0) (filt
 
 pub found : {X : Type 0} (p : X → Bool) (xs : List X) (x : X) → find p xs ≡ Some x → Contains xs x × (p x ≡ true)
 found p xs x h = let it = has_found p xs x h in (contains_had xs x it.0, it.1)
+
+pub wider_is : {X : Type 0} (p q : X → Bool) → Implies p q → (xs : List X) → length (filter q xs) ≤ 1 → (x : X) → find p xs ≡ Some x
+    → (find q xs ≡ Some x) × (p x ≡ true)
+wider_is p q wide xs low x is = (sym (found_by_both p q xs (agree p q wide xs x low is)) ∙ is, (found p xs x is).1)

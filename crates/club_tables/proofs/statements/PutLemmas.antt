@@ -1,30 +1,26 @@
 -- Lemmas about statements of the form `INSERT .. ON CONFLICT .. DO UPDATE`.
 use Rattle.club_tables.proofs.Common.{◌≡◌, ◌≤◌, inl, inr, ℕ, ◌/◌, ℤ, Bool, true, false, None, Some, Option, Ok, List, [], ◌∷◌, ◌++◌, length, map, slice_get}
 use Rattle.club_tables.proofs.Common.{refl, sym, ap, subst, ◌∙◌, append-nil, arith, not, ◌==◌, filter, IsPermutation, is_eq, ordering_reverse, tied_itself}
-use Rattle.club_tables.proofs.Common.{filter_agree, value_cmp_total, has_rowid, IsTable, Trees, put_row, rowid, filter-map, all_from_map, all_has, has_kept}
-use Rattle.club_tables.proofs.Common.{has_filtered, one_permutation, IsPlain, command_of, length-map, AllByRecursion, list_any, and-true, Null, Int, Binary}
-use Rattle.club_tables.proofs.Common.{Compare, Eq, Row, column, value_cmp, Term, col, op2, eval_all, inner, end, Values, Command, InsertOr, conflicts}
-use Rattle.club_tables.proofs.Common.{AreConflicts, Table, cast_row, Edit, next_rowid, with_rowid, Chosen, Enforced, Written, Task, nothing, shown, count_of}
-use Rattle.club_tables.proofs.Common.{Upserts, Clears, Puts, Resolves, Tries, TriesEach, Meets, value_rows, State, Executes, understood, table_of, club_schema}
-use Rattle.club_tables.proofs.Common.{select, Holds, Equal-is, binary, is_true, Has, list_all, holds, and_comm, and_assoc, ◌&&◌, cond, find, length_permutation}
-use Rattle.club_tables.proofs.lists.{PutRows.{IsLone, put_among}, RowLemmas.holds_more}
-use Rattle.club_tables.proofs.statements.{InsertLemmas.{Leaves, task_of, went, same_value, wrote_rows, edited_alone}, JoinLemmas.filter_filter}
-use Rattle.club_tables.proofs.statements.{MeansLemmas.{Means, Wrote}, PassLemmas.any_filtered_is}
-use Rattle.club_tables.proofs.statements.SelectLemmas.{Apart, one_passes, test, shows, answered, row_of, Paired, paired, only, from_truth_is, find_first}
-use Rattle.club_tables.proofs.statements.UpdateLemmas.{Updates, update_leaves, no_works, replaced, Below}
-use Rattle.sqlite_schema.specs.declared.{command.{Conflict.TheVariants.Abort, Upsert.Upsert}, program.Program.Program, schema.Column.Column}
-use Rattle.sqlite_schema.specs.declared.schema.Reference.{Reference}
+use Rattle.club_tables.proofs.Common.{filter_agree, value_cmp_total, has_rowid, IsTable, Trees, put_row, rowid, filter-map, has_kept, has_filtered}
+use Rattle.club_tables.proofs.Common.{one_permutation, IsPlain, command_of, list_any, and-true, Null, Int, Binary, Compare, Eq, Row, column, value_cmp, Term}
+use Rattle.club_tables.proofs.Common.{col, op2, eval_all, inner, end, Values, Command, InsertOr, conflicts, AreConflicts, Table, cast_row, Edit, next_rowid}
+use Rattle.club_tables.proofs.Common.{with_rowid, Chosen, Enforced, Written, Task, nothing, shown, count_of, Upserts, Clears, Puts, Resolves, Tries, TriesEach}
+use Rattle.club_tables.proofs.Common.{Meets, value_rows, State, Executes, understood, table_of, club_schema, select, Holds, Equal-is, binary, is_true, Has}
+use Rattle.club_tables.proofs.Common.{list_all, holds, and_comm, ◌&&◌, find, length_permutation, option_to_list, subst₂, if◌then◌else◌}
+use Rattle.club_tables.proofs.statements.SelectLemmas.{IsLone, no_pair, one_listed, Apart, one_passes, test, shows, answered, row_of, Paired, paired, only}
+use Rattle.club_tables.proofs.statements.{SelectLemmas.{from_truth_is, lone_pair}, InsertLemmas.{Leaves, task_of, went, same_value, wrote_rows, edited_alone}}
+use Rattle.club_tables.proofs.{statements.UpdateLemmas.{Updates, update_leaves, no_works, replaced, Below}, lists.RowLemmas.holds_more}
+use Rattle.club_tables.proofs.statements.{PassLemmas.any_filtered_is, MeansLemmas.{Means, Wrote}, JoinLemmas.filter_filter}
+use Rattle.sqlite_schema.specs.declared.{command.{Conflict.TheVariants.Abort, Upsert.Upsert}, schema.Reference.Reference, program.Program.Program}
+use Rattle.sqlite_schema.specs.declared.schema.Column.{Column}
 use Rattle.sqlite_rules.specs.Action.{Writes as ActionWrites}
+use Rattle.std.proofs.lemmas.List.Folds.{list_all-append}
 
-list_all_more : {X : Type 0} (p : X → Bool) (xs : List X) (y : X) → list_all p (xs ++ y ∷ []) ≡ (list_all p xs && p y)
-list_all_more p [] y = and-true (p y)
-list_all_more p (x ∷ xs) y = ap (λ b. p x && b) (list_all_more p xs y) ∙ sym (and_assoc (p x) (list_all p xs) (p y))
-
-pub id_equal : (a b : ℤ) → is_true (binary (Compare Eq Binary) (Int a) (Int b)) ≡ is_eq (value_cmp (Int a) (Int b))
+id_equal : (a b : ℤ) → is_true (binary (Compare Eq Binary) (Int a) (Int b)) ≡ is_eq (value_cmp (Int a) (Int b))
 unfolding binary
 id_equal a b = from_truth_is _
 
-pub one_at : (id : ℤ) (rows : List Row) (row : Row) → IsTable rows → Has rows row → has_rowid id row ≡ true → filter (has_rowid id) rows ≡ row ∷ []
+one_at : (id : ℤ) (rows : List Row) (row : Row) → IsTable rows → Has rows row → has_rowid id row ≡ true → filter (has_rowid id) rows ≡ row ∷ []
 one_at id rows row rising has is =
     only (filter (has_rowid id) rows) row (one_passes Below (has_rowid id) rows (λ r s p q less.
     let tied = value_cmp_total.congr (rowid r) (Int id) (rowid s) ((Equal-is _).0 p) in
@@ -39,6 +35,10 @@ is_there at = op2 (Compare Eq Binary) (col 1 0) (col 0 at)
 abbrev pub first_clause : Command → Upsert
 first_clause (InsertOr at way from (clause ∷ clauses)) = clause
 first_clause _ = record { target = None; update = None }
+
+-- The elements after the element that passes the test is changed, or after a new element is added.
+abbrev pub put_among : {X : Type 0} → (X → Bool) → (X → X) → X → List X → List X
+put_among p change one xs = if list_any p xs then map change xs else xs ++ one ∷ []
 
 module _ (name : List ℕ) (columns : List Column) (keys : List (List ℕ)) (checks : List Term) (references : List Reference) (tree : ℕ) (target : Option (List ℕ))
   where
@@ -158,116 +158,102 @@ module _ (name : List ℕ) (columns : List Column) (keys : List (List ℕ)) (che
       module _ {X : Type 0} (values : X → Row) (p : X → Bool) (change : X → X) (kept : (x : X) → p x ≡ false
           → change x ≡ x) (first : X) (hit_is : (id : ℤ) (x : X) → hit (Int id ∷ values x) ≡ p x)
           (casts : (id : ℤ) (x : X) → cast_row table (Int id ∷ values x) ≡ Int id ∷ values x) (xs : List X) (held : Holds values (db tree) xs)
-          (lone : Apart (IsLone values p) xs) where
-        abbrev pub Allows : Row → ℤ → X → Type 0
-        Allows there id x = list_all (holds (env there ∷ (Int id ∷ values x) ∷ [])) more ≡ true
+          (lone : Apart (IsLone p) xs) (ids : (there : Row) → column (env there) there_at ≡ rowid there) where
+        abbrev with_ids : Paired values (db tree) xs
+        with_ids = paired values (db tree) xs held.same
 
-        abbrev pub Yields : X → Type 0
-        Yields x =
-            (id : ℤ) (there : Row) → p x ≡ true
-            → Allows there id x × (eval_all sets (env there ∷ (Int id ∷ values x) ∷ []) ≡ Int id ∷ Int id ∷ values (change x))
+        abbrev tests : List Term
+        tests = more ++ is_there there_at ∷ []
 
-        hit_by : (there : Row) → (ps : List (ℤ × X)) → db tree ≡ map (row_of values) ps → (one : ℤ × X) → column (env there) there_at ≡ Int one.0
-            → Has (db tree) (row_of values one)
-            → filter (test (env there) (more ++ is_there there_at ∷ []) sets) (db tree)
-            ≡ filter (λ row. list_all (holds (env there ∷ row ∷ [])) more) (row_of values one ∷ [])
-        hit_by there ps is one of has =
+        listed_one : filter p xs ≡ option_to_list (find p xs)
+        listed_one = one_listed p xs (one_passes (IsLone p) p xs (λ x y a b apart. apart (a, b)) lone)
+
+        hits_are : filter hit (db tree) ≡ map (row_of values) (filter (λ q. p q.1) with_ids.pairs)
+        hits_are =
+            ap (filter hit) with_ids.rows_are ∙ filter-map hit (row_of values) with_ids.pairs
+            ∙ ap (map (row_of values)) (filter_agree _ _ (λ q. hit_is q.0 q.1) with_ids.pairs)
+
+        passing : map (λ q. q.1) (filter (λ q. p q.1) with_ids.pairs) ≡ option_to_list (find p xs)
+        passing = sym (ap (filter p) with_ids.xs_are ∙ filter-map p (λ (q : ℤ × X). q.1) with_ids.pairs) ∙ listed_one
+
+        any_is : (o : Option X) → find p xs ≡ o → list_any p xs ≡ not (length (option_to_list o) == 0)
+        any_is o is = any_filtered_is p xs ∙ ap (λ ys. not (length ys == 0)) (listed_one ∙ ap option_to_list is)
+
+        hit_by : (there : Row) (one : ℤ × X) → column (env there) there_at ≡ Int one.0 → Has (db tree) (row_of values one)
+            → filter (test (env there) tests sets) (db tree) ≡ filter (λ row. list_all (holds (env there ∷ row ∷ [])) more) (row_of values one ∷ [])
+        hit_by there one of has =
             let allowed : Row → Bool = λ row. list_all (holds (env there ∷ row ∷ [])) more in
-            let each : (q : ℤ × X) → test (env there) (more ++ is_there there_at ∷ []) sets (row_of values q)
-            ≡ (has_rowid one.0 (row_of values q) && allowed (row_of values q)) = λ q.
+            let each : (q : ℤ × X) → test (env there) tests sets (row_of values q) ≡ (has_rowid one.0 (row_of values q) && allowed (row_of values q)) = λ q.
             let its : holds (env there ∷ row_of values q ∷ []) (is_there there_at) ≡ has_rowid one.0 (row_of values q) = rw of (id_equal q.0 one.0) in
-            list_all_more (holds (env there ∷ row_of values q ∷ [])) more (is_there there_at)
-            ∙ ap (λ b. allowed (row_of values q) && b) its ∙ and_comm (allowed (row_of values q)) (has_rowid one.0 (row_of values q)) in
-            ap (filter (test (env there) (more ++ is_there there_at ∷ []) sets)) is ∙ filter-map _ (row_of values) ps
-            ∙ ap (map (row_of values)) (filter_agree _ (λ q. has_rowid one.0 (row_of values q) && allowed (row_of values q)) each ps)
-            ∙ sym (ap (filter (λ row. has_rowid one.0 row && allowed row)) is ∙ filter-map (λ row. has_rowid one.0 row && allowed row) (row_of values) ps)
+            list_all-append (holds (env there ∷ row_of values q ∷ [])) more (is_there there_at ∷ [])
+            ∙ ap (λ b. allowed (row_of values q) && b) (and-true _ ∙ its) ∙ and_comm (allowed (row_of values q)) (has_rowid one.0 (row_of values q)) in
+            ap (filter (test (env there) tests sets)) with_ids.rows_are ∙ filter-map _ (row_of values) with_ids.pairs
+            ∙ ap (map (row_of values)) (filter_agree _ (λ q. has_rowid one.0 (row_of values q) && allowed (row_of values q)) each with_ids.pairs)
+            ∙ sym (ap (filter (λ row. has_rowid one.0 row && allowed row)) with_ids.rows_are
+            ∙ filter-map (λ row. has_rowid one.0 row && allowed row) (row_of values) with_ids.pairs)
             ∙ sym (filter_filter allowed (has_rowid one.0) (db tree))
             ∙ ap (filter allowed) (one_at one.0 (db tree) (row_of values one) held.rising has (ap is_eq (tied_itself value_cmp_total (Int one.0))))
+
+        -- The statement updates the row of this element, if the row meets the conditions of the clause.
+        record Changed (x : X) (count : ℕ) : Type 0 where
+          id : ℤ
+          alone : filter (λ q. p q.1) with_ids.pairs ≡ (id, x) ∷ []
+          there : Row
+          put : Updates old new table (select (inner tree end) tests sets) (env there) count
+          answer : IsPermutation (map (shows (env there) tests sets) (filter (λ row. list_all (holds (env there ∷ row ∷ [])) more)
+              (row_of values (id, x) ∷ []))) put.rows
+
+        changed : (x : X) → find p xs ≡ Some x → (count : ℕ) → Executes text params old new (Ok count) → Changed x count
+        changed x is count executed =
+            let one = lone_pair (filter (λ q. p q.1) with_ids.pairs) x (passing ∙ ap option_to_list is) in
+            let hits : filter hit (db tree) ≡ row_of values (one.0, x) ∷ [] = hits_are ∙ ap (map (row_of values)) one.1 in
+            let up = put_old (row_of values (one.0, x)) hits count (ran count executed) in
+            record {
+              id = one.0;
+              alone = one.1;
+              there = up.0;
+              put = up.2;
+              answer = subst (λ rs. IsPermutation (map (shows (env up.0) tests sets) rs) up.2.rows)
+                  (hit_by up.0 (one.0, x) (ids up.0 ∙ up.1) (has_filtered hit (db tree) (row_of values (one.0, x)) (rw hits (inl refl))).0)
+                  (answered (env up.0) tests sets tree (record { schema = club_schema; trees = db }) up.2.rows up.2.answers);
+            }
 
         abbrev IsPut : ℕ → List X → Type 0
         IsPut count left = Wrote club_schema old.now new.now tree × Holds values (new.now.trees tree) left × (1 ≤ count)
 
-        change_old : ((there : Row) → column (env there) there_at ≡ rowid there) → (count : ℕ) → Ran count → (ps : List (ℤ × X))
-            → db tree ≡ map (row_of values) ps → AllByRecursion (λ q. Yields q.1) ps → (one : ℤ × X) → filter (λ q. p q.1) ps ≡ one ∷ []
-            → filter hit (db tree) ≡ row_of values one ∷ [] → IsPut count (map change (map (λ q. q.1) ps))
-        change_old ids count it ps is yields one alone hits =
-            let up = put_old (row_of values one) hits count it in
-            let there = up.0 in
-            let of : column (env there) there_at ≡ Int one.0 = ids there ∙ up.1 in
-            let has = has_filtered (λ (q : ℤ × X). p q.1) ps one (rw alone (inl refl)) in
-            let tests = more ++ is_there there_at ∷ [] in
-            let yielded = all_has (λ q. Yields q.1) ps one yields has.0 one.0 there has.1 in
-            let found : filter (test (env there) tests sets) (db tree) ≡ row_of values one ∷ [] =
-            hit_by there ps is one of (has_filtered hit (db tree) (row_of values one) (rw hits (inl refl))).0
-            ∙ ap (λ b. cond b (row_of values one ∷ []) []) yielded.0 in
-            let answer = subst (λ rs. IsPermutation (map (shows (env there) tests sets) rs) up.2.rows) found
-            (answered (env there) tests sets tree (record { schema = club_schema; trees = db }) up.2.rows up.2.answers) in
-            let row : up.2.rows ≡ (Int one.0 ∷ Int one.0 ∷ values (change one.1)) ∷ [] =
-            one_permutation _ up.2.rows answer ∙ ap (λ r. r ∷ []) yielded.1 in (
-              up.2.wrote,
-              subst (λ rs. Holds values rs (map change (map (λ q. q.1) ps))) (sym up.2.left)
-                  (replaced values p change kept table (record { schema = club_schema; trees = db }) up.2.rows ps is (subst IsTable is held.rising) one
-                  alone row (casts one.0 (change one.1))),
-              omega (arith, up.2.counted, ap length row),
-            )
-
-        pub row_put : (list_any p xs ≡ false → source ≡ values first) → ((there : Row) → column (env there) there_at ≡ rowid there) → AllByRecursion Yields xs
-            → (count : ℕ) → Executes text params old new (Ok count)
-            → Wrote club_schema old.now new.now tree × Holds values (new.now.trees tree) (put_among values p change first xs) × (1 ≤ count)
-        row_put same ids yields count executed =
-            let with_ids = paired values (db tree) xs held.same in
-            let ps = with_ids.pairs in
-            let few = ap length (ap (filter p) with_ids.xs_are ∙ filter-map p (λ (q : ℤ × X). q.1) ps) ∙ length-map (filter (λ q. p q.1) ps) (λ q. q.1) in
-            go (ran count executed) with_ids (filter (λ q. p q.1) ps) refl (ap (filter hit) with_ids.rows_are ∙ filter-map hit (row_of values) ps
-            ∙ ap (map (row_of values)) (filter_agree _ _ (λ q. hit_is q.0 q.1) ps))
-            (subst (λ n. n ≤ 1) few (one_passes (IsLone values p) p xs (λ x y a b apart. apart (a, b)) lone))
-            (any_filtered_is p xs ∙ ap (λ n. not (n == 0)) few)
+        pub row_put : (find p xs ≡ None → source ≡ values first) → ((x : X) → find p xs ≡ Some x → (id : ℤ) (there : Row)
+            → (list_all (holds (env there ∷ (Int id ∷ values x) ∷ [])) more ≡ true)
+            × (eval_all sets (env there ∷ (Int id ∷ values x) ∷ []) ≡ Int id ∷ Int id ∷ values (change x)))
+            → (count : ℕ) → Executes text params old new (Ok count) → IsPut count (put_among p change first xs)
+        row_put same yields count executed = by (find p xs) refl
           where
-            go : Ran count → (with_ids : Paired values (db tree) xs) (ones : List (ℤ × X)) → filter (λ q. p q.1) with_ids.pairs ≡ ones
-                → filter hit (db tree) ≡ map (row_of values) ones → length ones ≤ 1
-                → list_any p xs ≡ not (length ones == 0) → IsPut count (put_among values p change first xs)
-            go it with_ids [] alone hits low any =
-                let put = put_new hits count it in
-                let grown = subst (λ vs. Holds values (put_row (Int (next_rowid (db tree)) ∷ vs) (db tree)) (xs ++ first ∷ [])) (sym (same any))
+            by : (o : Option X) → find p xs ≡ o → IsPut count (put_among p change first xs)
+            by None none =
+                let put = put_new (hits_are ∙ ap (map (row_of values)) (no_pair _ (passing ∙ ap option_to_list none))) count (ran count executed) in
+                let grown = subst (λ vs. Holds values (put_row (Int (next_rowid (db tree)) ∷ vs) (db tree)) (xs ++ first ∷ [])) (sym (same none))
                 (holds_more values (db tree) xs first held) in
-                rw any (put.0, subst (λ rs. Holds values rs (xs ++ first ∷ [])) (sym put.1) grown, put.2)
-            go it with_ids (one ∷ []) alone hits low any =
-                rw any (subst (λ ys. IsPut count (map change ys)) (sym with_ids.xs_are) (change_old ids count it with_ids.pairs with_ids.rows_are
-                (all_from_map Yields (λ (q : ℤ × X). q.1) with_ids.pairs (subst (AllByRecursion Yields) with_ids.xs_are yields)) one alone hits))
-            go it with_ids (one ∷ other ∷ ones) alone hits low any = absurd (omega arith)
+                rw (any_is None none) (put.0, subst (λ rs. Holds values rs (xs ++ first ∷ [])) (sym put.1) grown, put.2)
+            by (Some x) is =
+                let it = changed x is count executed in
+                let yielded = yields x is it.id it.there in
+                let row : it.put.rows ≡ (Int it.id ∷ Int it.id ∷ values (change x)) ∷ [] =
+                one_permutation _ it.put.rows (rw yielded.0 at it.answer) ∙ ap (λ r. r ∷ []) yielded.1 in
+                let left = replaced values p change kept table (record { schema = club_schema; trees = db }) it.put.rows with_ids.pairs with_ids.rows_are
+                (subst IsTable with_ids.rows_are held.rising) (it.id, x) it.alone row (casts it.id (change x)) in
+                rw (any_is (Some x) is) (
+                  it.put.wrote,
+                  subst₂ (λ rs ys. Holds values rs (map change ys)) (sym it.put.left) (sym with_ids.xs_are) left,
+                  omega (arith, it.put.counted, ap length row),
+                )
 
-        pub row_allowed : ((there : Row) → column (env there) there_at ≡ rowid there) → (allows : X → Bool)
+        pub row_allowed : (allows : X → Bool)
             → ((id : ℤ) (there : Row) (x : X) → list_all (holds (env there ∷ (Int id ∷ values x) ∷ [])) more ≡ allows x)
             → (count : ℕ) → Executes text params old new (Ok count) → 1 ≤ count → (x : X) → find p xs ≡ Some x → allows x ≡ true
-        row_allowed ids allows allowed count executed some x is =
-            let with_ids = paired values (db tree) xs held.same in
-            let ps = with_ids.pairs in
-            let passing : filter p xs ≡ map (λ (q : ℤ × X). q.1) (filter (λ q. p q.1) ps) =
-            ap (filter p) with_ids.xs_are ∙ filter-map p (λ (q : ℤ × X). q.1) ps in
-            go (ran count executed) with_ids (filter (λ q. p q.1) ps) refl (ap (filter hit) with_ids.rows_are ∙ filter-map hit (row_of values) ps
-            ∙ ap (map (row_of values)) (filter_agree _ _ (λ q. hit_is q.0 q.1) ps))
-            (subst (λ n. n ≤ 1) (ap length passing ∙ length-map (filter (λ q. p q.1) ps) (λ q. q.1))
-            (one_passes (IsLone values p) p xs (λ x y a b apart. apart (a, b)) lone))
-            (sym is ∙ find_first p xs ∙ ap (λ ys. slice_get ys 0) passing)
+        row_allowed allows allowed count executed some x is = by (allows x) refl
           where
-            go : Ran count → (with_ids : Paired values (db tree) xs) (ones : List (ℤ × X)) → filter (λ q. p q.1) with_ids.pairs ≡ ones
-                → filter hit (db tree) ≡ map (row_of values) ones → length ones ≤ 1 → Some x ≡ slice_get (map (λ (q : ℤ × X). q.1) ones) 0
-                → allows x ≡ true
-            go it with_ids [] alone hits low first = absurd cc
-            go it with_ids (one ∷ []) alone hits low first =
-                let up = put_old (row_of values one) hits count it in
-                let there = up.0 in
-                let of : column (env there) there_at ≡ Int one.0 = ids there ∙ up.1 in
-                let tests = more ++ is_there there_at ∷ [] in
-                let answer = answered (env there) tests sets tree (record { schema = club_schema; trees = db }) up.2.rows up.2.answers in
-                let found = hit_by there with_ids.pairs with_ids.rows_are one of (has_filtered hit (db tree) (row_of values one) (rw hits (inl refl))).0 in
-                let as_many = length_permutation _ up.2.rows answer ∙ length-map (filter (test (env there) tests sets) (db tree)) (shows (env there) tests sets)
-                ∙ ap length found in
-                let one_is : x ≡ one.1 = cc in
-                by (list_all (holds (env there ∷ row_of values one ∷ [])) more) refl (up.2.counted ∙ as_many) (allowed one.0 there one.1
-                ∙ ap allows (sym one_is))
-              where
-                by : (b : Bool) → {c : Bool} → c ≡ b → count ≡ length (cond c (row_of values one ∷ []) []) → c ≡ allows x → allows x ≡ true
-                by true is counted same = sym same ∙ is
-                by false is counted same = let none = rw is at counted in absurd (omega (arith, none, some))
-            go it with_ids (one ∷ other ∷ ones) alone hits low first = absurd (omega arith)
+            by : (b : Bool) → allows x ≡ b → allows x ≡ true
+            by true passes = passes
+            by false fails =
+                let it = changed x is count executed in
+                let none = length_permutation [] it.put.rows (rw (allowed it.id it.there x ∙ fails) at it.answer) in
+                absurd (omega (arith, some, it.put.counted, none))

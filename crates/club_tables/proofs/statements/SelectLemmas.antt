@@ -1,19 +1,19 @@
 -- Lemmas about SELECT queries of one table, with and without ORDER BY.
-use Rattle.club_tables.proofs.Common.{◌≡◌, ◌≤◌, ℕ, suc, ◌-◌, ◌^◌, ℤ, pos, Bool, true, false, cond, ◌==◌, None, Some, List, [], ◌∷◌, ◌++◌, length, map}
-use Rattle.club_tables.proofs.Common.{slice_get, refl, sym, ap, subst, ◌∙◌, arith, inl, inr, ◌+◌, filter, find, flat_map, AllPairs, IsPermutation, nat_le}
-use Rattle.club_tables.proofs.Common.{unwrap_or, IsSorted, AllByRecursion, AllZip, list_all, bytes_eq, is_eq, int_cmp, is_lt, nat_tests, IsPermutation-map}
+use Rattle.club_tables.proofs.Common.{inr, ◌≡◌, ◌≤◌, ℕ, suc, ◌-◌, ◌^◌, ℤ, pos, Bool, true, false, cond, ◌==◌, None, Some, List, [], ◌∷◌, ◌++◌, length, map}
+use Rattle.club_tables.proofs.Common.{slice_get, refl, sym, ap, subst, ◌∙◌, arith, inl, ◌+◌, filter, find, flat_map, AllPairs, IsPermutation, nat_le, unwrap_or}
+use Rattle.club_tables.proofs.Common.{IsSorted, AllByRecursion, AllZip, list_all, bytes_eq, is_eq, int_cmp, is_lt, nat_tests, IsPermutation-map}
 use Rattle.club_tables.proofs.Common.{length_permutation, sorted_far, ranks_by, IsPermutation-refl, IsPermutation-cons, IsPermutation-middle}
 use Rattle.club_tables.proofs.Common.{IsPermutation-trans, recursion_from_All, All-from_recursion, filter_passes, Int, Text, Blob, Null, Binary, value_cmp-Int}
 use Rattle.club_tables.proofs.Common.{value_cmp-Text, value_cmp-Blob, Compare, Eq, binary, is_true, from_truth, Row, Trees, Term, Env, holds, eval_all, inner}
 use Rattle.club_tables.proofs.Common.{end, IsAnswer, Output, output, Query, output_cmp, key_cmp, Select, Database, Reads, Answers, one_permutation, IsRowOf}
 use Rattle.club_tables.proofs.Common.{Holds, select, Has, map-map, filter-map, ascending-filter, ascending-map, all_of, pull_back, all-permutation}
-use Rattle.club_tables.proofs.Common.{along_permutation, Less, Equal, Greater, is_gt, ordering_reverse, IsTotalOrder, length-map, get_or-map}
-use Rattle.std.proofs.{Math.Path.ap₂, lemmas.{List.Kept.AllPairs-cons, Map.Text.is_eq-slice_cmp}}
+use Rattle.club_tables.proofs.Common.{along_permutation, Less, Equal, Greater, is_gt, ordering_reverse, IsTotalOrder, length-map, get_or-map, option_to_list}
+use Rattle.std.{proofs.{Math.Path.ap₂, lemmas.{List.Kept.AllPairs-cons, Map.Text.is_eq-slice_cmp}}, specs.declared.cmp.Ordering.Ordering}
 use Rattle.sqlite.specs.Program.{overlay}
 use Rattle.sqlite_trees.specs.Tree.{IsAscending}
-pub use Rattle.sqlite_trees.proofs.ListLemmas.{filter_same, filter_none as none_pass}
-use Rattle.std.specs.declared.cmp.Ordering.{Ordering}
 use Rattle.sqlite_value.specs.declared.keys.Key.{Key}
+pub use Rattle.sqlite_trees.proofs.ListLemmas.{filter_same}
+pub use Rattle.sqlite_trees.proofs.ListLemmas.{filter_none as none_pass}
 
 pub from_truth_is : (b : Bool) → is_true (from_truth (Some b)) ≡ b
 from_truth_is true = refl
@@ -84,6 +84,14 @@ module _ (params : Row) (tests : List Term) (project : List Term) where
 abbrev pub row_of : {X : Type 0} → (X → Row) → ℤ × X → Row
 row_of values q = Int q.0 ∷ values q.1
 
+pub lone_pair : {X : Type 0} (pairs : List (ℤ × X)) (x : X) → map (λ q. q.1) pairs ≡ x ∷ [] → (id : ℤ) × (pairs ≡ (id, x) ∷ [])
+lone_pair (q ∷ []) x is = (q.0, let same : q.1 ≡ x = cc in ap (λ y. (q.0, y) ∷ []) same)
+lone_pair _ x is = absurd cc
+
+pub no_pair : {X : Type 0} (pairs : List (ℤ × X)) → map (λ q. q.1) pairs ≡ [] → pairs ≡ []
+no_pair [] none = refl
+no_pair (q ∷ pairs) none = absurd cc
+
 pub record Paired {X : Type 0} (values : X → Row) (rows : List Row) (xs : List X) : Type 0 where
   pub pairs : List (ℤ × X)
   pub rows_are : rows ≡ map (row_of values) pairs
@@ -91,11 +99,10 @@ pub record Paired {X : Type 0} (values : X → Row) (rows : List Row) (xs : List
 
 pub paired : {X : Type 0} (values : X → Row) (rows : List Row) (xs : List X) → AllZip (λ row x. IsRowOf (values x) row) rows xs → Paired values rows xs
 paired values [] [] h = record { pairs = []; rows_are = refl; xs_are = refl }
-paired values [] (x ∷ xs) h = absurd h
-paired values (r ∷ rows) [] h = absurd h
 paired values (r ∷ rows) (x ∷ xs) h =
     let more = paired values rows xs h.1 in
     record { pairs = (h.0.0, x) ∷ more.pairs; rows_are = ap₂ ◌∷◌ h.0.1 more.rows_are; xs_are = ap (λ ys. x ∷ ys) more.xs_are }
+paired values _ _ h = absurd h
 
 pub picked : {X B : Type 0} (values : X → Row) (p : X → Bool) (show : X → B) (passes : Row → Bool) (shown : Row → B)
     → ((id : ℤ) (x : X) → passes (Int id ∷ values x) ≡ p x) → ((id : ℤ) (x : X) → shown (Int id ∷ values x) ≡ show x) → (rows : List Row) (xs : List X)
@@ -138,15 +145,26 @@ pub one_passes : {X : Type 0} (R : X → X → Type 0) (p : X → Bool) (xs : Li
 one_passes {X} R p xs same apart = short (filter p xs) (recursion_from_All _ _ (filter_passes p xs)) (ascending-filter R p xs apart)
   where
     short : (ys : List X) → AllByRecursion (λ y. p y ≡ true) ys → Apart R ys → length ys ≤ 1
-    short [] pass apart = omega arith
-    short (y ∷ []) pass apart = omega arith
     short (y ∷ z ∷ ys) pass apart = absurd (same y z pass.0 pass.1.0 apart.0.0)
+    short _ pass apart = omega arith
 
 pub only : {X : Type 0} (xs : List X) (x : X) → length xs ≤ 1 → Has xs x → xs ≡ x ∷ []
-only [] x low has = absurd has
 only (y ∷ []) x low (inl is) = ap (λ z. z ∷ []) (sym is)
 only (y ∷ []) x low (inr has) = absurd has
 only (y ∷ z ∷ xs) x low has = absurd (omega arith)
+only [] x low has = absurd has
+
+pub one_listed : {X : Type 0} (p : X → Bool) (xs : List X) → length (filter p xs) ≤ 1 → filter p xs ≡ option_to_list (find p xs)
+one_listed {X} p xs low = short (filter p xs) low ∙ ap option_to_list (sym (find_first p xs))
+  where
+    short : (ys : List X) → length ys ≤ 1 → ys ≡ option_to_list (slice_get ys 0)
+    short (y ∷ z ∷ ys) low = absurd (omega arith)
+    short [] low = refl
+    short (y ∷ []) low = refl
+
+-- These two elements don't both pass the test.
+abbrev pub IsLone : {X : Type 0} → (X → Bool) → X → X → Type 0
+IsLone p a b = ¬ ((p a ≡ true) × (p b ≡ true))
 
 pub short_permutation : {X : Type 0} (xs ys : List X) → length xs ≤ 1 → IsPermutation xs ys → ys ≡ xs
 short_permutation [] [] low h = refl

@@ -4,16 +4,16 @@ use Rattle.club_tables.proofs.Common.{arith, not, cond, subst₂, inl, Less, Gre
 use Rattle.club_tables.proofs.Common.{cast_row, AllByRecursion, AllZip, filter_map, Int, Term, Row, value_cmp, Query, inner, end, Table, Update, Given, edit_of}
 use Rattle.club_tables.proofs.Common.{edited, taken_by, works, work_by, pairs, deed_for, Enforced, Written, Answers, Database, State, Executes, club_schema}
 use Rattle.club_tables.proofs.Common.{select, Holds, IsRowOf, is_eq, ordering_reverse, tied_itself, Value, value_cmp_total, rowid, has_rowid, put_row}
-use Rattle.club_tables.proofs.Common.{without_rowid, IsTable, filter-map, filter_all, filter_same, all_weaker, all_both, all_from_map, ascending-map}
-use Rattle.club_tables.proofs.Common.{ascending_from_map, all_has, has_filtered, one_permutation}
-use Rattle.club_tables.proofs.statements.{InsertLemmas.{Leaves, task_of, went, same_value, wrote_rows, edited_alone}, MeansLemmas.{Means, Wrote}}
-use Rattle.club_tables.proofs.statements.{PassLemmas.{each_row, as_many, find_some}, SelectLemmas.{answered, shows, test, row_of, paired, short_permutation}}
-use Rattle.sqlite_rules.proofs.RowLemmas.{length-numbered}
-use Rattle.sqlite_rules.specs.Calls.{ids_of}
+use Rattle.club_tables.proofs.Common.{without_rowid, IsTable, filter-map, filter_all, filter_same, all_weaker, all_from_map, ascending-map, ascending_from_map}
+use Rattle.club_tables.proofs.Common.{all_has, has_filtered, one_permutation, HoldsRows, Rows, option_to_list, Trees}
+use Rattle.club_tables.proofs.statements.InsertLemmas.{Leaves, task_of, went, same_value, wrote_rows, edited_alone}
+use Rattle.club_tables.proofs.statements.{MeansLemmas.{Means, Wrote, WhenRan}, SelectLemmas.{answered, shows, test, row_of, paired, lone_pair, one_listed}}
+use Rattle.club_tables.proofs.statements.PassLemmas.{as_many, find_some, Implies, agree, contains_counts, found, wider_is}
+use Rattle.sqlite_rules.{proofs.RowLemmas.length-numbered, specs.Calls.ids_of}
 use Rattle.sqlite_schema.specs.Rules.{parent_key}
 use Rattle.sqlite.specs.Rows.{Updates as WritesUpdate}
-pub use Rattle.sqlite_trees.proofs.ListLemmas.{all_of as each_of}
 use Rattle.std.proofs.Math.Path.{ap₂}
+pub use Rattle.sqlite_trees.proofs.ListLemmas.{all_of as each_of}
 
 abbrev pub Below : Row → Row → Type 0
 Below r s = value_cmp (rowid r) (rowid s) ≡ Less
@@ -80,23 +80,6 @@ module _ {X : Type 0} (values : X → Row) (p : X → Bool) (change : X → X) (
     pub replaced : (one : ℤ × X) → filter passes ps ≡ one ∷ [] → rows ≡ (Int one.0 ∷ next one) ∷ [] → cast_row table (next one) ≡ next one → Left
     replaced one lone row casts = rw (row, casts, is, put_again ps one rising lone) (holds_next ps rising)
 
-    replaced_if_any : (shown : Row → Row) (Q : X → Type 0) → AllByRecursion (λ q. Q q.1) ps
-        → ((id : ℤ) (x : X) → Q x → p x ≡ true → shown (Int id ∷ values x) ≡ Int id ∷ Int id ∷ values (change x))
-        → ((id : ℤ) (x : X) → cast_row table (Int id ∷ values x) ≡ Int id ∷ values x)
-        → (ones : List (ℤ × X)) → filter passes ps ≡ ones → length ones ≤ 1 → IsPermutation (map shown (map (row_of values) ones)) rows → Left
-    replaced_if_any shown Q all sets casts [] none few same =
-        rw (short_permutation [] rows (omega arith) same, is, none_change ps none) (holds_next ps rising)
-    replaced_if_any shown Q all sets casts (one ∷ []) lone few same =
-        let has = has_filtered passes ps one (rw lone (inl refl)) in
-        replaced one lone (one_permutation (shown (row_of values one)) rows same
-        ∙ ap (λ row. row ∷ []) (sets one.0 one.1 (all_has (λ q. Q q.1) ps one all has.0) has.1)) (casts one.0 (change one.1))
-    replaced_if_any shown Q all sets casts (one ∷ other ∷ ones) lone few same = absurd (omega arith)
-
-  hits_of : (hit : Row → Bool) (wide : X → Bool) (ps : List (ℤ × X)) → AllZip (λ row x. hit row ≡ wide x) (map (row_of values) ps) (map (λ q. q.1) ps)
-      → AllByRecursion (λ q. hit (row_of values q) ≡ wide q.1) ps
-  hits_of hit wide [] h = tt
-  hits_of hit wide (q ∷ ps) h = (h.0, hits_of hit wide ps h.1)
-
 -- In the club's tables, no foreign key propagates an update to another table.
 pub no_works : (tree : ℕ) (olds news : List Row) → works club_schema Enforced 0 tree olds news ≡ []
 no_works tree olds news =
@@ -137,58 +120,82 @@ pub updates : {text : List ℕ} {at : ℕ} {query : Query} → Means club_schema
 updates {at = at} means table listed {old = old} {new = new} {params = params} {count = count} has h =
     let it = wrote_rows means at listed old new params count (λ w. w) (λ out does. does) has h in update_leaves old params table it.1 it.2
 
-pub record Finds {X : Type 0} (values : X → Row) (p : X → Bool) (xs : List X) (shown : Row → Row) (old new : State) (table : Table) (count : ℕ) : Type 0
+-- The statement's tests pass for the elements that pass `p`. Such an element also passes `q`, and
+-- at most one element passes `q`.
+pub record FindsOne {X : Type 0} (values : X → Row) (p q : X → Bool) (xs : List X) (shown : Row → Row) (old new : State) (table : Table) (count : ℕ) : Type 0
   where
-    pub rows : List Row
-    pub hit : Row → Bool
+    pub query : Query
+    pub params : Row
+    pub put : Updates old new table query params count
     pub held : Holds values (old.now.trees table.tree) xs
-    pub hits : AllZip (λ row x. hit row ≡ p x) (old.now.trees table.tree) xs
-    pub answer : IsPermutation (map shown (filter hit (old.now.trees table.tree))) rows
-    pub wrote : Wrote club_schema old.now new.now table.tree
-    pub left : new.now.trees table.tree ≡ edited old.now.trees (edit_of old.now.trees table (ids_of rows) Given 1 rows)
-    pub counted : count ≡ length rows
+    pub hit : Row → Bool
+    pub hits : (id : ℤ) (x : X) → hit (Int id ∷ values x) ≡ p x
+    pub answer : IsPermutation (map shown (filter hit (old.now.trees table.tree))) put.rows
+    pub wide : Implies p q
+    pub low : length (filter q xs) ≤ 1
 
-pub finds : {X : Type 0} (values : X → Row) (p : X → Bool) (xs : List X) {table : Table} {tests project : List Term} {old new : State} {params : Row}
-    {count : ℕ} → Updates old new table (select (inner table.tree end) tests project) params count → Holds values (old.now.trees table.tree) xs
-    → ((id : ℤ) (x : X) → test params tests project (Int id ∷ values x) ≡ p x)
-    → Finds values p xs (shows params tests project) old new table count
-finds values p xs {table = table} {tests = tests} {project = project} {old = old} {params = params} put held tested = record {
-  rows = put.rows;
-  hit = test params tests project;
-  held = held;
-  hits = each_row values (test params tests project) p tested (old.now.trees table.tree) xs held.same;
-  answer = answered params tests project table.tree (record { schema = club_schema; trees = old.now.trees }) put.rows put.answers;
-  wrote = put.wrote;
-  left = put.left;
-  counted = put.counted;
-}
+pub finds_by : {X : Type 0} {values : X → Row} {p q : X → Bool} {rows : Rows} {xs : List X} {text : List ℕ} {table : Table} {query : Query} {params : Row}
+    (at : ℕ) (shown : Trees → Row → Row) (hit : Trees → Row → Bool) → Means club_schema text (Update at (record { lets = []; body = query }))
+    → slice_get club_schema.tables at ≡ Some table → ((db : Database) → HoldsRows db rows → Holds values (db.trees table.tree) xs)
+    → ((db : Database) → HoldsRows db rows → (id : ℤ) (x : X) → hit db.trees (Int id ∷ values x) ≡ p x)
+    → ((db : Database) (found : List Row) → Answers db (record { lets = []; body = query }) params found
+    → IsPermutation (map (shown db.trees) (filter (hit db.trees) (db.trees table.tree))) found) → Implies p q → length (filter q xs) ≤ 1
+    → WhenRan (text, params) rows (λ old new count. FindsOne values p q xs (shown old.now.trees) old new table count)
+finds_by {table = table} {query = query} {params = params} at shown hit means listed held hits answer wide low old new count holds_rows ran =
+    let put : Updates old new table query params count = updates means table listed holds_rows.schema ran in
+    record {
+      query = query;
+      params = params;
+      put = put;
+      held = held old.now holds_rows;
+      hit = hit old.now.trees;
+      hits = hits old.now holds_rows;
+      answer = answer (record { schema = club_schema; trees = old.now.trees }) put.rows put.answers;
+      wide = wide;
+      low = low;
+    }
 
-module _ {X : Type 0} {values : X → Row} {p : X → Bool} {xs : List X} {shown : Row → Row} {old new : State} {table : Table} {count : ℕ}
-    (it : Finds values p xs shown old new table count) where
-  written : length it.rows ≡ length (filter p xs)
-  written = length_permutation _ it.rows it.answer ∙ length-map (filter it.hit (old.now.trees table.tree)) shown
-      ∙ as_many it.hit p (old.now.trees table.tree) xs it.hits
+pub finds_row : {X : Type 0} {values : X → Row} {p q : X → Bool} {rows : Rows} {xs : List X} {text : List ℕ} {table : Table} (at : ℕ) (params : Row)
+    (tests project : List Term)
+    → Means club_schema text (Update at (record { lets = []; body = select (inner table.tree end) tests project }))
+    → slice_get club_schema.tables at ≡ Some table → ((db : Database) → HoldsRows db rows → Holds values (db.trees table.tree) xs)
+    → ((id : ℤ) (x : X) → test params tests project (Int id ∷ values x) ≡ p x) → Implies p q → length (filter q xs) ≤ 1
+    → WhenRan (text, params) rows (λ old new count. FindsOne values p q xs (shows params tests project) old new table count)
+finds_row {table = table} at params tests project means listed held tested =
+    finds_by at (λ _. shows params tests project) (λ _. test params tests project) means listed held (λ _ _. tested) (answered params tests project table.tree)
 
-  pub passes_one : 1 ≤ count → (x : X) × (find p xs ≡ Some x)
-  passes_one some = find_some p xs (omega (arith, some, it.counted, written))
+module _ {X : Type 0} {values : X → Row} {p q : X → Bool} {xs : List X} {shown : Row → Row} {old new : State} {table : Table} {count : ℕ}
+    (it : FindsOne values p q xs shown old new table count) where
+  written : count ≡ length (filter p xs)
+  written =
+      it.put.counted ∙ length_permutation _ it.put.rows it.answer ∙ length-map (filter it.hit (old.now.trees table.tree)) shown
+      ∙ as_many values it.hit p it.hits (old.now.trees table.tree) xs it.held.same
 
-  pub writes_one : 1 ≤ length (filter p xs) → 1 ≤ count
-  writes_one passing = omega (arith, passing, it.counted, written)
+  pub one_found : 1 ≤ count → (x : X) × (find q xs ≡ Some x) × (p x ≡ true)
+  one_found some =
+      let one = find_some p xs (omega (arith, some, written)) in
+      let is = wider_is p q it.wide xs it.low one.0 one.1 in
+      (one.0, is.0, is.1)
 
-  pub changes_one : (q : X → Bool) → AllByRecursion (λ x. p x ≡ q x) xs → (change : X → X) → ((x : X) → q x ≡ false → change x ≡ x) → (Q : X → Type 0)
-      → AllByRecursion Q xs → ((id : ℤ) (x : X) → Q x → q x ≡ true → shown (Int id ∷ values x) ≡ Int id ∷ Int id ∷ values (change x))
-      → ((id : ℤ) (x : X) → cast_row table (Int id ∷ values x) ≡ Int id ∷ values x) → length (filter q xs) ≤ 1
-      → Holds values (new.now.trees table.tree) (map change xs)
-  changes_one q agreed change kept Q all sets casts low =
+  pub one_changed : {Next : Type 0} (x : X) → find q xs ≡ Some x → p x ≡ true → (change : X → X) → ((y : X) → q y ≡ false → change y ≡ y)
+      → ((id : ℤ) → q x ≡ true → shown (Int id ∷ values x) ≡ Int id ∷ Int id ∷ values (change x))
+      → ((id : ℤ) (y : X) → cast_row table (Int id ∷ values y) ≡ Int id ∷ values y)
+      → (Wrote club_schema old.now new.now table.tree → Holds values (new.now.trees table.tree) (map change xs) → Next) → Next × (1 ≤ count)
+  one_changed x is passing change kept sets casts on =
+      let here = found q xs x is in
+      let some = contains_counts p xs x here.0 passing in
+      let same = agree p q it.wide xs (find_some p xs some).0 it.low (find_some p xs some).1 in
       let with_ids = paired values (old.now.trees table.tree) xs it.held.same in
       let ps = with_ids.pairs in
-      let each = λ (P : X → Type 0) (h : AllByRecursion P xs). all_from_map P (λ (r : ℤ × X). r.1) ps (subst (AllByRecursion P) with_ids.xs_are h) in
-      let same = all_both (λ r. it.hit (row_of values r) ≡ p r.1) (λ r. p r.1 ≡ q r.1) (λ r. it.hit (row_of values r) ≡ q r.1) (λ r h k. h ∙ k) ps
-      (hits_of values q change kept it.hit p ps (subst₂ (AllZip (λ row x. it.hit row ≡ p x)) with_ids.rows_are with_ids.xs_are it.hits))
-      (each (λ x. p x ≡ q x) agreed) in
-      let found = ap (filter it.hit) with_ids.rows_are ∙ filter-map it.hit (row_of values) ps ∙ ap (map (row_of values)) (filter_same _ (λ r. q r.1) ps same) in
-      let few = ap length (ap (filter q) with_ids.xs_are ∙ filter-map q (λ (r : ℤ × X). r.1) ps) ∙ length-map (filter (λ r. q r.1) ps) (λ r. r.1) in
-      subst₂ (λ rs ys. Holds values rs (map change ys)) (sym it.left) (sym with_ids.xs_are)
-      (replaced_if_any values q change kept table (record { schema = club_schema; trees = old.now.trees }) it.rows ps with_ids.rows_are
-      (subst IsTable with_ids.rows_are it.held.rising) shown Q (each Q all) sets casts (filter (λ r. q r.1) ps) refl
-      (subst (λ n. n ≤ 1) few low) (subst (λ rs. IsPermutation (map shown rs) it.rows) found it.answer))
+      let lone = lone_pair (filter (λ r. q r.1) ps) x (sym (ap (filter q) with_ids.xs_are ∙ filter-map q (λ (r : ℤ × X). r.1) ps)
+      ∙ one_listed q xs it.low ∙ ap option_to_list is) in
+      let hits = all_weaker (λ (r : ℤ × X). p r.1 ≡ q r.1) (λ r. it.hit (row_of values r) ≡ q r.1) (λ r e. it.hits r.0 r.1 ∙ e) ps
+      (all_from_map (λ y. p y ≡ q y) (λ (r : ℤ × X). r.1) ps (subst (AllByRecursion (λ y. p y ≡ q y)) with_ids.xs_are same)) in
+      let hit : filter it.hit (old.now.trees table.tree) ≡ row_of values (lone.0, x) ∷ [] =
+      ap (filter it.hit) with_ids.rows_are ∙ filter-map it.hit (row_of values) ps
+      ∙ ap (map (row_of values)) (filter_same _ (λ r. q r.1) ps hits ∙ lone.1) in
+      let row = one_permutation (shown (Int lone.0 ∷ values x)) it.put.rows (subst (λ rs. IsPermutation (map shown rs) it.put.rows) hit it.answer)
+      ∙ ap (λ r. r ∷ []) (sets lone.0 here.1) in
+      let left = replaced values q change kept table (record { schema = club_schema; trees = old.now.trees }) it.put.rows ps with_ids.rows_are
+      (subst IsTable with_ids.rows_are it.held.rising) (lone.0, x) lone.1 row (casts lone.0 (change x)) in
+      (on it.put.wrote (subst₂ (λ rs ys. Holds values rs (map change ys)) (sym it.put.left) (sym with_ids.xs_are) left), omega (arith, some, written))

@@ -1,6 +1,5 @@
-use Rattle.club_tables.proofs.{Common.{◌≡◌, false, Option, Some, None, true≢false, refl, sym, ◌∙◌, InsertKey}, changes.WriteLemmas.changes}
+use Rattle.club_tables.proofs.{Common.{◌≡◌, false, Option, Some, None, true≢false, refl, sym, ◌∙◌, InsertKey, OlderRoot}, changes.WriteLemmas.changes}
 use Rattle.std.specs.Prelude.{is_some}
-use Rattle.club_rows.specs.declared.key.OlderRoot.{OlderRoot}
 use Rattle.club_tables.proofs.tables.Tables.insert_key.Goals as goal
 
 none_of : (older : Option OlderRoot) → is_some older ≡ false → older ≡ None

@@ -1,9 +1,9 @@
 use Rattle.club_tables.proofs.Common.{◌≡◌, ◌≢◌, ◌⊎◌, ℕ, List, [], ◌∷◌, All, IsTrue, inl, inr, refl, sym, subst, ◌∙◌, arith, Row, Ghosts, Database, HasCleanDisk}
 use Rattle.club_tables.proofs.Common.{Held, state, BoundStatement, IsIdle, IsKept, IsUnderstood, VERSION, HasValues, version_values, HasNoDesk, AcceptsTables}
 use Rattle.club_tables.proofs.Common.{YieldsRows, HasRunOver, Upgrade, EnsuresIndex, first_texts, texts_by_key, indexed_texts, table_batch, migration}
-use Rattle.club_tables.proofs.{Common.{index_batch, HoldsClubAnyVersion}, crashes.SurviveLemmas.{opened_after, was_clean}, opening.MakingLemmas.makes_free}
-use Rattle.club_tables.proofs.opening.OpenLemmas.{one_version, first_found, second_found}
-use Rattle.club_tables.proofs.{opening.StepLemmas.{batch_failed, keeps_after, opens_after, opens_not, found_ready}, queries.ReadLemmas.at_once}
+use Rattle.club_tables.proofs.{Common.{index_batch, HoldsClubAnyVersion}, opening.StepLemmas.{batch_failed, keeps_after, opens_after, opens_not, found_ready}}
+use Rattle.club_tables.proofs.{crashes.SurviveLemmas.{opened_after, was_clean}, opening.OpenLemmas.{one_version, first_found, second_found}}
+use Rattle.club_tables.proofs.{opening.MakingLemmas.makes_free, queries.ReadLemmas.at_once}
 use Rattle.club_tables.proofs.tables.Tables.open.Goals as goal
 
 module _ {S : Type 0} (g : Ghosts S) (old mid new : Held S) (rows : List Row) (earlier : HasCleanDisk (state g mid)) (rest : IsIdle (state g old))

@@ -1,5 +1,5 @@
-use Rattle.club_tables.proofs.{Common.{arith, HasCleanDisk, state, FailsToPrepare}, crashes.RepresentsLemmas.survives_none}
-use Rattle.club_tables.proofs.opening.StepLemmas.{kept_then, one_at, one_understood, all_understood}
+use Rattle.club_tables.proofs.{Common.{arith, HasCleanDisk, state, FailsToPrepare}, opening.StepLemmas.{kept_then, one_at, one_understood, all_understood}}
+use Rattle.club_tables.proofs.crashes.RepresentsLemmas.{survives_none}
 use Rattle.club_tables.proofs.tables.Tables.prepare_all.Goals as goal
 
 pub loop-text-preserved : goal.loop-text-preserved

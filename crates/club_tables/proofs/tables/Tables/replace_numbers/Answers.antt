@@ -1,7 +1,6 @@
-use Rattle.club_tables.proofs.{Common.{◌≡◌, true, false, true≢false, sym, ◌∙◌, arith, ReplaceNumbers}, changes.NumberLemmas.numbers_if_fits}
-use Rattle.club_tables.proofs.changes.WriteLemmas.{changes, refuses}
+use Rattle.club_tables.proofs.{Common.{◌≡◌, true, false, true≢false, sym, ◌∙◌, arith, ReplaceNumbers}, changes.WriteLemmas.{changes, refuses}}
+use Rattle.club_tables.proofs.changes.NumberLemmas.{numbers_if_fits}
 use Rattle.club_tables.proofs.tables.Tables.replace_numbers.Goals as goal
-use Rattle.club_core.specs.Office.{are_limits}
 
 pub returns-clause-commits : goal.returns-clause-commits
 returns-clause-commits g c = λ within. rw c.of_numbers-numbers.ensures at c.write_one.ensures.commits

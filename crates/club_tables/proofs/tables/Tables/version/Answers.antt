@@ -1,6 +1,6 @@
 use Rattle.club_tables.proofs.Common.{inl, inr, IfOk-weaker, HasCleanDisk, Database, state, Club, HoldsClubVersion1, HoldsClubVersion2}
-use Rattle.club_tables.proofs.{crashes.{RepresentsLemmas.represents_on, SurviveLemmas.was_clean}, opening.OpenLemmas.version_returned}
-use Rattle.club_tables.proofs.opening.VersionLemmas.{version_answered}
+use Rattle.club_tables.proofs.{crashes.RepresentsLemmas.represents_on, opening.{VersionLemmas.version_answered, OpenLemmas.version_returned}}
+use Rattle.club_tables.proofs.crashes.SurviveLemmas.{was_clean}
 use Rattle.club_tables.proofs.tables.Tables.version.Goals as goal
 
 pub returns-clause-ok : goal.returns-clause-ok
