@@ -5,17 +5,16 @@ pub use Rattle.std.proofs.Common.{true≢false, IsPermutation, AllPairs, option_
 pub use Rattle.std.proofs.Common.{Less, is_ok, ◌⊎◌, codes, flat_map, slice_index_or, Greater, add-one, Bor, Equal, IsSorted, nat_le, subst₂, append-nil, drop}
 pub use Rattle.std.proofs.Common.{neg_ℤ, option_and_then, OnOk, OnErr, MatchResult, ◌+ℤ◌, fold, nat_cmp, ◌*◌, nat_lt, IfOk, IfErr, vec_len, vec_capacity}
 pub use Rattle.std.proofs.{Common.{MatchBool, min, length-append, Ordering, Vec}, lemmas.List.Folds.{find-append, list_any_at, list_any-append, list_any_none}}
-pub use Rattle.std.proofs.{Math.Bool.{and-true, or-false, or-true, and_comm, and_assoc, and-false}, lemmas.List.Sums.{sum_by-cons, sum_by_push, sum_by_more}}
-pub use Rattle.std.proofs.lemmas.{Bool.{and_parts, false_from_ne_true, cases_Bool, or_parts, lt-ltb}, Slice.Eq.bytes_eq-Decides}
-pub use Rattle.std.{proofs.lemmas.Bool.Decides.nat_tests, specs.Ordering.{is_gt, is_eq, ordering_reverse, int_cmp, on, then_cmp, ordering_then, is_ge, is_lt}}
-pub use Rattle.std.proofs.lemmas.List.Elements.{filter-append, All-get_or, All-filter, All-weaker, filter_passes, All-more, All-same, recursion_from_All}
-pub use Rattle.std.{proofs.lemmas.List.Elements.{filter_agree, All-from_recursion, All-push, All-contains}, specs.{Prelude.{unwrap_or, max}, Str.bytes_eq}}
-pub use Rattle.std.proofs.lemmas.Cmp.{nat_list_eq_equiv, tied_itself, nat_eq_equiv, ranked, nat_cmp_total, nat_list_cmp_total, on_total, then_total}
-pub use Rattle.std.proofs.lemmas.List.{length-map, map-append, get_or-map, take_more, take_all}
-pub use Rattle.std.proofs.lemmas.List.Sorted.{length_permutation, sum_by-IsPermutation, IsPermutation-map, sorted_far, ranks_by, IsPermutation-refl}
-pub use Rattle.std.{proofs.lemmas.List.Sorted.{IsPermutation-cons, IsPermutation-middle, IsPermutation-trans}, specs.Option.{option_or, option_to_list}}
-pub use Rattle.std.proofs.lemmas.Result.{IfErr-weaker, on_err_weaker, IfOk-weaker, on_ok_weaker}
-pub use Rattle.std.specs.{Cmp.{unsigned_Decides, IsTotalOrder, int_cmp_is, Equal-is}, List.{AllByRecursion, list_any, list_all, AllZip, filter_map}}
+pub use Rattle.std.proofs.{Math.Bool.{and-true, or-false, or-true, and_comm, and-false}, lemmas.Result.{IfErr-weaker, on_err_weaker, IfOk-weaker, on_ok_weaker}}
+pub use Rattle.std.proofs.lemmas.List.{Sums.{sum_by-cons, sum_by_push, sum_by_more}, Sorted.{IsPermutation-trans, length_permutation, sum_by-IsPermutation}}
+pub use Rattle.std.proofs.lemmas.List.Sorted.{IsPermutation-map, sorted_far, ranks_by, IsPermutation-refl, IsPermutation-cons, IsPermutation-middle}
+pub use Rattle.std.{proofs.lemmas.Bool.{and_parts, false_from_ne_true, cases_Bool, lt-ltb}, specs.List.{AllByRecursion, list_any, list_all, AllZip, filter_map}}
+pub use Rattle.std.{proofs.lemmas.Slice.Eq.bytes_eq-Decides, specs.Ordering.{is_gt, is_eq, ordering_reverse, on, then_cmp, ordering_then, is_lt}}
+pub use Rattle.std.proofs.lemmas.{Bool.Decides.nat_tests, Cmp.{nat_list_eq_equiv, tied_itself, ranked, nat_cmp_total, nat_list_cmp_total, on_total, then_total}}
+pub use Rattle.std.proofs.lemmas.List.Elements.{All-get_or, All-filter, All-weaker, filter_passes, All-more, All-same, recursion_from_All, filter_agree}
+pub use Rattle.std.{proofs.lemmas.List.Elements.{All-from_recursion, All-push, All-contains}, specs.Cmp.{unsigned_Decides, IsTotalOrder, int_cmp_is, Equal-is}}
+pub use Rattle.std.specs.Prelude.{unwrap_or, max}
+pub use Rattle.std.{specs.{Str.bytes_eq, Option.{option_or, option_to_list}}, proofs.lemmas.List.{length-map, map-append, get_or-map, take_more, take_all}}
 pub use Rattle.club_core.specs.After.{credited_member, after, cancelled_booking, revoked_key, rotated_key, good_until, is_marked, debited_member}
 pub use Rattle.club_core.specs.{After.facility_with_numbers, Store.{IsOwnedBy, IsTrueOf, IsToCancel, FitsClub, HasRoot}, declared.store.StoreFault.StoreFault}
 pub use Rattle.club_core.specs.{Basis.slot_use, Club.{Club, IsSound, is_key_of, key_named, member_named, facility_named, is_closed, empty_club, bookings_of}}
@@ -40,7 +39,7 @@ pub use Rattle.sqlite_rules.specs.{Action.{works, work_by, pairs, deed_for}, Key
 pub use Rattle.sqlite_schema.specs.declared.schema.Keys.TheVariants.{Enforced}
 pub use Rattle.sqlite_sql.specs.{Ops.{is_true, from_truth}, declared.ops.UnaryOp.TheVariants.Not, Term.op1}
 pub use Rattle.sqlite_sql.specs.declared.ops.{ArithOp.TheVariants.{Add, Sub, Mul}, BinaryOp.TheVariants.{Compare, Arith}, CompareOp.TheVariants.{Eq, Gt, Ge}}
-pub use Rattle.sqlite_trees.proofs.ListLemmas.{map-map, filter-map, all_weaker, map-flat_map, filter-filter, all_from_map, ascending-map, all-map, flat_map-map}
+pub use Rattle.sqlite_trees.proofs.ListLemmas.{map-map, filter-map, all_weaker, map-flat_map, all_from_map, ascending-map, all-map, flat_map-map}
 pub use Rattle.sqlite_trees.proofs.ListLemmas.{flat_map_same_on, ascending-filter, all_of, pull_back, all-permutation, along_permutation, filter_all}
 pub use Rattle.sqlite_trees.proofs.ListLemmas.{filter_same, ascending_from_map}
 pub use Rattle.sqlite_value.{proofs.OrderLemmas.{value_cmp-Int, value_cmp_total, value_cmp-Text, then-Equal, value_cmp-Blob}, specs.declared.value.Value.Value}

@@ -9,7 +9,7 @@ use Rattle.club_tables.proofs.Common.{ADD_BOOKING, CLOSE_SLOT, OPEN_SLOT, ADD_TA
 use Rattle.club_tables.proofs.Common.{bookings_table, club_schema, slots_table, old_roots_table, whole, member_values, facility_values, key_values}
 use Rattle.club_tables.proofs.Common.{booking_values, flag, name_values, use_values, slot_values, older_root_values, older_values, Rows, SlotRow, no_slot_use}
 use Rattle.club_tables.proofs.Common.{OlderRow, older_by, stored_slot_use, row_of, Holds, members_tree, facilities_tree, keys_tree, bookings_tree, HoldsRows}
-use Rattle.club_tables.proofs.Common.{slots_tree, olders_tree, list_all, holds, is_true, Compare, Eq, Binary, ◌&&◌, not, State, Executes, Ok}
+use Rattle.club_tables.proofs.Common.{slots_tree, olders_tree, list_all, holds, is_true, Compare, Eq, Binary, ◌&&◌, not, State, Executes, Ok, arith}
 use Rattle.club_tables.proofs.statements.{PassLemmas.found, SelectLemmas.{text_equal, whole_equal}}
 use Rattle.club_tables.proofs.lists.KeyedRows.{lone, by_put, put_once as once_put, slots_conflict, slot_table, same_itself, changed, same_row as unchanged}
 use Rattle.club_tables.proofs.{lists.KeyedRows.{put_slot, new_row as new_row_of}, statements.PutLemmas.{PutsRow, first_clause, row_put, row_allowed, put_among}}
@@ -174,10 +174,6 @@ pub slot_was_open : (rows : Rows) → AllPairs (λ (a : SlotRow) (b : SlotRow). 
     → (stored_slot_use slot rows.slots).closed ≡ false
 slot_was_open rows once slot old new count holds_rows executed some = go (row_of slot rows.slots) refl
   where
-    false_of : (b : Bool) → not b ≡ true → b ≡ false
-    false_of true h = absurd cc
-    false_of false h = refl
-
     go : (found : Option SlotRow) → row_of slot rows.slots ≡ found
         → (unwrap_or (option_map (λ (row : SlotRow). row.held) found) no_slot_use).closed ≡ false
     go None is = refl
@@ -185,7 +181,7 @@ slot_was_open rows once slot old new count holds_rows executed some = go (row_of
         let was_open : not x.held.closed ≡ true = slot_allowed close_puts rows once slot (name_values slot) (whole 1) (whole 0) refl (cast_int (pos 1))
         (cast_int (pos 0)) close_use (λ there next. refl) (λ row. not row.held.closed) (λ id next there row. open_is row.held) old new count holds_rows
         executed some x is in
-        false_of x.held.closed was_open
+        grind arith
 
 -- Lemmas about the statement that opens a slot.
 

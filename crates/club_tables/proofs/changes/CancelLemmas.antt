@@ -1,12 +1,12 @@
 -- Lemmas about the statement that cancels a booking.
-use Rattle.club_tables.proofs.Common.{cases_Bool, inl, inr, ◌≡◌, ℕ, ◌≤◌, pos, Some, Bool, true, false, ◌||◌, List, [], ◌∷◌, ◌++◌, map, refl, sym, ap, subst}
-use Rattle.club_tables.proofs.Common.{◌∙◌, All, arith, ◌+◌, ◌-◌, if◌then◌else◌, Contains, unsigned_Decides, bytes_eq-Decides, and_parts, or-true, or-false}
-use Rattle.club_tables.proofs.Common.{bytes_eq, length-map, get_or-map, everything, Int, Text, Binary, Compare, Eq, binary, is_true, Row, Term, lit, col, holds}
-use Rattle.club_tables.proofs.Common.{understood, truth, Booking, cancelled_booking, is_marked, booking_under, is_in, taken_in, cost_of, Slot, Member}
-use Rattle.club_tables.proofs.Common.{same_slot, persons_of, Club, IsSound, is_key_of, IsBooking, IsOwnedBy, IsToCancel, CANCEL_BOOKING, whole, booking_values}
-use Rattle.club_tables.proofs.{Common.{is_given, Rows, member_row, used_by, MemberRow, all_from}, statements.MeansLemmas.{on_bookings, Steps, WhenRan}}
+use Rattle.club_tables.proofs.Common.{◌≡◌, ℕ, ◌≤◌, pos, Some, Bool, true, false, ◌||◌, List, [], ◌∷◌, ◌++◌, map, refl, sym, ap, subst, ◌∙◌, All, arith, ◌+◌}
+use Rattle.club_tables.proofs.Common.{◌-◌, if◌then◌else◌, Contains, unsigned_Decides, bytes_eq-Decides, and_parts, or-true, or-false, bytes_eq, length-map}
+use Rattle.club_tables.proofs.Common.{get_or-map, everything, Int, Text, Binary, Compare, Eq, binary, is_true, Row, Term, lit, col, holds, understood, truth}
+use Rattle.club_tables.proofs.Common.{Booking, cancelled_booking, is_marked, booking_under, is_in, taken_in, cost_of, Slot, Member, same_slot, persons_of, Club}
+use Rattle.club_tables.proofs.Common.{IsSound, is_key_of, IsBooking, IsOwnedBy, IsToCancel, CANCEL_BOOKING, whole, booking_values, is_given, Rows, member_row}
+use Rattle.club_tables.proofs.{Common.{used_by, MemberRow, all_from}, statements.MeansLemmas.{on_bookings, Steps, WhenRan}, changes.ChangeLemmas.used_row}
 use Rattle.club_tables.proofs.{statements.InsertLemmas.cast_int, queries.KeyLemmas.{AreBookingsOnce, is_numbered, is_uncancelled, one_numbered, same_names}}
-use Rattle.club_tables.proofs.{statements.PassLemmas.found, changes.ChangeLemmas.used_row, lists.BookingRows.truths}
+use Rattle.club_tables.proofs.{statements.PassLemmas.found, lists.BookingRows.truths}
 use Rattle.club_tables.proofs.{statements.UpdateLemmas.{finds_row, one_found, FindsOne, one_changed}, lists.OwnerLemmas.{picked_changed, owner_is}}
 use Rattle.club_tables.proofs.{changes.AddLemmas.booking_table, statements.SelectLemmas.{text_equal, whole_equal, test, shows, Apart, apart_from_pairs, IsLone}}
 use Rattle.sqlite_rules.proofs.ListLemmas.{test_has}
@@ -34,7 +34,7 @@ whole_same m n h = (unsigned_Decides m n).0 (sym (whole_equal m n) ∙ h)
 -- Cancelling a booking doesn't change a booking with another key or number.
 other_stays : (key : List ℕ) (number refund : ℕ) (booking : Booking) → is_numbered key number booking ≡ false
     → cancelled_booking key number refund booking ≡ booking
-other_stays key number refund booking fails = rw (fails, or-false booking.cancelled) refl
+other_stays key number refund booking fails = grind (arith, or-false)
 
 pub mapped_holds : {X Y : Type 0} (P : Y → Type 0) (f : X → Y) (xs : List X) (x : X) → All P (map f xs) → Contains xs x → P (f x)
 mapped_holds P f xs x all has = subst P (get_or-map f xs has.0 x (f x) has.1 ∙ ap f has.2) (all has.0 (f x) (omega (arith, has.1, length-map xs f)))
@@ -52,26 +52,20 @@ module _ (rows : Rows) (once : AreBookingsOnce rows.bookings) (booking : Booking
   as_given : (b : Booking) → is_as_given b ≡ true → (b ≡ booking) × (b.cancelled ≡ false)
   as_given b h =
       let t = all_from (λ test. holds (params ∷ (Int (pos 0) ∷ booking_values b) ∷ []) test ≡ true) cancel_tests (λ test. test_has (holds (params ∷ (Int (pos 0) ∷ booking_values b) ∷ [])) cancel_tests test h) in
-      let key : b.key ≡ booking.key = text_same _ _ t.0 in
-      let number : b.number ≡ booking.number = whole_same _ _ t.1.0 in
-      let facility : b.slot.facility ≡ booking.slot.facility = text_same _ _ t.1.1.0 in
-      let day : b.slot.day ≡ booking.slot.day = whole_same _ _ t.1.1.1.0 in
-      let hour : b.slot.hour ≡ booking.slot.hour = whole_same _ _ t.1.1.1.1.0 in
-      let guests : b.guests ≡ booking.guests = whole_same _ _ t.1.1.1.1.1.0 in
-      let charge : b.charge ≡ booking.charge = whole_same _ _ t.1.1.1.1.1.1.0 in
-      let left : b.left ≡ booking.left = whole_same _ _ t.1.1.1.1.1.1.1.0 in
-      let cancelled : b.cancelled ≡ booking.cancelled = truths b.cancelled booking.cancelled (whole_same _ _ t.1.1.1.1.1.1.1.1.0) in
-      let refunded : b.refund ≡ booking.refund = whole_same _ _ t.1.1.1.1.1.1.1.1.1.0 in
-      let same : b ≡ booking = λ i. record {
-        key = key i;
-        number = number i;
-        slot = record { facility = facility i; day = day i; hour = hour i };
-        guests = guests i;
-        charge = charge i;
-        left = left i;
-        cancelled = cancelled i;
-        refund = refunded i;
-      } in
+      let same : b ≡ booking = grind (
+        arith,
+        truths,
+        text_same _ _ t.0,
+        whole_same _ _ t.1.0,
+        text_same _ _ t.1.1.0,
+        whole_same _ _ t.1.1.1.0,
+        whole_same _ _ t.1.1.1.1.0,
+        whole_same _ _ t.1.1.1.1.1.0,
+        whole_same _ _ t.1.1.1.1.1.1.0,
+        whole_same _ _ t.1.1.1.1.1.1.1.0,
+        whole_same _ _ t.1.1.1.1.1.1.1.1.0,
+        whole_same _ _ t.1.1.1.1.1.1.1.1.1.0,
+      ) in
       (same, truths b.cancelled false (whole_same _ _ t.1.1.1.1.1.1.1.1.1.1.0))
 
   here_itself : is_here booking ≡ true
@@ -161,10 +155,7 @@ module _ (club : Club) (sound : IsSound club) (booking : Booking) (cancels : IsT
   used_back name =
       let own : Booking → Bool = λ b. is_key_of name club b.key in
       let sums = picked_changed (is_numbered key number) change (other_stays key number refund) cost_of own club.bookings booking alone cancels.0 in
-      elim (cases_Bool (own booking)) [
-        | inl is ↦ let s = rw is at sums in rw is (omega (arith, s, nothing_back, now_refund, at_most))
-        | inr is ↦ let s = rw is at sums in rw is (omega (arith, s))
-      ]
+      grind (arith, nothing_back, now_refund, at_most)
 
   -- If the booking is in the slot, a cancellation lowers the slot's number of persons by the
   -- booking's number of persons.

@@ -3,14 +3,13 @@ use Rattle.club_tables.proofs.Common.{rules, ◌≡◌, ◌+◌, ◌≤◌, ℕ,
 use Rattle.club_tables.proofs.Common.{◌∙◌, filter, find, AllPairs, list_all, bytes_eq, and_parts, bytes_eq-Decides, and-true, or-true, or-false, everything}
 use Rattle.club_tables.proofs.Common.{Int, Text, Blob, Binary, Arith, Compare, Add, Eq, binary, cast_row, Row, Term, col, op2, holds, lit, understood, Key}
 use Rattle.club_tables.proofs.Common.{credited_member, revoked_key, rotated_key, truth, MemberRow, ADD_CREDIT, ADD_USED, REVOKE_KEY, SET_ROOT, used_values}
-use Rattle.club_tables.proofs.Common.{whole, member_values, key_values, is_given, Rows, members_tree, keys_tree, is_true, int_cmp, nat_le, nat_tests, arith}
+use Rattle.club_tables.proofs.Common.{whole, member_values, key_values, is_given, Rows, members_tree, keys_tree, is_true, nat_le, nat_tests, arith}
 use Rattle.club_tables.proofs.{Common.{value_cmp-Int, SET_QUOTA, Sub, TAKE_CREDIT, debited_member, ◌<◌, ◌-◌, ◌^◌}, changes.AddLemmas.{member_table, key_table}}
-use Rattle.club_tables.proofs.statements.{MeansLemmas.{on_members, on_keys, Steps, WhenRan}, SelectLemmas.{text_equal, shows, test, blob_equal, from_truth_is}}
+use Rattle.club_tables.proofs.statements.{MeansLemmas.{on_members, on_keys, Steps, WhenRan}, SelectLemmas.{text_equal, shows, test, blob_equal}}
 use Rattle.club_tables.proofs.{queries.{KeyLemmas.{both_tests, one_named}, MemberLemmas.total}, statements.InsertLemmas.cast_int}
 use Rattle.club_tables.proofs.statements.{UpdateLemmas.{FindsOne, finds_by, finds_row, one_changed}, PassLemmas.{contains_counts, find_some, found, wider_is}}
 use Rattle.club_tables.proofs.statements.JoinLemmas.{is_counted, some_counted, counted_some, passes, shown, with_count, answered_counted, counts_elements}
 use Rattle.club_core.specs.After.{member_with_quota}
-use Rattle.std.specs.Ordering.{is_le}
 use Rattle.sqlite_sql.specs.declared.ops.CompareOp.TheVariants.{Le}
 
 abbrev pub AreKeysOnce : List Key → Type 0
@@ -47,8 +46,7 @@ quota_row name quota row = record row { member = member_with_quota name quota ro
 
 pub whole_to : (m n : ℕ) → is_true (binary (Compare Le Binary) (Int (pos m)) (Int (pos n))) ≡ nat_le m n
 unfolding binary
-whole_to m n =
-    let same : is_le (int_cmp (pos m) (pos n)) ≡ nat_le m n = grind (arith, nat_tests) in from_truth_is _ ∙ ap is_le (value_cmp-Int (pos m) (pos n)) ∙ same
+whole_to m n = grind (arith, nat_tests, value_cmp-Int)
 
 difference : (m r : ℕ) → r ≤ m → m < 2 ^ 63 → binary (Arith Sub) (whole m) (whole r) ≡ whole (m - r)
 unfolding binary

@@ -1,8 +1,8 @@
 -- Lemmas about the statement that subtracts points from a member's credit.
-use Rattle.club_tables.proofs.Common.{rules, ◌≡◌, ◌+◌, ◌-◌, ◌≤◌, ◌<◌, ◌^◌, ℕ, Bool, true, if◌then◌else◌, List, map, sym, ap, ◌∙◌, Some, subst, Contains}
-use Rattle.club_tables.proofs.Common.{All-contains, bytes_eq, Binary, Arith, Compare, Add, binary, Club, IsSound, Member, member_named, MemberRow, is_true}
-use Rattle.club_tables.proofs.Common.{whole, member_row, used_by, Rows, IsStoredAs, map-map, nat_tests, arith, IsMember, FitsClub, after, TakeCredit}
-use Rattle.club_tables.proofs.{Common.debited_member, statements.PassLemmas.found, changes.{ChangeLemmas.{whole_to, debited_row}, CancelLemmas.mapped_holds}}
+use Rattle.club_tables.proofs.Common.{rules, ◌≡◌, ◌+◌, ◌≤◌, ◌<◌, ◌^◌, ℕ, Bool, true, List, map, sym, ap, ◌∙◌, Some, Contains, All-contains, bytes_eq, Binary}
+use Rattle.club_tables.proofs.Common.{Arith, Compare, Add, binary, Club, IsSound, Member, member_named, MemberRow, is_true, whole, member_row, used_by, Rows}
+use Rattle.club_tables.proofs.Common.{IsStoredAs, map-map, nat_tests, arith, IsMember, FitsClub, after, TakeCredit, debited_member}
+use Rattle.club_tables.proofs.{statements.PassLemmas.found, changes.{ChangeLemmas.{whole_to, debited_row}, CancelLemmas.mapped_holds}}
 use Rattle.club_tables.proofs.queries.MemberLemmas.{total}
 use Rattle.sqlite_sql.specs.declared.ops.CompareOp.TheVariants.{Le}
 
@@ -31,9 +31,7 @@ module _ (club : Club) (sound : IsSound club) (name : List ℕ) (points : ℕ) (
   pub enough_if_fits : FitsClub (TakeCredit name points) club → points ≤ member.credited → used_by club member.name + points ≤ member.credited
   enough_if_fits fits low =
       let left = mapped_holds (λ (m : Member). used_by club m.name ≤ m.credited) (debited_member name points) club.members member fits.sound.balances there.0 in
-      let less : used_by club member.name ≤ member.credited - points =
-      subst (λ b. used_by club member.name ≤ (if b then member.credited - points else member.credited)) there.1 left in
-      omega (arith, less, low)
+      grind (arith, there.1, low)
 
 pub debit_stored : (club : Club) (rows : Rows) → IsStoredAs club rows → (name : List ℕ) (points : ℕ)
     → IsStoredAs (after (TakeCredit name points) club) (record rows { members = map (debited_row name points) rows.members })

@@ -1,40 +1,34 @@
 -- Proof that a change fits the club if each of its statements wrote a row.
 use Rattle.club_tables.proofs.Common.{None, ◌≡◌, ◌≢◌, ℕ, ◌+◌, ◌≤◌, true, false, ◌&&◌, ◌==◌, List, ◌∷◌, map, Contains, All, refl, sym, ap, subst, ◌∙◌, arith}
-use Rattle.club_tables.proofs.Common.{true≢false, find, Some, bytes_eq, bytes_eq-Decides, unsigned_Decides, and_parts, nat_le, nat_tests, AllByRecursion}
-use Rattle.club_tables.proofs.Common.{All-from_recursion, all_from_map, Has, map-map, Ghosts, Held, state, Database, HoldsClub, Ran, Club, Member, Facility}
-use Rattle.club_tables.proofs.Common.{Key, Booking, Slot, SlotRow, SlotUse, MemberRow, InLimits, InsertMember, AddCredit, InsertFacility, InsertKey}
-use Rattle.club_tables.proofs.Common.{MarkRevoked, ReplaceRoot, MarkClosed, MarkOpen, ReplaceQuota, InsertBooking, MarkCancelled, member_row, member_named}
-use Rattle.club_tables.proofs.Common.{facility_named, same_slot, cost_of, used_by, statements_of, FitsClub, TakeCredit, ReplaceNumbers, all_weaker, Bool}
-use Rattle.club_tables.proofs.Common.{BoundStatement, IsBooking, IsTrueOf, Option, Rows, State, adding_booking, booking_under, good_until, neg_ℤ, option_map}
-use Rattle.club_tables.proofs.Common.{pos, transaction_start, Add, Arith, Binary, Compare, binary, is_true, whole, cancelled_booking}
-use Rattle.club_tables.proofs.{statements.UpdateLemmas.one_found, queries.MemberLemmas.total, lists.{KeyedRows.slot_once, TakenRows.the_slot}}
-use Rattle.club_tables.proofs.changes.ChangeLemmas.{quota_finds, revoke_finds, root_finds, used_finds, whole_to, StoresKey, StoresMember, credit_finds}
-use Rattle.club_tables.proofs.changes.{ChangeLemmas.{debit_finds, name_of, owned_key}, AddLemmas.{older_represents, open_use, slot_opened}}
-use Rattle.club_tables.proofs.{changes.{NumberLemmas.{few_by_rows, numbers_finds}, ChargeLemmas.{Charged, charge_found, pays}}, statements.MeansLemmas.WhenRan}
-use Rattle.club_tables.proofs.{queries.KeyLemmas.{same_slots, find_mapped}, changes.CancelLemmas.{booking_cancelled, cancel_found}, lists.OwnerLemmas.all_last}
+use Rattle.club_tables.proofs.Common.{find, Some, bytes_eq, bytes_eq-Decides, and_parts, nat_le, nat_tests, AllByRecursion, All-from_recursion, all_from_map}
+use Rattle.club_tables.proofs.Common.{Has, map-map, Ghosts, Held, state, Database, HoldsClub, Ran, Club, Member, Facility, Key, Booking, Slot, SlotRow, SlotUse}
+use Rattle.club_tables.proofs.Common.{MemberRow, InLimits, InsertMember, AddCredit, InsertFacility, InsertKey, MarkRevoked, ReplaceRoot, MarkClosed, MarkOpen}
+use Rattle.club_tables.proofs.Common.{ReplaceQuota, InsertBooking, MarkCancelled, member_row, member_named, facility_named, cost_of, used_by, statements_of}
+use Rattle.club_tables.proofs.Common.{FitsClub, TakeCredit, ReplaceNumbers, all_weaker, Bool, BoundStatement, IsBooking, IsTrueOf, Option, Rows, State}
+use Rattle.club_tables.proofs.Common.{adding_booking, booking_under, good_until, neg_ℤ, option_map, pos, transaction_start, Add, Arith, Binary, Compare, binary}
+use Rattle.club_tables.proofs.{Common.{is_true, whole, cancelled_booking}, changes.ChargeLemmas.{Charged, charge_found, pays}, statements.MeansLemmas.WhenRan}
+use Rattle.club_tables.proofs.changes.AddLemmas.{member_put, facility_put, key_put, slot_closed, slot_was_open, booking_put, older_represents, open_use}
+use Rattle.club_tables.proofs.changes.{AddLemmas.{slot_opened, new_row, close_use, take_use}, DebitLemmas.{enough_left, credited_little, spent_little}}
+use Rattle.club_tables.proofs.{queries.KeyLemmas.find_mapped, changes.{ChangeLemmas.{StoresMember, credit_finds}, NumberLemmas.{few_by_rows, numbers_finds}}}
+use Rattle.club_tables.proofs.changes.{CancelLemmas.{booking_cancelled, cancel_found}, FoundLemmas.{slot_placed, the_named, facility_there}}
+use Rattle.club_tables.proofs.changes.ChangeLemmas.{debit_finds, name_of, owned_key, quota_finds, revoke_finds, root_finds, used_finds, whole_to, StoresKey}
+use Rattle.club_tables.proofs.{queries.MemberLemmas.total, statements.UpdateLemmas.one_found, lists.{OwnerLemmas.all_last, KeyedRows.slot_once}}
+use Rattle.club_tables.proofs.lists.TakenRows.{the_slot}
 use Rattle.club_tables.proofs.changes.PlanLemmas.{adds, filled_use, members_once, facilities_once, bookings_once, filled, filled_rows, keys_once}
-use Rattle.club_tables.proofs.changes.AddLemmas.{new_row, close_use, take_use, member_put, facility_put, key_put, slot_closed, slot_was_open, booking_put}
-use Rattle.club_tables.proofs.changes.{FoundLemmas.{slot_placed, the_named, facility_there}, DebitLemmas.{enough_left, credited_little, spent_little}}
 use Rattle.club_tables.proofs.changes.ObeyLemmas.{members_apart, facilities_apart, keys_apart, key_members, booking_facilities, bookings_apart}
 use Rattle.sqlite_sql.specs.declared.ops.CompareOp.TheVariants.{Le}
 use Rattle.club_core.specs.declared.change.Change.{Change}
 use Rattle.club_laws.specs.SoundRuns.{Suits, SuitsBooking, SuitingChangesKeepSound}
 
-differs : (a b : List ℕ) → bytes_eq a b ≡ false → b ≢ a
-differs a b other e = true≢false (sym ((bytes_eq-Decides a b).1 (sym e)) ∙ other)
-
 unnamed : {X : Type 0} (name : X → List ℕ) (n : List ℕ) (xs : List X) → AllByRecursion (λ x. bytes_eq n (name x) ≡ false) xs → All (λ x. name x ≢ n) xs
-unnamed name n xs apart = All-from_recursion (λ x. name x ≢ n) xs (all_weaker _ _ (λ x other. differs n (name x) other) xs apart)
+unnamed name n xs apart = All-from_recursion (λ x. name x ≢ n) xs (all_weaker _ _ (λ x other e. grind (arith, bytes_eq-Decides)) xs apart)
 
 unnumbered : (booking : Booking) (bookings : List Booking)
     → AllByRecursion (λ (b : Booking). (bytes_eq booking.key b.key && booking.number == b.number) ≡ false) bookings
     → All (λ (b : Booking). ¬ ((b.key ≡ booking.key) × (b.number ≡ booking.number))) bookings
 unnumbered booking bookings apart =
     All-from_recursion (λ (b : Booking). ¬ ((b.key ≡ booking.key) × (b.number ≡ booking.number))) bookings (all_weaker _ _ (λ b other same.
-    let key = (bytes_eq-Decides booking.key b.key).1 (sym same.0) in
-    let number = (unsigned_Decides booking.number b.number).1 (sym same.1) in
-    let both : (bytes_eq booking.key b.key && booking.number == b.number) ≡ true = rw (key, number) refl in
-    true≢false (sym both ∙ other)) bookings apart)
+    grind (arith, nat_tests, bytes_eq-Decides)) bookings apart)
 
 at_most : (m n : ℕ) → nat_le m n ≡ true → m ≤ n
 at_most m n h = grind (arith, nat_tests)
@@ -42,15 +36,7 @@ at_most m n h = grind (arith, nat_tests)
 room_parts : (row : SlotRow) (facility : Facility) (slot : Slot) → (bytes_eq facility.name slot.facility && (bytes_eq row.slot.facility slot.facility
     && (row.slot.day == slot.day && (row.slot.hour == slot.hour && nat_le row.held.taken facility.places)))) ≡ true
     → (facility.name ≡ slot.facility) × (row.slot ≡ slot) × (row.held.taken ≤ facility.places)
-room_parts row facility slot h =
-    let one = and_parts (bytes_eq facility.name slot.facility) (bytes_eq row.slot.facility slot.facility
-    && (row.slot.day == slot.day && (row.slot.hour == slot.hour && nat_le row.held.taken facility.places))) h in
-    let two = and_parts (bytes_eq row.slot.facility slot.facility) (row.slot.day == slot.day && (row.slot.hour == slot.hour
-    && nat_le row.held.taken facility.places)) one.1 in
-    let three = and_parts (row.slot.day == slot.day) (row.slot.hour == slot.hour && nat_le row.held.taken facility.places) two.1 in
-    let four = and_parts (row.slot.hour == slot.hour) (nat_le row.held.taken facility.places) three.1 in
-    let is : same_slot row.slot slot ≡ true = rw (two.0, three.0, four.0) refl in
-    ((bytes_eq-Decides facility.name slot.facility).0 one.0, same_slots row.slot slot is, at_most row.held.taken facility.places four.1)
+room_parts row facility slot h = grind (arith, nat_tests, bytes_eq-Decides)
 
 module _ {S : Type 0} (g : Ghosts S) (old : Held S) (club : Club) (tables : HoldsClub (state g old).now club) where
   when_ran : {statement : BoundStatement} {more : List BoundStatement} {db : Database} {P : State → State → ℕ → Type 0}

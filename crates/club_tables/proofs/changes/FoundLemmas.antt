@@ -1,12 +1,13 @@
 -- Lemmas about searches for rows, and about upper bounds on the number of persons in a slot.
-use Rattle.club_tables.proofs.Common.{rules, ◌≡◌, ℕ, ◌≤◌, pos, neg_ℤ, Bool, None, List, Some, refl, sym, ◌∙◌, ◌≢◌, ◌-◌, true, if◌then◌else◌, [], ◌∷◌, ◌++◌, map}
-use Rattle.club_tables.proofs.Common.{Contains, ap, arith, All-contains, bytes_eq-Decides, find, option_map, bytes_eq, binary, Arith, Add, ◌<◌, ◌^◌, cond}
-use Rattle.club_tables.proofs.Common.{SlotUse, IsFacility, Int, Club, IsSound, taken_in, same_slot, IsBooking, Booking, Facility, Slot, whole, persons_taken}
-use Rattle.club_tables.proofs.Common.{SlotRow, AllPairs, Has, has_kept, slice_get, filter, all_has, has_found, Database, HoldsRows, Rows, subst, FitsClub}
-use Rattle.club_tables.proofs.Common.{MarkClosed, is_closed, AllByRecursion, false, list_any, find-append, option_or, row_of, contains_had, has_contained}
-use Rattle.club_tables.proofs.{lists.OwnerLemmas.apart_last, statements.SelectLemmas.{apart_from_pairs, find_first, only}}
-use Rattle.club_tables.proofs.{changes.ObeyLemmas.slot_facilities, lists.KeyedRows.{not_same, put_slot, changed, new_row, absent, same_itself}}
-use Rattle.club_tables.proofs.{queries.KeyLemmas.{one_named, same_slots, find_mapped}, statements.PassLemmas.{any_counts, contains_counts, find_some}}
+use Rattle.club_tables.proofs.Common.{rules, ◌≡◌, ℕ, ◌≤◌, pos, neg_ℤ, Bool, List, Some, refl, sym, ◌∙◌, ◌≢◌, ◌-◌, true, if◌then◌else◌, [], ◌∷◌, ◌++◌, map}
+use Rattle.club_tables.proofs.Common.{Contains, ap, arith, All-contains, bytes_eq-Decides, find, bytes_eq, binary, Arith, Add, ◌<◌, ◌^◌, SlotUse, IsFacility}
+use Rattle.club_tables.proofs.Common.{Int, Club, IsSound, taken_in, same_slot, IsBooking, Booking, Facility, Slot, whole, persons_taken, SlotRow, AllPairs, Has}
+use Rattle.club_tables.proofs.Common.{has_kept, slice_get, filter, all_has, has_found, Database, HoldsRows, Rows, subst, FitsClub, MarkClosed, is_closed}
+use Rattle.club_tables.proofs.{Common.{AllByRecursion, false, list_any, row_of, contains_had, has_contained}, changes.ObeyLemmas.slot_facilities}
+use Rattle.club_tables.proofs.lists.OwnerLemmas.{apart_last}
+use Rattle.club_tables.proofs.statements.{SelectLemmas.{apart_from_pairs, find_first, only}, PassLemmas.{contains_counts, find_some}}
+use Rattle.club_tables.proofs.{lists.KeyedRows.{not_same, put_slot, changed, new_row, same_itself, by_put, same_row}, queries.KeyLemmas.{one_named, same_slots}}
+use Rattle.std.specs.Prelude.{is_some, Option}
 use Rattle.sqlite_rules.proofs.ProbeLemmas.{has_mapped}
 use Rattle.club_core.specs.Store.{HasFacility}
 use Rattle.club_rows.specs.Limits.{places_limit}
@@ -28,22 +29,13 @@ few_taken club sound slot has =
     omega (arith, low, (All-contains IsFacility club.facilities at.0 sound.rows.facilities at.1).few_places)
 
 pub put_there : (slot : Slot) (change : SlotUse → SlotUse) (rows : List SlotRow) → (x : SlotRow) × (row_of slot (put_slot slot change rows) ≡ Some x)
-put_there slot change rows = go (list_any is_of rows) refl
+put_there slot change rows =
+    let put = by_put (λ (row : SlotRow). row.slot) same_slot same_slots same_itself slot (changed slot change) (λ row. refl) (new_row slot change) refl is_some
+    (λ _. true) (λ row passes. refl) (same_row slot change) refl slot rows in
+    some_of (row_of slot (put_slot slot change rows)) (put ∙ ap (λ b. if b then true else is_some (row_of slot rows)) (same_itself slot))
   where
-    is_of : SlotRow → Bool
-    is_of row = same_slot row.slot slot
-
-    go : (any : Bool) → list_any is_of rows ≡ any
-        → (x : SlotRow) × (find is_of (if any then map (changed slot change) rows else rows ++ new_row slot change ∷ []) ≡ Some x)
-    go true any =
-        let one = find_some is_of rows (any_counts is_of rows any) in
-        (changed slot change one.0, find_mapped is_of (changed slot change) rows ∙ ap (option_map (changed slot change)) one.1)
-    go false none = (
-      new_row slot change,
-      find-append is_of rows (new_row slot change ∷ [])
-          ∙ ap (λ o. option_or o (cond (is_of (new_row slot change)) (Some (new_row slot change)) None)) (absent is_of rows none)
-          ∙ ap (λ b. cond b (Some (new_row slot change)) None) (same_itself slot),
-    )
+    some_of : (o : Option SlotRow) → is_some o ≡ true → (x : SlotRow) × (o ≡ Some x)
+    some_of o some = grind arith
 
 pub slot_placed : {db : Database} (facilities : List Facility) (rows : Rows) → rows.facilities ≡ facilities → (slot : Slot) (change : SlotUse → SlotUse)
     → HoldsRows db (record rows { slots = put_slot slot change rows.slots }) → Contains (map (λ (f : Facility). f.name) facilities) slot.facility

@@ -1,15 +1,14 @@
 -- Lemmas about the statement that sets a facility's places, price and hours.
-use Rattle.club_tables.proofs.Common.{rules, ◌≡◌, ◌≢◌, ◌≤◌, ◌<◌, ℕ, pos, min, Bool, true, false, not, ◌&&◌, Some, List, [], ◌∷◌, length, map, refl, sym, ap}
-use Rattle.club_tables.proofs.Common.{◌∙◌, subst, find, filter, list_all, bytes_eq, bytes_eq-Decides, and_parts, everything, Int, Binary, Compare, Eq, Row}
-use Rattle.club_tables.proofs.Common.{Term, col, op2, holds, understood, Club, is_true, facility_values, slot_values, is_given, Rows, IsStoredAs}
-use Rattle.club_tables.proofs.Common.{facilities_tree, slots_tree, nat_tests, arith, AllPairs, Has, Facility, Slot, SlotRow, taken_in, FitsClub, after}
-use Rattle.club_tables.proofs.Common.{ReplaceNumbers, facility_with_numbers, SET_NUMBERS, op1, unary, Not, nat_lt, cast_row, ℤ, Contains, contains_had, inl}
-use Rattle.club_tables.proofs.{Common.{inr, true≢false, all_from, if◌then◌else◌, IsFacility, Gt}, statements.UpdateLemmas.{FindsOne, one_changed, finds_by}}
-use Rattle.club_tables.proofs.{statements.{MeansLemmas.{WhenRan, on_facilities, Steps}, InsertLemmas.cast_int}, lists.TakenRows.{row_taken, slot_taken_by}}
-use Rattle.club_tables.proofs.{changes.AddLemmas.facility_table, statements.PassLemmas.{contains_counts, found}, queries.MemberLemmas.whole_above}
-use Rattle.club_tables.proofs.{changes.CancelLemmas.mapped_holds, statements.SelectLemmas.{text_equal, none_pass}, queries.KeyLemmas.{both_tests, one_named}}
+use Rattle.club_tables.proofs.Common.{rules, ◌≡◌, ◌≢◌, ◌≤◌, ℕ, pos, min, Bool, true, false, not, ◌&&◌, Some, List, [], ◌∷◌, length, map, refl, sym, ap, ◌∙◌}
+use Rattle.club_tables.proofs.Common.{find, filter, list_all, bytes_eq, bytes_eq-Decides, and_parts, everything, Int, Binary, Compare, Eq, Row, Term, col, op2}
+use Rattle.club_tables.proofs.Common.{holds, understood, Club, is_true, facility_values, slot_values, is_given, Rows, IsStoredAs, facilities_tree, slots_tree}
+use Rattle.club_tables.proofs.Common.{nat_tests, arith, AllPairs, Has, Facility, Slot, SlotRow, taken_in, FitsClub, after, ReplaceNumbers}
+use Rattle.club_tables.proofs.Common.{facility_with_numbers, SET_NUMBERS, op1, unary, Not, nat_lt, cast_row, ℤ, Contains, contains_had, inl, inr, true≢false}
+use Rattle.club_tables.proofs.{Common.{all_from, IsFacility, Gt}, lists.TakenRows.{row_taken, slot_taken_by}, statements.SelectLemmas.{text_equal, none_pass}}
+use Rattle.club_tables.proofs.statements.{UpdateLemmas.{FindsOne, one_changed, finds_by}, MeansLemmas.{WhenRan, on_facilities, Steps}, InsertLemmas.cast_int}
+use Rattle.club_tables.proofs.{changes.AddLemmas.facility_table, queries.MemberLemmas.whole_above}
+use Rattle.club_tables.proofs.{statements.PassLemmas.{contains_counts, found}, queries.KeyLemmas.{both_tests, one_named}, changes.CancelLemmas.mapped_holds}
 use Rattle.club_tables.proofs.statements.JoinLemmas.{is_counted, counted_some, passes, shown, with_count, answered_counted, counts_elements}
-use Rattle.club_rows.specs.Limits.{places_limit, price_limit, shutting_limit}
 use Rattle.club_core.specs.Office.{are_limits}
 use Rattle.club_tables.specs.ChangeStatements.{numbers_values}
 
@@ -24,8 +23,7 @@ numbers_tests = is_given 1 0 ∷ op1 Not (col 2 0) ∷ []
 
 none_counted : {X : Type 0} (xs : List X) → is_true (unary Not (Int (pos (min 1 (length xs))))) ≡ not (is_counted (length xs))
 unfolding unary
-none_counted [] = refl
-none_counted (x ∷ xs) = let one : min 1 (length (x ∷ xs)) ≡ 1 = omega arith in rw one refl
+none_counted xs = grind arith
 
 casts_facility : (id : ℤ) (f : Facility) → cast_row facility_table (Int id ∷ facility_values f) ≡ Int id ∷ facility_values f
 casts_facility id f = simp cast_int
@@ -114,17 +112,12 @@ module _ (club : Club) (name : List ℕ) (places price opens shuts : ℕ) (fits 
   few_if_fits slot of =
       let low = mapped_holds (λ (f : Facility). (s : Slot) → s.facility ≡ f.name → taken_in s club.bookings ≤ f.places) edit club.facilities facility
       fits.sound.places there.0 slot (of ∙ sym ((bytes_eq-Decides facility.name name).0 there.1)) in
-      subst (λ b. taken_in slot club.bookings ≤ (if b then places else facility.places)) there.1 low
+      grind (arith, there.1)
 
   pub numbers_if_fits : are_limits places price opens shuts ≡ true
   numbers_if_fits =
       let row = mapped_holds IsFacility edit club.facilities facility fits.sound.rows.facilities there.0 in
-      let some = subst (λ b. 1 ≤ (if b then places else facility.places)) there.1 row.some_places in
-      let few = subst (λ b. (if b then places else facility.places) ≤ places_limit) there.1 row.few_places in
-      let low = subst (λ b. (if b then price else facility.price) ≤ price_limit) there.1 row.price in
-      let in_order = subst (λ b. (if b then opens else facility.opens) < (if b then shuts else facility.shuts)) there.1 row.opens in
-      let in_time = subst (λ b. (if b then shuts else facility.shuts) ≤ shutting_limit) there.1 row.shuts in
-      grind (arith, nat_tests)
+      grind (arith, nat_tests, there.1)
 
 pub numbers_stored : (club : Club) (rows : Rows) → IsStoredAs club rows → (name : List ℕ) (places price opens shuts : ℕ)
     → IsStoredAs (after (ReplaceNumbers name places price opens shuts) club)

@@ -4,8 +4,9 @@ use Rattle.club_tables.proofs.Common.{bytes_eq, bytes_eq-Decides, and_parts, and
 use Rattle.club_tables.proofs.Common.{Rows, MemberRow, Facility, Key, Booking, SlotRow, Less, binary, value_cmp, rowid, Has, all_has, ascending-map}
 use Rattle.club_tables.proofs.Common.{ascending_from_map, IsTable, club_schema, member_values, facility_values, key_values, slot_values, booking_values}
 use Rattle.club_tables.proofs.Common.{members_tree, facilities_tree, keys_tree, slots_tree, bookings_tree, IsRowOf, first_key, contains_had, value_cmp_total}
-use Rattle.club_tables.proofs.{Common.{all-map, all_from_map, all_weaker, false_from_ne_true, true≢false}, statements.PassLemmas.{any_filtered_is, as_many}}
-use Rattle.club_tables.proofs.{lists.OwnerLemmas.apart_last, statements.{SelectLemmas.{Apart, paired, row_of, text_equal, whole_equal}, UpdateLemmas.Below}}
+use Rattle.club_tables.proofs.{Common.{all-map, all_from_map, all_weaker, false_from_ne_true, true≢false, arith}, statements.UpdateLemmas.Below}
+use Rattle.club_tables.proofs.statements.{PassLemmas.{any_filtered_is, as_many}, SelectLemmas.{Apart, paired, row_of, text_equal, whole_equal}}
+use Rattle.club_tables.proofs.lists.OwnerLemmas.{apart_last}
 use Rattle.sqlite_rules.proofs.{ListLemmas.{some_has, some_from}, ProbeLemmas.mapped_has}
 use Rattle.sqlite_schema.specs.{Names.same_name, Rules.{Obeys, agree, differ}, declared.schema.Constraint.TheVariants.{Unique, ForeignKey}}
 use Rattle.sqlite_value.specs.Keys.{plain, joined}
@@ -14,12 +15,11 @@ obeys : {db : Database} {rows : Rows} → HoldsRows db rows → Obeys club_schem
 obeys {db = db} holds_rows = subst (λ s. Obeys s db.trees) holds_rows.schema holds_rows.database.obeys
 
 not_true : (b : Bool) → not b ≡ true → b ≡ false
-not_true true h = absurd cc
-not_true false h = refl
+not_true b h = grind arith
 
 rising_differ : (a b : ℤ) → value_cmp (Int a) (Int b) ≡ Less → differ (Int b) (Int a) ≡ true
 unfolding binary
-rising_differ a b less = rw (value_cmp_total.antisymm (Int b) (Int a), less) refl
+rising_differ a b less = grind (arith, value_cmp_total.antisymm)
 
 module _ {X : Type 0} (values : X → Row) (places : List ℕ) (same : X → X → Bool)
     (tests : (id id' : ℤ) (a b : X) → agree plain places (Int id ∷ values a) places (Int id' ∷ values b) ≡ same a b) where

@@ -1,16 +1,15 @@
 -- Lemmas about the rows that the tables store for the club after each change.
 use Rattle.club_tables.proofs.Common.{◌≡◌, ◌≢◌, ℕ, ◌+◌, Bool, true, false, not, ◌&&◌, ◌||◌, cond, if◌then◌else◌, List, [], ◌∷◌, ◌++◌, map, Option, Some, None}
 use Rattle.club_tables.proofs.Common.{Contains, refl, sym, ap, subst, ◌∙◌, arith, true≢false, rules, filter, find, sum_by, option_and_then, AllPairs}
-use Rattle.club_tables.proofs.Common.{option_map, AllByRecursion, list_any, bytes_eq, map-append, list_any-append, find-append, filter-append, option_or}
-use Rattle.club_tables.proofs.Common.{bytes_eq-Decides, or-true, or-false, recursion_from_All, Slot, Booking, Facility, Key, OlderRoot, Member, SlotUse}
-use Rattle.club_tables.proofs.Common.{InsertMember, AddCredit, InsertFacility, InsertKey, MarkRevoked, ReplaceRoot, MarkClosed, InsertBooking, after}
-use Rattle.club_tables.proofs.Common.{credited_member, revoked_key, good_until, rotated_key, same_slot, persons_of, Club, IsSound, key_named, is_key_of}
-use Rattle.club_tables.proofs.Common.{is_closed, slot_use, older_root_of, IsOwnedBy, HasRoot, is_in, taken_in, cost_of, MemberRow, Rows, OlderRow, IsStoredAs}
-use Rattle.club_tables.proofs.{Common.{older_by, member_row, used_by, persons_taken, map-map, MarkOpen, ReplaceQuota}, queries.MemberLemmas.any_filtered}
-use Rattle.club_tables.proofs.changes.AddLemmas.{new_row, close_use, open_use, take_use, put_older, older_put, put_once as olders_once}
+use Rattle.club_tables.proofs.Common.{AllByRecursion, list_any, bytes_eq, map-append, list_any-append, bytes_eq-Decides, or-true, or-false, recursion_from_All}
+use Rattle.club_tables.proofs.Common.{Slot, Booking, Facility, Key, OlderRoot, Member, SlotUse, InsertMember, AddCredit, InsertFacility, InsertKey, MarkRevoked}
+use Rattle.club_tables.proofs.Common.{ReplaceRoot, MarkClosed, InsertBooking, after, credited_member, revoked_key, good_until, rotated_key, same_slot}
+use Rattle.club_tables.proofs.Common.{persons_of, Club, IsSound, key_named, is_key_of, is_closed, slot_use, older_root_of, IsOwnedBy, HasRoot, is_in, taken_in}
+use Rattle.club_tables.proofs.Common.{cost_of, MemberRow, Rows, OlderRow, IsStoredAs, older_by, member_row, used_by, persons_taken, map-map, MarkOpen}
+use Rattle.club_tables.proofs.{Common.ReplaceQuota, changes.AddLemmas.{new_row, close_use, open_use, take_use, put_older, older_put, put_once as olders_once}}
 use Rattle.club_tables.proofs.{changes.ChangeLemmas.{credited_row, quota_row, used_row}, lists.KeyedRows.{put_slot, use_put, slot_once, not_same}}
-use Rattle.club_tables.proofs.{lists.OwnerLemmas.{map_agree, apart_last, not_among, unequal, sum_more, owner_is}, queries.KeyLemmas.{find_mapped, same_slots}}
-use Rattle.club_tables.proofs.statements.{PassLemmas.found, SelectLemmas.{apart_from_pairs, none_pass, filter_same, none_of}, UpdateLemmas.each_of}
+use Rattle.club_tables.proofs.{lists.OwnerLemmas.{map_agree, apart_last, not_among, unequal, sum_more, owner_is}, statements.UpdateLemmas.each_of}
+use Rattle.club_tables.proofs.{queries.KeyLemmas.same_slots, statements.{SelectLemmas.{apart_from_pairs, none_pass, filter_same, none_of}, PassLemmas.found}}
 use Rattle.club_core.specs.After.{closed_but, member_with_quota}
 
 -- Lemmas about the rows of members.
@@ -72,30 +71,20 @@ keys_stored club rows stored change olders owned roots olders_once =
 
 owned_more : (names owns : Key → Bool) (keys : List Key) (key : Key) → names key ≡ false
     → list_any names (filter owns (keys ++ key ∷ [])) ≡ list_any names (filter owns keys)
-owned_more names owns keys key other =
-    ap (list_any names) (filter-append owns keys (key ∷ [])) ∙ list_any-append names (filter owns keys) (filter owns (key ∷ []))
-    ∙ (elim (owns key) as (λ b. (list_any names (filter owns keys) || list_any names (cond b (key ∷ []) [])) ≡ list_any names (filter owns keys))
-    [ true ↦ rw other (or-false _) | false ↦ or-false _ ])
+owned_more names owns [] key other = grind arith
+owned_more names owns (k ∷ keys) key other = grind (arith, owned_more names owns keys key other)
 
 older_pushed : (name : List ℕ) (keys : List Key) (key : Key) → key.older ≡ None
     → option_and_then (λ (k : Key). k.older) (find (λ (k : Key). bytes_eq k.name name) (keys ++ key ∷ []))
     ≡ option_and_then (λ (k : Key). k.older) (find (λ (k : Key). bytes_eq k.name name) keys)
-older_pushed name keys key new =
-    let is_of : Key → Bool = λ k. bytes_eq k.name name in
-    ap (option_and_then (λ (k : Key). k.older)) (find-append is_of keys (key ∷ [])) ∙ go (find is_of keys) (is_of key)
-  where
-    go : (o : Option Key) (b : Bool) → option_and_then (λ (k : Key). k.older) (option_or o (cond b (Some key) None)) ≡ option_and_then (λ (k : Key). k.older) o
-    go o b = grind arith
+older_pushed name [] key new = grind arith
+older_pushed name (k ∷ keys) key new = grind (arith, older_pushed name keys key new)
 
 older_mapped : (f : Key → Key) → ((key : Key) → (f key).name ≡ key.name) → (name : List ℕ) (keys : List Key)
     → option_and_then (λ (k : Key). k.older) (find (λ (k : Key). bytes_eq k.name name) (map f keys))
     ≡ option_and_then (λ (k : Key). (f k).older) (find (λ (k : Key). bytes_eq k.name name) keys)
-older_mapped f named name keys =
-    ap (option_and_then (λ (k : Key). k.older)) (find_mapped (λ (k : Key). bytes_eq k.name name) f keys
-    ∙ ap (λ p. option_map f (find p keys)) (λ i k. bytes_eq (named k i) name)) ∙ of_changed (find (λ (k : Key). bytes_eq k.name name) keys)
-  where
-    of_changed : (o : Option Key) → option_and_then (λ (k : Key). k.older) (option_map f o) ≡ option_and_then (λ (k : Key). (f k).older) o
-    of_changed o = grind arith
+older_mapped f named name [] = refl
+older_mapped f named name (k ∷ keys) = grind (arith, named k, older_mapped f named name keys)
 
 pub key_stored : (club : Club) (rows : Rows) → IsStoredAs club rows → IsSound club → (key : Key) → key.older ≡ None → IsSound (after (InsertKey key) club)
     → IsStoredAs (after (InsertKey key) club) (record rows { keys = rows.keys ++ key ∷ [] })
@@ -110,11 +99,8 @@ key_stored club rows stored sound key new fits =
 
 owned_mapped : (names owns : Key → Bool) (f : Key → Key) → ((key : Key) → names (f key) ≡ names key) → ((key : Key) → owns (f key) ≡ owns key)
     → (keys : List Key) → list_any names (filter owns (map f keys)) ≡ list_any names (filter owns keys)
-owned_mapped names owns f named owned keys = any_filtered names owns (map f keys) ∙ each keys ∙ sym (any_filtered names owns keys)
-  where
-    each : (ks : List Key) → list_any (λ k. owns k && names k) (map f ks) ≡ list_any (λ k. owns k && names k) ks
-    each [] = refl
-    each (k ∷ ks) = rw (owned k, named k, each ks) refl
+owned_mapped names owns f named owned [] = refl
+owned_mapped names owns f named owned (k ∷ keys) = grind (arith, named k, owned k, owned_mapped names owns f named owned keys)
 
 owned_still : (club : Club) (f : Key → Key) → ((key : Key) → (f key).name ≡ key.name) → ((key : Key) → (f key).member ≡ key.member) → (owner : List ℕ)
     → AllByRecursion (λ (b : Booking). list_any (λ (k : Key). bytes_eq k.name b.key) (filter (λ (k : Key). bytes_eq k.member owner) (map f club.keys))

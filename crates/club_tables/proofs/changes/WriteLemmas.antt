@@ -2,10 +2,10 @@
 use Rattle.club_tables.proofs.Common.{◌≡◌, ◌<◌, length, List, [], ◌∷◌, IsTrue, Result, Ok, Err, OnOk, OnErr, inl, inr, refl, sym, subst, arith, MatchResult}
 use Rattle.club_tables.proofs.Common.{IfErr-weaker, on_err_weaker, Trees, Ghosts, Database, HasCleanDisk, Survives, Held, state, after, IsSound, FitsClub, Club}
 use Rattle.club_tables.proofs.Common.{StoreFault, HoldsClub, IsLeftOf, Represents, ChangesClub, IsChangeFault, IsRunFault, InLimits, BoundStatement, Ran}
-use Rattle.club_tables.proofs.Common.{IsKept, transaction_start, Commits, FailsToRun, AreStatementsOf, statements_of, ℕ, ◌≤◌, true, if◌then◌else◌, Member}
-use Rattle.club_tables.proofs.Common.{Booking, IsMember, IsBooking, MarkCancelled, cancelled_booking, is_marked, ReplaceQuota, bytes_eq}
-use Rattle.club_tables.proofs.{changes.CancelLemmas.mapped_holds, crashes.RepresentsLemmas.represents_by, queries.{KeyLemmas.is_numbered, ReadLemmas.at_once}}
-use Rattle.club_tables.proofs.{changes.{FitLemmas.fits_if_ran, InTurnLemmas.less_in_turn, PlanLemmas.{plan, made}}, statements.PassLemmas.found}
+use Rattle.club_tables.proofs.Common.{IsKept, transaction_start, Commits, FailsToRun, AreStatementsOf, statements_of, ℕ, ◌≤◌, Member, Booking, IsMember}
+use Rattle.club_tables.proofs.{Common.{IsBooking, MarkCancelled, cancelled_booking, ReplaceQuota, bytes_eq}, crashes.RepresentsLemmas.represents_by}
+use Rattle.club_tables.proofs.{changes.{CancelLemmas.mapped_holds, InTurnLemmas.less_in_turn}, queries.KeyLemmas.is_numbered, statements.PassLemmas.found}
+use Rattle.club_tables.proofs.{queries.ReadLemmas.at_once, changes.{PlanLemmas.{plan, made}, FitLemmas.fits_if_ran}}
 use Rattle.club_tables.proofs.{crashes.SurviveLemmas.{may_commit, kept_when_idle, commits_nothing, survives_itself}, opening.OpenLemmas.{IsSettled, settles}}
 use Rattle.club_rows.specs.Limits.{quota_limit}
 use Rattle.club_core.specs.{After.member_with_quota, declared.{store.StoreFault.TheVariants.Storage, change.Change.Change}}
@@ -109,12 +109,11 @@ quota_if_fits name quota club fits =
     let m = fits.carries.0 in
     let there = found (λ (m : Member). bytes_eq m.name name) club.members m fits.carries.1 in
     let row = mapped_holds IsMember (member_with_quota name quota) club.members m fits.sound.rows.members there.0 in
-    subst (λ b. (if b then quota else m.quota) ≤ quota_limit) there.1 row.quota
+    grind (arith, there.1, row.quota)
 
 pub refund_if_fits : (booking : Booking) (member : List ℕ) (refund : ℕ) (club : Club) → FitsClub (MarkCancelled booking member refund) club
     → refund ≤ booking.charge
 refund_if_fits booking member refund club fits =
     let there = found (is_numbered booking.key booking.number) club.bookings booking fits.carries.0.0 in
     let row = mapped_holds IsBooking (cancelled_booking booking.key booking.number refund) club.bookings booking fits.sound.rows.bookings there.0 in
-    let marked : is_marked booking.key booking.number booking ≡ true = rw (there.1, fits.carries.0.1) refl in
-    subst (λ b. (if b then refund else booking.refund) ≤ booking.charge) marked row.refund
+    grind (arith, there.1, fits.carries.0.1, row.refund)

@@ -1,19 +1,18 @@
 -- Lemmas about lists with at most one row for each primary key, such as the rows of slots.
 use Rattle.club_tables.proofs.Common.{◌≡◌, ◌≢◌, Bool, true, false, cond, if◌then◌else◌, Option, Some, None, List, [], ◌∷◌, ◌++◌, map, refl, sym, ap, subst, ◌∙◌}
-use Rattle.club_tables.proofs.Common.{true≢false, ℤ, ◌==◌, find, option_map, AllPairs, unwrap_or, option_or, list_any, false_from_ne_true, or_parts, slots_tree}
-use Rattle.club_tables.proofs.Common.{find-append, list_any_at, bytes_eq, nat_list_eq_equiv, nat_eq_equiv, or-false, Value, Int, first_key, Table, conflicts}
-use Rattle.club_tables.proofs.Common.{Slot, SlotUse, same_slot, slots_table, club_schema, name_values, slot_values, SlotRow, no_slot_use, stored_slot_use}
-use Rattle.club_tables.proofs.{queries.KeyLemmas.{same_slots, three, find_mapped}, statements.PassLemmas.{any_counts, find_some, found}}
+use Rattle.club_tables.proofs.Common.{true≢false, ℤ, ◌==◌, find, option_map, AllPairs, unwrap_or, option_or, list_any, false_from_ne_true, slots_tree}
+use Rattle.club_tables.proofs.Common.{find-append, list_any_at, bytes_eq, or-false, Value, Int, first_key, Table, conflicts, Slot, SlotUse, same_slot}
+use Rattle.club_tables.proofs.Common.{slots_table, club_schema, name_values, slot_values, SlotRow, no_slot_use, stored_slot_use, arith, bytes_eq-Decides}
+use Rattle.club_tables.proofs.{Common.nat_tests, queries.KeyLemmas.{same_slots, three, find_mapped}, statements.PassLemmas.{any_counts, find_some, found}}
 use Rattle.club_tables.proofs.statements.{SelectLemmas.{Apart, apart_from_pairs, text_equal, whole_equal, pairs_mapped, IsLone}, PutLemmas.put_among}
 use Rattle.std.proofs.lemmas.List.Quantifiers.{all_pairs_push}
 
 pub absent : {X : Type 0} (p : X → Bool) (xs : List X) → list_any p xs ≡ false → find p xs ≡ None
 absent p [] none = refl
-absent p (x ∷ xs) none = let parts = or_parts (p x) (list_any p xs) none in rw parts.0 (absent p xs parts.1)
+absent p (x ∷ xs) none = grind (arith, absent p xs)
 
 or_none : {X : Type 0} (o : Option X) → option_or o None ≡ o
-or_none None = refl
-or_none (Some x) = refl
+or_none o = grind arith
 
 module _ {X K : Type 0} (key_of : X → K) (same : K → K → Bool) (same_keys : (a b : K) → same a b ≡ true → a ≡ b) (itself : (a : K) → same a a ≡ true)
     (key : K) where
@@ -87,7 +86,7 @@ slots_conflict id id' a b v w =
     (or-false _ ∙ three (bytes_eq a.slot.facility b.facility) (a.slot.day == b.day) (a.slot.hour == b.hour))
 
 pub same_itself : (slot : Slot) → same_slot slot slot ≡ true
-same_itself slot = rw (nat_list_eq_equiv.refl slot.facility, nat_eq_equiv.refl slot.day, nat_eq_equiv.refl slot.hour) refl
+same_itself slot = grind (arith, nat_tests, bytes_eq-Decides)
 
 pub not_same : (a b : Slot) → a ≢ b → same_slot a b ≡ false
 not_same a b apart = false_from_ne_true (same_slot a b) (λ same. apart (same_slots a b same))

@@ -19,14 +19,11 @@ pub not_among : {X : Type 0} (f : X → List ℕ) (xs : List X) (y : List ℕ) �
 not_among f xs y apart has = all_has (λ z. z ≢ y) (map f xs) y (all-map (λ z. z ≢ y) f xs apart) (has_contained (map f xs) y has) refl
 
 pub unequal : (a b : List ℕ) → a ≢ b → bytes_eq a b ≡ false
-unequal a b apart = false_from_ne_true (bytes_eq a b) (λ h. apart ((bytes_eq-Decides a b).0 h))
+unequal a b apart = grind (arith, bytes_eq-Decides)
 
 sum_picked : {X : Type 0} (w : X → ℕ) (q : X → Bool) (xs : List X) → sum_by w (filter q xs) ≡ sum_by (λ x. cond (q x) (w x) 0) xs
 sum_picked w q [] = refl
-sum_picked w q (x ∷ xs) =
-    rw (sum_by-cons (λ y. cond (q y) (w y) 0) x xs, ← sum_picked w q xs)
-    (elim (q x) as (λ b. sum_by w (cond b (x ∷ filter q xs) (filter q xs)) ≡ cond b (w x) 0 + sum_by w (filter q xs))
-    [ true ↦ sum_by-cons w x (filter q xs) | false ↦ omega arith ])
+sum_picked w q (x ∷ xs) = grind (arith, sum_by-cons w x (filter q xs), sum_by-cons (λ y. cond (q y) (w y) 0) x xs, sum_picked w q xs)
 
 pub sum_more : {X : Type 0} (w : X → ℕ) (q : X → Bool) (xs : List X) (x : X) → sum_by w (filter q (xs ++ x ∷ [])) ≡ sum_by w (filter q xs) + cond (q x) (w x) 0
 sum_more {X} w q xs x =
@@ -36,7 +33,7 @@ sum_more {X} w q xs x =
 module _ {X : Type 0} (p : X → Bool) (f : X → X) (kept : (x : X) → p x ≡ false → f x ≡ x) where
   none_changed : (xs : List X) → AllByRecursion (λ x. p x ≡ false) xs → map f xs ≡ xs
   none_changed [] h = refl
-  none_changed (x ∷ xs) h = let e = kept x h.0 in let more = none_changed xs h.1 in cc
+  none_changed (x ∷ xs) h = grind (arith, kept x, none_changed xs)
 
   sum_changed : (c : X → ℕ) (xs : List X) (x : X) → Apart (IsLone p) xs → find p xs ≡ Some x → sum_by c (map f xs) + c x ≡ sum_by c xs + c (f x)
   sum_changed c [] x alone is = absurd cc

@@ -6,14 +6,13 @@ use Rattle.sqlite_value.specs.Order.{Row, value_cmp}
 use Rattle.sqlite_trees.{specs.Tree.{rowid, put_row, IsTable}, proofs.TreeLemmas.IsTable-put_row}
 use Rattle.sqlite_rules.specs.Edit.{next_rowid}
 
-abbrev pub IsKeyed : Row → Type 0
+abbrev IsKeyed : Row → Type 0
 IsKeyed row = (id : ℤ) × (rowid row ≡ Int id)
 
-pub keyed_of : {X : Type 0} (values : X → Row) (rows : List Row) (xs : List X) → AllZip (λ row x. IsRowOf (values x) row) rows xs → AllByRecursion IsKeyed rows
-keyed_of values [] [] h = tt
-keyed_of values [] (x ∷ xs) h = absurd h
-keyed_of values (r ∷ rows) [] h = absurd h
+keyed_of : {X : Type 0} (values : X → Row) (rows : List Row) (xs : List X) → AllZip (λ row x. IsRowOf (values x) row) rows xs → AllByRecursion IsKeyed rows
 keyed_of values (r ∷ rows) (x ∷ xs) h = ((h.0.0, ap rowid h.0.1), keyed_of values rows xs h.1)
+keyed_of values [] xs h = tt
+keyed_of values (r ∷ rows) [] h = absurd h
 
 abbrev after : ℤ → List Row → ℤ
 after = fold (λ _ r. id_in (rowid r) +ℤ pos 1)
@@ -35,9 +34,8 @@ put_above new (r ∷ rows) h = rw (h.0, put_above new rows h.1)
 pub zip_more : {X : Type 0} (R : Row → X → Type 0) (rows : List Row) (xs : List X) (row : Row) (x : X) → AllZip R rows xs → R row x
     → AllZip R (rows ++ row ∷ []) (xs ++ x ∷ [])
 zip_more R [] [] row x h one = (one, tt)
-zip_more R [] (y ∷ xs) row x h one = absurd h
-zip_more R (r ∷ rows) [] row x h one = absurd h
 zip_more R (r ∷ rows) (y ∷ xs) row x h one = (h.0, zip_more R rows xs row x h.1 one)
+zip_more R _ _ row x h one = absurd h
 
 pub holds_more : {X : Type 0} (values : X → Row) (rows : List Row) (xs : List X) (x : X) → Holds values rows xs
     → Holds values (put_row (Int (next_rowid rows) ∷ values x) rows) (xs ++ x ∷ [])

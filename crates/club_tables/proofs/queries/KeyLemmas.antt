@@ -1,21 +1,20 @@
 -- Lemmas about the queries that read a row by its primary key, and about the query for the costs of
 -- a key's bookings.
-use Rattle.club_tables.proofs.Common.{◌≡◌, ℕ, ◌≤◌, List, [], ◌∷◌, length, map, codes, Option, Some, None, cond, subst, false, Bool, true, ◌&&◌, ◌≢◌, refl, sym}
-use Rattle.club_tables.proofs.Common.{ap, ◌∙◌, arith, pos, not, ◌==◌, inl, inr, filter, find, option_map, AllPairs, IsPermutation, unwrap_or, length-map}
-use Rattle.club_tables.proofs.Common.{option_to_list, bytes_eq, bytes_eq-Decides, and-true, and_assoc, unsigned_Decides, and_parts, everything, Text, Int, Row}
-use Rattle.club_tables.proofs.Common.{Ghosts, col, Term, lit, op2, inner, end, understood, Held, Binary, Compare, Eq, Key, Facility, key_named, member_named}
-use Rattle.club_tables.proofs.Common.{facility_named, Club, older_root_of, Slot, truth, Booking, same_slot, is_under, booking_under, slot_use, MemberRow, KEY}
-use Rattle.club_tables.proofs.Common.{MEMBER, FACILITY, OLDER_ROOT, SLOT, BOOKING, COSTS_UNDER_KEY, club_schema, key_values, member_values, facility_values}
-use Rattle.club_tables.proofs.Common.{older_values, older_root_values, whole, name_values, slot_values, use_values, booking_values, cost_values, OlderRow}
-use Rattle.club_tables.proofs.Common.{member_row, SlotRow, no_slot_use, row_of, Holds, keys_tree, members_tree, facilities_tree, olders_tree, slots_tree}
-use Rattle.club_tables.proofs.{Common.{bookings_tree, select, is_given}, crashes.RepresentsLemmas.{Asks, Shows, keys_held, bookings_held, shown_by}}
+use Rattle.club_tables.proofs.Common.{◌≡◌, ℕ, ◌≤◌, List, [], ◌∷◌, length, map, codes, Option, subst, Bool, true, ◌&&◌, ◌≢◌, refl, sym, ap, ◌∙◌, arith, pos, not}
+use Rattle.club_tables.proofs.Common.{◌==◌, filter, find, option_map, AllPairs, IsPermutation, unwrap_or, length-map, option_to_list, bytes_eq}
+use Rattle.club_tables.proofs.Common.{bytes_eq-Decides, and-true, everything, Text, Int, Row, Ghosts, col, Term, lit, op2, inner, end, understood, Held, Binary}
+use Rattle.club_tables.proofs.Common.{Compare, Eq, Key, Facility, key_named, member_named, facility_named, Club, older_root_of, Slot, truth, Booking, same_slot}
+use Rattle.club_tables.proofs.Common.{is_under, booking_under, slot_use, MemberRow, KEY, MEMBER, FACILITY, OLDER_ROOT, SLOT, BOOKING, COSTS_UNDER_KEY}
+use Rattle.club_tables.proofs.Common.{club_schema, key_values, member_values, facility_values, older_values, older_root_values, whole, name_values, slot_values}
+use Rattle.club_tables.proofs.Common.{use_values, booking_values, cost_values, OlderRow, member_row, SlotRow, no_slot_use, row_of, Holds, keys_tree}
+use Rattle.club_tables.proofs.Common.{members_tree, facilities_tree, olders_tree, slots_tree, bookings_tree, select, is_given, nat_tests}
+use Rattle.club_tables.proofs.crashes.RepresentsLemmas.{Asks, Shows, keys_held, bookings_held, shown_by}
 use Rattle.club_tables.proofs.statements.SelectLemmas.{pairs_mapped, text_equal, apart_from_pairs, one_passes, short_permutation, whole_equal, one_listed}
 use Rattle.club_tables.specs.Use.{ShowsUse}
 
 pub find_mapped : {X Y : Type 0} (p : Y → Bool) (f : X → Y) (xs : List X) → find p (map f xs) ≡ option_map f (find (λ x. p (f x)) xs)
 find_mapped p f [] = refl
-find_mapped p f (x ∷ xs) = elim (p (f x)) as (λ b. cond b (Some (f x)) (find p (map f xs)) ≡ option_map f (cond b (Some x) (find (λ y. p (f y)) xs)))
-    [ true ↦ refl | false ↦ find_mapped p f xs ]
+find_mapped p f (x ∷ xs) = grind (arith, find_mapped p f xs)
 
 pub same_names : (name a b : List ℕ) → bytes_eq a name ≡ true → bytes_eq b name ≡ true → a ≡ b
 same_names name a b p q = (bytes_eq-Decides a name).0 p ∙ sym ((bytes_eq-Decides b name).0 q)
@@ -50,8 +49,7 @@ key_shown g old name =
 
 shown_again : (found : Option OlderRow) → map (λ (row : OlderRow). older_root_values row.older) (option_to_list found)
     ≡ map older_root_values (option_to_list (option_map (λ (row : OlderRow). row.older) found))
-shown_again None = refl
-shown_again (Some row) = refl
+shown_again found = grind arith
 
 pub older_shown : {S : Type 0} (g : Ghosts S) (old : Held S) (name : List ℕ)
     → Shows g old (OLDER_ROOT.now, Text name ∷ []) (λ club rows. rows ≡ map older_root_values (option_to_list (older_root_of name club)))
@@ -100,15 +98,10 @@ facility_shown g old name =
     ))
 
 pub three : (a b c : Bool) → (a && (b && (c && true))) ≡ (a && b && c)
-three a b c = ap (λ d. a && (b && d)) (and-true c) ∙ sym (and_assoc a b c)
+three a b c = grind arith
 
 pub same_slots : (a b : Slot) → same_slot a b ≡ true → a ≡ b
-same_slots a b h =
-    let one = and_parts _ _ h in
-    let two = and_parts _ _ one.0 in
-    ap (λ f. let s : Slot = record a { facility = f } in s) ((bytes_eq-Decides a.facility b.facility).0 two.0)
-    ∙ ap (λ d. let s : Slot = record b { day = d; hour = a.hour } in s) ((unsigned_Decides a.day b.day).0 two.1)
-    ∙ ap (λ h. let s : Slot = record b { hour = h } in s) ((unsigned_Decides a.hour b.hour).0 one.1)
+same_slots a b h = grind (arith, nat_tests, bytes_eq-Decides)
 
 pub one_slot : (slot : Slot) (rows : List SlotRow) → AllPairs (λ (a : SlotRow) (b : SlotRow). a.slot ≢ b.slot) rows
     → length (filter (λ (row : SlotRow). same_slot row.slot slot) rows) ≤ 1
@@ -118,8 +111,7 @@ one_slot slot rows once =
 
 shows_by : (club : Club) (slot : Slot) (found : Option SlotRow) (rows : List Row) → rows ≡ map (λ (row : SlotRow). use_values row.held) (option_to_list found)
     → unwrap_or (option_map (λ (row : SlotRow). row.held) found) no_slot_use ≡ slot_use club slot → ShowsUse club slot rows
-shows_by club slot (Some row) rows is same = inl (is ∙ ap (λ held. use_values held ∷ []) same)
-shows_by club slot None rows is same = inr (is, sym same)
+shows_by club slot found rows is same = grind arith
 
 pub slot_shown : {S : Type 0} (g : Ghosts S) (old : Held S) (slot : Slot) → Shows g old (SLOT.now, name_values slot) (λ club. ShowsUse club slot)
 unfolding understood everything
@@ -153,11 +145,7 @@ is_numbered key number booking = is_under key booking && booking.number == numbe
 pub one_numbered : (key : List ℕ) (number : ℕ) (bookings : List Booking) → AreBookingsOnce bookings → length (filter (is_numbered key number) bookings) ≤ 1
 one_numbered key number bookings unique =
     let R : Booking → Booking → Type 0 = λ a b. ¬ ((a.key ≡ b.key) × (a.number ≡ b.number)) in
-    one_passes R (is_numbered key number) bookings (λ x y a b apart.
-    let p = and_parts _ _ a in
-    let q = and_parts _ _ b in
-    apart (same_names key x.key y.key p.0 q.0, (unsigned_Decides x.number number).0 p.1 ∙ sym ((unsigned_Decides y.number number).0 q.1)))
-    (apart_from_pairs R bookings unique)
+    one_passes R (is_numbered key number) bookings (λ x y a b apart. grind (arith, nat_tests, bytes_eq-Decides)) (apart_from_pairs R bookings unique)
 
 pub booking_shown : {S : Type 0} (g : Ghosts S) (old : Held S) (key : List ℕ) (number : ℕ) → Shows g old (BOOKING.now, Text key ∷ whole number ∷ [])
     (λ club rows. rows ≡ map booking_values (option_to_list (booking_under key number club.bookings)))
@@ -177,8 +165,7 @@ abbrev pub is_uncancelled : Term
 is_uncancelled = op2 (Compare Eq Binary) (col 1 9) (lit (Int (pos 0)))
 
 pub no_truth : (b : Bool) → (truth b == 0) ≡ not b
-no_truth true = refl
-no_truth false = refl
+no_truth b = grind (arith, nat_tests)
 
 pub costs_shown : {S : Type 0} (g : Ghosts S) (old : Held S) (key : List ℕ) → Shows g old (COSTS_UNDER_KEY.now, Text key ∷ [])
     (λ club. IsPermutation (map cost_values (filter (is_under key) club.bookings)))

@@ -1,13 +1,13 @@
 -- Lemmas about the queries for the bookings of a member.
-use Rattle.club_tables.proofs.Common.{◌≡◌, ◌≢◌, ℕ, ◌+◌, ◌*◌, ◌/◌, ◌<◌, ◌≤◌, ◌^◌, pos, Bool, true, false, not, cond, ◌&&◌, ◌||◌, List, [], ◌∷◌, map, codes}
-use Rattle.club_tables.proofs.Common.{length, refl, sym, ap, ◌∙◌, arith, filter, flat_map, slice_index_or, nat_lt, nat_le, AllPairs, IsPermutation, list_any}
-use Rattle.club_tables.proofs.Common.{bytes_eq, is_gt, is_ge, int_cmp, and_parts, lt-ltb, false_from_ne_true, nat_tests, length-map, All-filter, filter_agree}
-use Rattle.club_tables.proofs.Common.{recursion_from_All, All-weaker, length_permutation, bytes_eq-Decides, and-true, and-false, and_comm, list_any_none}
-use Rattle.club_tables.proofs.Common.{everything, Value, Int, Text, Binary, value_cmp-Int, Add, Mul, Arith, Compare, Eq, Gt, Ge, binary, is_true, Row, Ghosts}
-use Rattle.club_tables.proofs.Common.{Term, lit, col, op2, inner, end, understood, Held, state, truth, Key, Booking, IsBooking, is_to_come, count_to_come, Club}
-use Rattle.club_tables.proofs.Common.{is_key_of, bookings_of, OPEN, club_schema, whole, key_values, booking_values, keys_tree, bookings_tree, select, is_given}
-use Rattle.club_tables.proofs.{Common.map-flat_map, crashes.RepresentsLemmas.{Asks, Shows, asked_tables, asked_reads, keys_held, bookings_held}}
-use Rattle.club_tables.proofs.{queries.KeyLemmas.no_truth, statements.SelectLemmas.{apart_from_pairs, from_truth_is, text_equal, whole_equal, filter_same}}
+use Rattle.club_tables.proofs.Common.{◌≡◌, ◌≢◌, ℕ, ◌+◌, ◌*◌, ◌/◌, ◌<◌, ◌^◌, pos, Bool, true, false, not, ◌&&◌, List, [], ◌∷◌, map, codes, length, refl, sym, ap}
+use Rattle.club_tables.proofs.Common.{◌∙◌, arith, filter, flat_map, slice_index_or, nat_lt, nat_le, AllPairs, IsPermutation, list_any, bytes_eq, lt-ltb}
+use Rattle.club_tables.proofs.Common.{nat_tests, length-map, All-filter, filter_agree, recursion_from_All, All-weaker, length_permutation, bytes_eq-Decides}
+use Rattle.club_tables.proofs.Common.{and-true, and-false, and_comm, list_any_none, everything, Value, Int, Text, Binary, value_cmp-Int, Add, Mul, Arith}
+use Rattle.club_tables.proofs.Common.{Compare, Eq, Gt, Ge, binary, is_true, Row, Ghosts, Term, lit, col, op2, inner, end, understood, Held, state, truth, Key}
+use Rattle.club_tables.proofs.Common.{Booking, IsBooking, is_to_come, count_to_come, Club, is_key_of, bookings_of, OPEN, club_schema, whole, key_values}
+use Rattle.club_tables.proofs.Common.{booking_values, keys_tree, bookings_tree, select, is_given, map-flat_map}
+use Rattle.club_tables.proofs.{crashes.RepresentsLemmas.{Asks, Shows, asked_tables, asked_reads, keys_held, bookings_held}, queries.KeyLemmas.no_truth}
+use Rattle.club_tables.proofs.statements.SelectLemmas.{apart_from_pairs, text_equal, whole_equal, filter_same}
 use Rattle.club_tables.proofs.statements.JoinLemmas.{filter_filter, IsElsewhere, pairs_counted, selected_both}
 use Rattle.club_values.specs.Slot.{start_of}
 
@@ -29,20 +29,15 @@ open_tests = under_it ∷ is_given 2 0 ∷ is_uncancelled ∷ begins_later ∷ f
 
 pub whole_above : (m n : ℕ) → is_true (binary (Compare Gt Binary) (Int (pos m)) (Int (pos n))) ≡ nat_lt n m
 unfolding binary
-whole_above m n =
-    let same : is_gt (int_cmp (pos m) (pos n)) ≡ nat_lt n m = grind (arith, nat_tests) in from_truth_is _ ∙ ap is_gt (value_cmp-Int (pos m) (pos n)) ∙ same
+whole_above m n = grind (arith, nat_tests, value_cmp-Int)
 
 whole_from : (m n : ℕ) → is_true (binary (Compare Ge Binary) (Int (pos m)) (Int (pos n))) ≡ nat_le n m
 unfolding binary
-whole_from m n =
-    let same : is_ge (int_cmp (pos m) (pos n)) ≡ nat_le n m = grind (arith, nat_tests) in from_truth_is _ ∙ ap is_ge (value_cmp-Int (pos m) (pos n)) ∙ same
+whole_from m n = grind (arith, nat_tests, value_cmp-Int)
 
 -- A slot that begins after a moment is on the same day as the moment, or on a later day.
 day_after : (moment day hour : ℕ) → hour < 24 → nat_lt moment (day * 1440 + hour * 60) ≡ true → nat_le (moment / 1440) day ≡ true
-day_after moment day hour low later =
-    let after : moment < day * 1440 + hour * 60 = grind (arith, nat_tests) in
-    let reached : moment / 1440 ≤ day = omega arith in
-    grind (arith, nat_tests)
+day_after moment day hour low later = grind (arith, nat_tests)
 
 product : (m n : ℕ) → m * n < 2 ^ 63 → binary (Arith Mul) (Int (pos m)) (Int (pos n)) ≡ Int (pos (m * n))
 unfolding binary
@@ -56,13 +51,7 @@ abbrev start_value : Booking → Value
 start_value b = binary (Arith Add) (binary (Arith Mul) (whole b.slot.day) (whole 1440)) (binary (Arith Mul) (whole b.slot.hour) (whole 60))
 
 start_value_is : (b : Booking) → IsBooking b → start_value b ≡ whole (start_of b.slot)
-start_value_is b row =
-    let day = row.slot.day.1 in
-    let hour = row.slot.hour in
-    let one = product b.slot.day 1440 (omega arith) in
-    let two = product b.slot.hour 60 (omega arith) in
-    let both = total (b.slot.day * 1440) (b.slot.hour * 60) (omega arith) in
-    cc
+start_value_is b row = grind (arith, product, total, row.slot.day.1, row.slot.hour)
 
 -- The booking was made with the key, the key belongs to the member, and the booking passes the
 -- test.
@@ -71,8 +60,7 @@ is_owned member test key booking = bytes_eq key.name booking.key && (bytes_eq ke
 
 pub any_filtered : {X : Type 0} (p q : X → Bool) (xs : List X) → list_any p (filter q xs) ≡ list_any (λ x. q x && p x) xs
 any_filtered p q [] = refl
-any_filtered {X} p q (x ∷ xs) = elim (q x) as (λ b. list_any p (cond b (x ∷ filter q xs) (filter q xs)) ≡ ((b && p x) || list_any (λ y. q y && p y) xs))
-    [ true ↦ ap (λ any. p x || any) (any_filtered p q xs) | false ↦ any_filtered p q xs ]
+any_filtered p q (x ∷ xs) = grind (arith, any_filtered p q xs)
 
 any_owned : (names owns : Key → Bool) (b : Bool) (keys : List Key) → list_any (λ key. names key && (owns key && b)) keys
     ≡ (list_any names (filter owns keys) && b)
@@ -80,9 +68,7 @@ any_owned names owns true keys = simp (and-true, any_filtered) (λ i. list_any (
 any_owned names owns false keys = simp and-false (list_any_none (λ _. false) keys (λ k x low. refl))
 
 other_key : (member : List ℕ) (test : Booking → Bool) (a b : Key) → a.name ≢ b.name → IsElsewhere (is_owned member test) a b
-other_key member test a b apart booking h =
-    let mine = (bytes_eq-Decides a.name booking.key).0 (and_parts _ _ h).0 in
-    false_from_ne_true _ (λ k. apart (mine ∙ sym ((bytes_eq-Decides b.name booking.key).0 (and_parts _ _ k).0)))
+other_key member test a b apart booking h = grind (arith, bytes_eq-Decides)
 
 owned_count : (member : List ℕ) (test : Booking → Bool) (show : Booking → Row) (club : Club) (rows : List Row)
     → AllPairs (λ (a : Key) (b : Key). a.name ≢ b.name) club.keys
@@ -104,17 +90,8 @@ comes moment b =
     not b.cancelled
     && (is_true (binary (Compare Gt Binary) (start_value b) (whole moment)) && is_true (binary (Compare Ge Binary) (whole b.slot.day) (whole (moment / 1440))))
 
-both_if_first : (a b : Bool) → (a ≡ true → b ≡ true) → (a && b) ≡ a
-both_if_first true b follows = follows refl
-both_if_first false b follows = refl
-
 comes_is : (moment : ℕ) (b : Booking) → IsBooking b → comes moment b ≡ is_to_come moment b
-comes_is moment b row =
-    let later = ap (λ v. is_true (binary (Compare Gt Binary) v (whole moment))) (start_value_is b row) ∙ whole_above (start_of b.slot) moment in
-    let from = whole_from b.slot.day (moment / 1440) in
-    let first = both_if_first (nat_lt moment (start_of b.slot)) (nat_le (moment / 1440) b.slot.day)
-    (day_after moment b.slot.day b.slot.hour row.slot.hour) in
-    rw (later, from, first) refl
+comes_is moment b row = grind (arith, nat_tests, start_value_is b row, whole_above, whole_from, day_after moment b.slot.day b.slot.hour row.slot.hour)
 
 pub open_shown : {S : Type 0} (g : Ghosts S) (old : Held S) (member : List ℕ) (moment : ℕ)
     → Shows g old (OPEN.now, Text member ∷ whole moment ∷ whole (moment / 1440) ∷ [])

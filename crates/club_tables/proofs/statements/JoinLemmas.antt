@@ -2,28 +2,18 @@
 use Rattle.club_tables.proofs.Common.{◌≡◌, ℕ, ℤ, Bool, true, false, cond, ◌||◌, ◌&&◌, List, [], ◌∷◌, map, refl, ap, subst, ◌∙◌, ◌≤◌, pos, min, length, arith}
 use Rattle.club_tables.proofs.Common.{filter, flat_map, IsPermutation, AllByRecursion, list_all, list_any, length-map, Int, Row, Term, Env, holds, eval_all}
 use Rattle.club_tables.proofs.Common.{inner, end, IsAnswer, output, counted, Select, Database, Reads, Answers, map-map, map-flat_map, flat_map-map}
-use Rattle.club_tables.proofs.Common.{flat_map_same_on, filter-filter, filter_agree, and-true, not, sym, ◌+◌, length-append, is_true, Holds, select, AllZip}
-use Rattle.club_tables.proofs.{Common.{Has, has_filtered, has_kept, inl, inr, IsRowOf}, statements.PassLemmas.as_many}
+use Rattle.club_tables.proofs.Common.{flat_map_same_on, sym, ◌+◌, length-append, is_true, Holds, select, AllZip, Has, has_filtered, has_kept, inl, inr, IsRowOf}
+use Rattle.club_tables.proofs.statements.PassLemmas.{as_many}
 use Rattle.club_tables.proofs.statements.SelectLemmas.{Apart, pick_by_if, plain_answer, picked, none_of, shown_of, row_of, paired as with_rowids}
-use Rattle.std.proofs.lemmas.List.Filters.{length-filter_both}
 
 pub filter_filter : {X : Type 0} (p q : X → Bool) (xs : List X) → filter p (filter q xs) ≡ filter (λ x. q x && p x) xs
 filter_filter p q [] = refl
-filter_filter p q (x ∷ xs) = elim (q x) as (λ b. filter p (cond b (x ∷ filter q xs) (filter q xs))
-    ≡ cond (b && p x) (x ∷ filter (λ y. q y && p y) xs) (filter (λ y. q y && p y) xs))
-    [ true ↦ ap (λ ys. cond (p x) (x ∷ ys) ys) (filter_filter p q xs) | false ↦ filter_filter p q xs ]
-
-only_second : (a b : Bool) → (a ≡ true → b ≡ false) → ((a || b) && not a) ≡ b
-only_second true b apart = sym (apart refl)
-only_second false b apart = and-true b
+filter_filter p q (x ∷ xs) = grind (arith, filter_filter p q xs)
 
 either_counts : {X : Type 0} (p s : X → Bool) → ((x : X) → p x ≡ true → s x ≡ false) → (xs : List X)
     → length (filter (λ x. p x || s x) xs) ≡ length (filter p xs) + length (filter s xs)
-either_counts {X} p s apart xs =
-    let either = λ (x : X). p x || s x in
-    let rest = filter_filter (λ x. not (p x)) either xs ∙ filter_agree _ s (λ x. only_second (p x) (s x) (apart x)) xs in
-    let first = filter-filter p either (λ x h. rw h refl) xs in
-    omega (arith, length-filter_both p (λ x. not (p x)) (λ x. refl) (filter either xs), ap length first, ap length rest)
+either_counts p s apart [] = refl
+either_counts p s apart (x ∷ xs) = grind (arith, apart x, either_counts p s apart xs)
 
 module _ {X Y : Type 0} (paired : X → Y → Bool) where
   abbrev pub IsElsewhere : X → X → Type 0
@@ -85,11 +75,10 @@ abbrev pub is_counted : ℕ → Bool
 is_counted n = is_true (Int (pos (min 1 n)))
 
 pub some_counted : {X : Type 0} (xs : List X) → is_counted (length xs) ≡ true → 1 ≤ length xs
-some_counted [] h = absurd cc
-some_counted (x ∷ xs) h = omega arith
+some_counted xs h = grind arith
 
 pub counted_some : {X : Type 0} (xs : List X) → 1 ≤ length xs → is_counted (length xs) ≡ true
-counted_some xs some = let one : min 1 (length xs) ≡ 1 = omega arith in rw one refl
+counted_some xs some = grind arith
 
 module _ (params : Row) (inside_tests tests project : List Term) where
   abbrev pub passes_inside : Row → Row → Bool
@@ -139,10 +128,7 @@ has_some (y ∷ xs) x has = omega arith
 lengths_alike : {X A B : Type 0} (f : X → List A) (g : X → List B) → ((x : X) → length (f x) ≡ length (g x)) → (xs : List X)
     → length (flat_map f xs) ≡ length (flat_map g xs)
 lengths_alike f g same [] = refl
-lengths_alike f g same (x ∷ xs) =
-    let more = lengths_alike f g same xs in
-    let here = same x in
-    omega (arith, length-append (f x) (flat_map f xs), length-append (g x) (flat_map g xs))
+lengths_alike f g same (x ∷ xs) = grind (arith, length-append, same x, lengths_alike f g same xs)
 
 pub pair_found : {X Y : Type 0} (p : X → Y → Bool) (xs : List X) (ys : List Y) → 1 ≤ length (flat_map (λ x. filter (p x) ys) xs)
     → (x : X) × Has xs x × (y : Y) × Has ys y × (p x y ≡ true)
@@ -161,11 +147,8 @@ pair_found {X} {Y} p (x ∷ xs) ys some = go (filter (p x) ys) refl (omega (arit
 pub pair_counts : {X Y : Type 0} (p : X → Y → Bool) (xs : List X) (ys : List Y) (x : X) (y : Y) → Has xs x → Has ys y → p x y ≡ true
     → 1 ≤ length (flat_map (λ z. filter (p z) ys) xs)
 pair_counts p [] ys x y has there passes = absurd has
-pair_counts p (z ∷ xs) ys x y (inl is) there passes =
-    let here = has_some (filter (p z) ys) y (has_kept (p z) ys y there (ap (λ w. p w y) (sym is) ∙ passes)) in
-    omega (arith, here, length-append (filter (p z) ys) (flat_map (λ w. filter (p w) ys) xs))
-pair_counts p (z ∷ xs) ys x y (inr has) there passes =
-    omega (arith, pair_counts p xs ys x y has there passes, length-append (filter (p z) ys) (flat_map (λ w. filter (p w) ys) xs))
+pair_counts p (z ∷ xs) ys x y has there passes =
+    grind (arith, has_some (filter (p x) ys) y (has_kept (p x) ys y there passes), length-append, pair_counts p xs ys x y)
 
 pub as_many_pairs : {X Y : Type 0} (values : X → Row) (hit : Row → Row → Bool) (p : X → Y → Bool) (others : List Row) (ys : List Y)
     → ((id : ℤ) (x : X) → length (filter (hit (Int id ∷ values x)) others) ≡ length (filter (p x) ys)) → (rows : List Row) (xs : List X)

@@ -1,7 +1,7 @@
 -- Lemmas about the row that an UPDATE statement changes.
-use Rattle.club_tables.proofs.Common.{◌≡◌, ◌≤◌, ℤ, Contains, Bool, true, false, ◌||◌, cond, Some, List, [], ◌∷◌, length, refl, sym, ap, ◌∙◌, not, arith}
-use Rattle.club_tables.proofs.Common.{true≢false, slice_get, ◌==◌, nat_tests, filter, find, AllByRecursion, AllZip, list_any, list_any_at, Int, Row, has_found}
-use Rattle.club_tables.proofs.Common.{has_kept, contains_had, all_from, Has, false_from_ne_true, inl, inr, IsRowOf, length-map}
+use Rattle.club_tables.proofs.Common.{◌≡◌, ◌≤◌, ℤ, Contains, Bool, true, false, Some, List, [], ◌∷◌, length, refl, sym, ap, ◌∙◌, not, arith, true≢false}
+use Rattle.club_tables.proofs.Common.{slice_get, ◌==◌, nat_tests, filter, find, AllByRecursion, AllZip, list_any, list_any_at, Int, Row, has_found, has_kept}
+use Rattle.club_tables.proofs.Common.{contains_had, all_from, Has, false_from_ne_true, inl, inr, IsRowOf, length-map}
 use Rattle.club_tables.proofs.statements.SelectLemmas.{find_first, filter_same, only, picked}
 
 pub as_many : {X : Type 0} (values : X → Row) (hit : Row → Bool) (p : X → Bool) → ((id : ℤ) (x : X) → hit (Int id ∷ values x) ≡ p x) → (rows : List Row)
@@ -18,8 +18,7 @@ find_some {X} p xs some = go (filter p xs) (find_first p xs) some
 
 pub any_filtered_is : {X : Type 0} (p : X → Bool) (xs : List X) → list_any p xs ≡ not (length (filter p xs) == 0)
 any_filtered_is p [] = refl
-any_filtered_is p (x ∷ xs) = elim (p x) as (λ b. (b || list_any p xs) ≡ not (length (cond b (x ∷ filter p xs) (filter p xs)) == 0))
-    [ true ↦ grind (arith, nat_tests) | false ↦ any_filtered_is p xs ]
+any_filtered_is p (x ∷ xs) = grind (arith, nat_tests, any_filtered_is p xs)
 
 pub any_counts : {X : Type 0} (p : X → Bool) (xs : List X) → list_any p xs ≡ true → 1 ≤ length (filter p xs)
 any_counts p xs any = let is = any_filtered_is p xs in grind (arith, nat_tests)

@@ -1,13 +1,13 @@
 -- Lemmas about SELECT queries of one table, with and without ORDER BY.
-use Rattle.club_tables.proofs.Common.{inr, ◌≡◌, ◌≤◌, ℕ, suc, ◌-◌, ◌^◌, ℤ, pos, Bool, true, false, cond, ◌==◌, None, Some, List, [], ◌∷◌, ◌++◌, length, map}
-use Rattle.club_tables.proofs.Common.{slice_get, refl, sym, ap, subst, ◌∙◌, arith, inl, ◌+◌, filter, find, flat_map, AllPairs, IsPermutation, nat_le, unwrap_or}
-use Rattle.club_tables.proofs.Common.{IsSorted, AllByRecursion, AllZip, list_all, bytes_eq, is_eq, int_cmp, is_lt, nat_tests, IsPermutation-map}
-use Rattle.club_tables.proofs.Common.{length_permutation, sorted_far, ranks_by, IsPermutation-refl, IsPermutation-cons, IsPermutation-middle}
-use Rattle.club_tables.proofs.Common.{IsPermutation-trans, recursion_from_All, All-from_recursion, filter_passes, Int, Text, Blob, Null, Binary, value_cmp-Int}
-use Rattle.club_tables.proofs.Common.{value_cmp-Text, value_cmp-Blob, Compare, Eq, binary, is_true, from_truth, Row, Trees, Term, Env, holds, eval_all, inner}
-use Rattle.club_tables.proofs.Common.{end, IsAnswer, Output, output, Query, output_cmp, key_cmp, Select, Database, Reads, Answers, one_permutation, IsRowOf}
-use Rattle.club_tables.proofs.Common.{Holds, select, Has, map-map, filter-map, ascending-filter, ascending-map, all_of, pull_back, all-permutation}
-use Rattle.club_tables.proofs.Common.{along_permutation, Less, Equal, Greater, is_gt, ordering_reverse, IsTotalOrder, length-map, get_or-map, option_to_list}
+use Rattle.club_tables.proofs.Common.{inl, inr, ◌≡◌, ◌≤◌, ℕ, suc, ℤ, pos, Bool, true, false, cond, ◌==◌, Some, List, [], ◌∷◌, length, map, slice_get, refl, sym}
+use Rattle.club_tables.proofs.Common.{ap, subst, ◌∙◌, arith, ◌+◌, filter, find, flat_map, AllPairs, IsPermutation, IsSorted, AllByRecursion, AllZip, list_all}
+use Rattle.club_tables.proofs.Common.{bytes_eq, is_eq, is_lt, nat_tests, IsPermutation-map, length_permutation, sorted_far, ranks_by, IsPermutation-refl}
+use Rattle.club_tables.proofs.Common.{IsPermutation-cons, IsPermutation-middle, IsPermutation-trans, recursion_from_All, All-from_recursion, filter_passes, Int}
+use Rattle.club_tables.proofs.Common.{Text, Blob, Null, Binary, value_cmp-Int, value_cmp-Text, value_cmp-Blob, Compare, Eq, binary, is_true, from_truth, Row}
+use Rattle.club_tables.proofs.Common.{Trees, Term, Env, holds, eval_all, inner, end, IsAnswer, Output, output, Query, output_cmp, key_cmp, Select, Database}
+use Rattle.club_tables.proofs.Common.{Reads, Answers, one_permutation, IsRowOf, Holds, select, Has, map-map, filter-map, ascending-filter, ascending-map}
+use Rattle.club_tables.proofs.Common.{all_of, pull_back, all-permutation, along_permutation, is_gt, ordering_reverse, IsTotalOrder, length-map, get_or-map}
+use Rattle.club_tables.proofs.Common.{option_to_list}
 use Rattle.std.{proofs.{Math.Path.ap₂, lemmas.{List.Kept.AllPairs-cons, Map.Text.is_eq-slice_cmp}}, specs.declared.cmp.Ordering.Ordering}
 use Rattle.sqlite.specs.Program.{overlay}
 use Rattle.sqlite_trees.specs.Tree.{IsAscending}
@@ -16,8 +16,7 @@ pub use Rattle.sqlite_trees.proofs.ListLemmas.{filter_same}
 pub use Rattle.sqlite_trees.proofs.ListLemmas.{filter_none as none_pass}
 
 pub from_truth_is : (b : Bool) → is_true (from_truth (Some b)) ≡ b
-from_truth_is true = refl
-from_truth_is false = refl
+from_truth_is b = grind arith
 
 pub text_equal : (a b : List ℕ) → is_true (binary (Compare Eq Binary) (Text a) (Text b)) ≡ bytes_eq a b
 unfolding binary
@@ -29,27 +28,21 @@ blob_equal a b = from_truth_is _ ∙ ap is_eq (value_cmp-Blob a b) ∙ is_eq-sli
 
 pub whole_equal : (m n : ℕ) → is_true (binary (Compare Eq Binary) (Int (pos m)) (Int (pos n))) ≡ (m == n)
 unfolding binary
-whole_equal m n =
-    let same : is_eq (int_cmp (pos m) (pos n)) ≡ (m == n) = grind (arith, nat_tests) in from_truth_is _ ∙ ap is_eq (value_cmp-Int (pos m) (pos n)) ∙ same
+whole_equal m n = grind (arith, nat_tests, value_cmp-Int)
 
 pub pick_by_if : {A B : Type 0} (test : A → Bool) (f : A → B) (xs : List A) → flat_map (λ x. cond (test x) (f x ∷ []) []) xs ≡ map f (filter test xs)
 pick_by_if test f [] = refl
-pick_by_if {A} {B} test f (x ∷ xs) =
-    let more = pick_by_if test f xs in
-    elim (test x) as (λ b. cond b (f x ∷ []) [] ++ flat_map (λ y. cond (test y) (f y ∷ []) []) xs ≡ map f (cond b (x ∷ filter test xs) (filter test xs)))
-    [ true ↦ ap (λ ys. f x ∷ ys) more | false ↦ more ]
+pick_by_if test f (x ∷ xs) = grind (arith, pick_by_if test f xs)
 
 pub find_first : {X : Type 0} (p : X → Bool) (xs : List X) → find p xs ≡ slice_get (filter p xs) 0
 find_first p [] = refl
-find_first {X} p (x ∷ xs) =
-    elim (p x) as (λ b. cond b (Some x) (find p xs) ≡ slice_get (cond b (x ∷ filter p xs) (filter p xs)) 0) [ true ↦ refl | false ↦ find_first p xs ]
+find_first p (x ∷ xs) = grind (arith, find_first p xs)
 
 pub none_of : {X : Type 0} (xs : List X) → filter (λ x. false) xs ≡ []
 none_of xs = none_pass (λ _. false) xs (all_of _ (λ _. refl) xs)
 
 no_overlay : (db : Trees) (tree : ℕ) → overlay db [] tree ≡ db tree
-no_overlay db tree = elim (nat_le (2 ^ 31) tree) as (λ b. unwrap_or (cond b (slice_get (let none : List (List Row) = [] in none) (tree - 2 ^ 31)) None)
-    (db tree) ≡ db tree) [ true ↦ refl | false ↦ refl ]
+no_overlay db tree = grind arith
 
 pub plain_answer : {query : Query} {db : Database} {params : Row} {rows : List Row} → Answers db (record { lets = []; body = query }) params rows
     → IsAnswer query db.trees params rows
@@ -149,18 +142,14 @@ one_passes {X} R p xs same apart = short (filter p xs) (recursion_from_All _ _ (
     short _ pass apart = omega arith
 
 pub only : {X : Type 0} (xs : List X) (x : X) → length xs ≤ 1 → Has xs x → xs ≡ x ∷ []
+only [] x low has = absurd has
 only (y ∷ []) x low (inl is) = ap (λ z. z ∷ []) (sym is)
 only (y ∷ []) x low (inr has) = absurd has
 only (y ∷ z ∷ xs) x low has = absurd (omega arith)
-only [] x low has = absurd has
 
 pub one_listed : {X : Type 0} (p : X → Bool) (xs : List X) → length (filter p xs) ≤ 1 → filter p xs ≡ option_to_list (find p xs)
-one_listed {X} p xs low = short (filter p xs) low ∙ ap option_to_list (sym (find_first p xs))
-  where
-    short : (ys : List X) → length ys ≤ 1 → ys ≡ option_to_list (slice_get ys 0)
-    short (y ∷ z ∷ ys) low = absurd (omega arith)
-    short [] low = refl
-    short (y ∷ []) low = refl
+one_listed p [] low = refl
+one_listed p (x ∷ xs) low = grind (arith, one_listed p xs)
 
 -- These two elements don't both pass the test.
 abbrev pub IsLone : {X : Type 0} → (X → Bool) → X → X → Type 0
@@ -177,9 +166,7 @@ IsSorted-from_map cmp f xs sorted k d low high =
     rw (get_or-map f xs (k + 1) d (f d) high, get_or-map f xs k d (f d) (omega arith)) at (sorted k (f d) low (rw length-map high))
 
 reverse_is_gt : (o : Ordering) → is_gt (ordering_reverse o) ≡ is_lt o
-reverse_is_gt Less = refl
-reverse_is_gt Equal = refl
-reverse_is_gt Greater = refl
+reverse_is_gt o = grind arith
 
 pub none_greater : {X : Type 0} (cmp : X → X → Ordering) → IsTotalOrder cmp → (xs : List X) → IsSorted cmp xs → AllPairs (λ a b. is_gt (cmp a b) ≡ false) xs
 none_greater cmp total xs sorted i j d less low =
