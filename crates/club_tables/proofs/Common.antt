@@ -6,8 +6,8 @@ pub use Rattle.std.proofs.Common.{Less, is_ok, ◌⊎◌, codes, flat_map, slice
 pub use Rattle.std.proofs.Common.{neg_ℤ, option_and_then, OnOk, OnErr, MatchResult, ◌+ℤ◌, fold, nat_cmp, ◌*◌, nat_lt, IfOk, IfErr, vec_len, vec_capacity}
 pub use Rattle.std.proofs.{Common.{MatchBool, min, length-append, Ordering, Vec}, lemmas.List.Folds.{find-append, list_any_at, list_any-append, list_any_none}}
 pub use Rattle.std.proofs.{Math.Bool.{and-true, or-false, or-true, and_comm, and-false}, lemmas.Result.{IfErr-weaker, on_err_weaker, IfOk-weaker, on_ok_weaker}}
-pub use Rattle.std.proofs.lemmas.List.{Sums.{sum_by-cons, sum_by_push, sum_by_more}, Sorted.{IsPermutation-trans, length_permutation, sum_by-IsPermutation}}
-pub use Rattle.std.proofs.lemmas.List.Sorted.{IsPermutation-map, sorted_far, ranks_by, IsPermutation-refl, IsPermutation-cons, IsPermutation-middle}
+pub use Rattle.std.proofs.lemmas.List.{Sums.{sum_by-cons, sum_by_push, sum_by_more}, Sorted.{IsPermutation-middle, IsPermutation-trans, length_permutation}}
+pub use Rattle.std.proofs.lemmas.List.Sorted.{sum_by-IsPermutation, IsPermutation-map, sorted_far, ranks_by, IsPermutation-refl, IsPermutation-cons}
 pub use Rattle.std.{proofs.lemmas.Bool.{and_parts, false_from_ne_true, cases_Bool, lt-ltb}, specs.List.{AllByRecursion, list_any, list_all, AllZip, filter_map}}
 pub use Rattle.std.{proofs.lemmas.Slice.Eq.bytes_eq-Decides, specs.Ordering.{is_gt, is_eq, ordering_reverse, on, then_cmp, ordering_then, is_lt}}
 pub use Rattle.std.proofs.lemmas.{Bool.Decides.nat_tests, Cmp.{nat_list_eq_equiv, tied_itself, ranked, nat_cmp_total, nat_list_cmp_total, on_total, then_total}}
@@ -49,14 +49,14 @@ pub use Rattle.club_tables.specs.Answers.{FailsToRead, IsReadFault, Reading, Can
 pub use Rattle.club_tables.specs.{Answers.{OfOpen, IsCount, OfSlot, OfCosts, OfTaken, IsTakenRow, IsMostIn, most_in}, Statements.{select, is_given, in_order}}
 pub use Rattle.club_tables.specs.Transaction.{IsIdle, MayCommit, fault_by, BoundStatement, transaction_start, IsKept, Ran, IsUnderstood, RanInTurn, Asked}
 pub use Rattle.club_tables.specs.{Transaction.{IsUntouched, bound_statement}, ReadsAndChanges.{InLimits, ReadsClub, ChangesClub, IsChangeFault, IsRunFault}}
-pub use Rattle.club_tables.specs.ChangeStatements.{used_values, statements_of, cancelling_with, adding_booking, cancelling, AreStatementsOf}
+pub use Rattle.club_tables.specs.{ChangeStatements.{used_values, statements_of, adding_booking, cancelling, AreStatementsOf}, declared.row.MemberRow.MemberRow}
 pub use Rattle.club_tables.specs.Columns.{whole, booking_values, key_values, member_values, facility_values, version_values, name_values, slot_values}
 pub use Rattle.club_tables.specs.Columns.{older_root_values, HasValues, use_values, older_values, cost_in, IsCostRow, cost_values, IsCostIn, flag, whole_in}
 pub use Rattle.club_tables.specs.Tables.{IsFound, Holds, bookings_tree, keys_tree, HoldsClub, HoldsClubVersion2, HoldsRows, members_tree, slots_tree}
 pub use Rattle.club_tables.specs.Tables.{Represents, IsRowOf, HoldsClubVersion1, facilities_tree, olders_tree, RepresentsBy, desk_tree, IsLeftOf, HoldsTrees}
 pub use Rattle.club_tables.specs.Tables.{RepresentsVersion1, RepresentsVersion2, HoldsClubAnyVersion, HoldsRowsVersion1, HoldsClubUnindexed, HoldsRowsWith}
 pub use Rattle.club_tables.specs.Stored.{row_of, persons_taken, Rows, member_row, SlotRow, OlderRow, no_slot_use, used_by, IsStoredAs, older_by}
-pub use Rattle.club_tables.specs.{Stored.stored_slot_use, Fault.{Commits, FailsInTurn, FailsToRun, StopsAt, FailsToPrepare}, declared.row.MemberRow.MemberRow}
+pub use Rattle.club_tables.specs.{Stored.stored_slot_use, Fault.{Commits, FailsInTurn, FailsToRun, StopsAt, FailsToPrepare}, Sheet.{AreBookings, ShowsDay}}
 pub use Rattle.club_tables.specs.Schema.{desk_table, first_schema, six_tables, keys_by_member, bookings_by_key, table_of, club_schema, slots_table, no_schema}
 pub use Rattle.club_tables.specs.Schema.{unindexed_schema, members_table, facilities_table, keys_table, bookings_table, old_roots_table}
 pub use Rattle.club_tables.specs.declared.texts.TheConstants.{SET_NUMBERS, TAKEN, VERSION, ADD_USED, MAKE_DESK, DROP_BOOKINGS_BY_KEY, OLDER_ROOT, ADD_MEMBER}
@@ -66,7 +66,7 @@ pub use Rattle.club_tables.specs.declared.texts.TheConstants.{MAKE_SLOTS, MAKE_B
 pub use Rattle.club_tables.specs.declared.texts.TheConstants.{SET_VERSION, DAY, KEY, MEMBER, FACILITY, SLOT, BOOKING, COSTS_UNDER_KEY, OPEN, TAKE_CREDIT}
 pub use Rattle.club_tables.specs.Opening.{table_batch, migration, index_batch, HasNoDesk, IsOpeningBatch, YieldsRows, IsOpeningFault, EnsuresIndex}
 pub use Rattle.club_tables.specs.Opening.{texts_by_key, first_texts, RunsBatch, Opens, FoundReady, OneOf, HasOrGetsIndex, Understands, index_text}
-pub use Rattle.club_tables.specs.{Opening.{AcceptsTables, HasRunOver, Upgrade, indexed_texts}, Sheet.{AreBookings, ShowsDay}}
+pub use Rattle.club_tables.specs.Opening.{AcceptsTables, HasRunOver, Upgrade, indexed_texts}
 unfoldable pub use Rattle.sqlite.specs.{Listing.{understood, listing_schema}, State.{Shown, FailsToQuery, ExecutesIn, IsNotRun}}
 unfoldable pub use Rattle.sqlite_sql.specs.Ops.{binary, unary}
 unfoldable pub use Rattle.sqlite_tied.specs.Compute.{everything}

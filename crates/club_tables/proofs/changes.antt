@@ -4,12 +4,10 @@ pub mod AddLemmas
 pub mod ChangeLemmas
 pub mod ChargeLemmas
 pub mod CancelLemmas
-pub mod DebitLemmas
 pub mod NumberLemmas
 pub mod StoredLemmas
 pub mod ObeyLemmas
 pub mod FoundLemmas
-pub mod InTurnLemmas
 pub mod PlanLemmas
 pub mod FitLemmas
 pub mod WriteLemmas

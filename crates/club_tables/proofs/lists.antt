@@ -4,5 +4,3 @@ pub mod RowLemmas
 pub mod BookingRows
 pub mod KeyedRows
 pub mod OwnerLemmas
-pub mod SumLemmas
-pub mod TakenRows

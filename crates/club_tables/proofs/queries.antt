@@ -4,4 +4,3 @@ pub mod KeyLemmas
 pub mod MemberLemmas
 pub mod DayLemmas
 pub mod MostLemmas
-pub mod ReadLemmas

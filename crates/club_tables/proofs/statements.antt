@@ -4,6 +4,5 @@ pub mod MeansLemmas
 pub mod SelectLemmas
 pub mod JoinLemmas
 pub mod InsertLemmas
-pub mod PassLemmas
 pub mod UpdateLemmas
 pub mod PutLemmas

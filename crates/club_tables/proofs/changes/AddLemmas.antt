@@ -10,10 +10,10 @@ use Rattle.club_tables.proofs.Common.{bookings_table, club_schema, slots_table, 
 use Rattle.club_tables.proofs.Common.{booking_values, flag, name_values, use_values, slot_values, older_root_values, older_values, Rows, SlotRow, no_slot_use}
 use Rattle.club_tables.proofs.Common.{OlderRow, older_by, stored_slot_use, row_of, Holds, members_tree, facilities_tree, keys_tree, bookings_tree, HoldsRows}
 use Rattle.club_tables.proofs.Common.{slots_tree, olders_tree, list_all, holds, is_true, Compare, Eq, Binary, ◌&&◌, not, State, Executes, Ok, arith}
-use Rattle.club_tables.proofs.statements.{PassLemmas.found, SelectLemmas.{text_equal, whole_equal}}
+use Rattle.club_tables.proofs.statements.{SelectLemmas.{found, text_equal, whole_equal}, InsertLemmas.{inserts, cast_null, cast_int}}
 use Rattle.club_tables.proofs.lists.KeyedRows.{lone, by_put, put_once as once_put, slots_conflict, slot_table, same_itself, changed, same_row as unchanged}
 use Rattle.club_tables.proofs.{lists.KeyedRows.{put_slot, new_row as new_row_of}, statements.PutLemmas.{PutsRow, first_clause, row_put, row_allowed, put_among}}
-use Rattle.club_tables.proofs.{statements.InsertLemmas.{inserts, cast_null, cast_int}, queries.KeyLemmas.{same_slots, no_truth}, lists.RowLemmas.holds_more}
+use Rattle.club_tables.proofs.{queries.KeyLemmas.{same_slots, no_truth}, lists.RowLemmas.holds_more}
 use Rattle.club_tables.proofs.statements.MeansLemmas.{Wrote, Means, on_members, on_facilities, on_keys, on_bookings, Steps, on_slots, on_olders}
 use Rattle.std.proofs.Common.{unwrap_or}
 use Rattle.sqlite.specs.Kind.TheVariants.{Integer}
@@ -164,24 +164,21 @@ pub slot_closed : (rows : Rows) → AllPairs (λ (a : SlotRow) (b : SlotRow). a.
     → (stored_slot_use slot rows.slots).closed ≡ false
     → Steps (CLOSE_SLOT.now, name_values slot) rows (record rows { slots = put_slot slot close_use rows.slots })
 slot_closed rows once slot is_open =
-    let use_by : Option SlotRow → SlotUse = λ found. unwrap_or (option_map (λ (row : SlotRow). row.held) found) no_slot_use in
     slot_put close_puts rows once slot (name_values slot) (whole 1) (whole 0) refl (cast_int (pos 1)) (cast_int (pos 0)) close_use (λ _. refl)
-    (λ there next. refl) (λ x is id next there. (open_is x.held ∙ ap not (ap (λ o. (use_by o).closed) (sym is) ∙ is_open), refl))
+    (λ there next. refl) (λ x is id next there. (open_is x.held ∙ grind arith, refl))
 
 -- If the statement that closes a slot writes a row, the slot was open.
 pub slot_was_open : (rows : Rows) → AllPairs (λ (a : SlotRow) (b : SlotRow). a.slot ≢ b.slot) rows.slots → (slot : Slot) → (old new : State) (count : ℕ)
     → HoldsRows old.now rows → Executes CLOSE_SLOT.now (name_values slot) old new (Ok count) → 1 ≤ count
     → (stored_slot_use slot rows.slots).closed ≡ false
-slot_was_open rows once slot old new count holds_rows executed some = go (row_of slot rows.slots) refl
+slot_was_open rows once slot old new count holds_rows executed some =
+    by (row_of slot rows.slots) (slot_allowed close_puts rows once slot (name_values slot) (whole 1) (whole 0) refl (cast_int (pos 1)) (cast_int (pos 0))
+    close_use (λ there next. refl) (λ row. not row.held.closed) (λ id next there row. open_is row.held) old new count holds_rows executed some)
   where
-    go : (found : Option SlotRow) → row_of slot rows.slots ≡ found
-        → (unwrap_or (option_map (λ (row : SlotRow). row.held) found) no_slot_use).closed ≡ false
-    go None is = refl
-    go (Some x) is =
-        let was_open : not x.held.closed ≡ true = slot_allowed close_puts rows once slot (name_values slot) (whole 1) (whole 0) refl (cast_int (pos 1))
-        (cast_int (pos 0)) close_use (λ there next. refl) (λ row. not row.held.closed) (λ id next there row. open_is row.held) old new count holds_rows
-        executed some x is in
-        grind arith
+    by : (o : Option SlotRow) → ((x : SlotRow) → o ≡ Some x → not x.held.closed ≡ true)
+        → (unwrap_or (option_map (λ (row : SlotRow). row.held) o) no_slot_use).closed ≡ false
+    by None each = refl
+    by (Some x) each = let was_open = each x refl in grind arith
 
 -- Lemmas about the statement that opens a slot.
 

@@ -1,14 +1,14 @@
 -- Lemmas about the statement that cancels a booking.
-use Rattle.club_tables.proofs.Common.{◌≡◌, ℕ, ◌≤◌, pos, Some, Bool, true, false, ◌||◌, List, [], ◌∷◌, ◌++◌, map, refl, sym, ap, subst, ◌∙◌, All, arith, ◌+◌}
-use Rattle.club_tables.proofs.Common.{◌-◌, if◌then◌else◌, Contains, unsigned_Decides, bytes_eq-Decides, and_parts, or-true, or-false, bytes_eq, length-map}
-use Rattle.club_tables.proofs.Common.{get_or-map, everything, Int, Text, Binary, Compare, Eq, binary, is_true, Row, Term, lit, col, holds, understood, truth}
-use Rattle.club_tables.proofs.Common.{Booking, cancelled_booking, is_marked, booking_under, is_in, taken_in, cost_of, Slot, Member, same_slot, persons_of, Club}
-use Rattle.club_tables.proofs.Common.{IsSound, is_key_of, IsBooking, IsOwnedBy, IsToCancel, CANCEL_BOOKING, whole, booking_values, is_given, Rows, member_row}
-use Rattle.club_tables.proofs.{Common.{used_by, MemberRow, all_from}, statements.MeansLemmas.{on_bookings, Steps, WhenRan}, changes.ChangeLemmas.used_row}
+use Rattle.club_tables.proofs.Common.{nat_tests, ◌≡◌, ℕ, ◌≤◌, pos, Some, Bool, true, false, ◌||◌, List, [], ◌∷◌, ◌++◌, map, refl, sym, ap, subst, ◌∙◌, All}
+use Rattle.club_tables.proofs.Common.{arith, ◌+◌, ◌-◌, if◌then◌else◌, Contains, unsigned_Decides, bytes_eq-Decides, and_parts, or-true, or-false, bytes_eq}
+use Rattle.club_tables.proofs.Common.{length-map, get_or-map, everything, Int, Text, Binary, Compare, Eq, binary, is_true, Row, Term, lit, col, holds}
+use Rattle.club_tables.proofs.Common.{understood, truth, Booking, cancelled_booking, is_marked, booking_under, is_in, taken_in, cost_of, Slot, Member}
+use Rattle.club_tables.proofs.Common.{same_slot, persons_of, Club, IsSound, is_key_of, IsBooking, IsOwnedBy, IsToCancel, CANCEL_BOOKING, whole, booking_values}
+use Rattle.club_tables.proofs.{Common.{is_given, Rows, member_row, used_by, MemberRow, all_from}, statements.MeansLemmas.{on_bookings, Steps, WhenRan}}
+use Rattle.club_tables.proofs.changes.{AddLemmas.booking_table, ChangeLemmas.used_row}
 use Rattle.club_tables.proofs.{statements.InsertLemmas.cast_int, queries.KeyLemmas.{AreBookingsOnce, is_numbered, is_uncancelled, one_numbered, same_names}}
-use Rattle.club_tables.proofs.{statements.PassLemmas.found, lists.BookingRows.truths}
+use Rattle.club_tables.proofs.{statements.SelectLemmas.{found, text_equal, whole_equal, test, shows, Apart, apart_from_pairs, IsLone}, lists.BookingRows.truths}
 use Rattle.club_tables.proofs.{statements.UpdateLemmas.{finds_row, one_found, FindsOne, one_changed}, lists.OwnerLemmas.{picked_changed, owner_is}}
-use Rattle.club_tables.proofs.{changes.AddLemmas.booking_table, statements.SelectLemmas.{text_equal, whole_equal, test, shows, Apart, apart_from_pairs, IsLone}}
 use Rattle.sqlite_rules.proofs.ListLemmas.{test_has}
 
 abbrev cancel_tests : List Term
@@ -24,12 +24,6 @@ text_itself a = text_equal a a ∙ (bytes_eq-Decides a a).1 refl
 
 whole_itself : (n : ℕ) → is_true (binary (Compare Eq Binary) (Int (pos n)) (Int (pos n))) ≡ true
 whole_itself n = whole_equal n n ∙ (unsigned_Decides n n).1 refl
-
-text_same : (a b : List ℕ) → is_true (binary (Compare Eq Binary) (Text a) (Text b)) ≡ true → a ≡ b
-text_same a b h = (bytes_eq-Decides a b).0 (sym (text_equal a b) ∙ h)
-
-whole_same : (m n : ℕ) → is_true (binary (Compare Eq Binary) (Int (pos m)) (Int (pos n))) ≡ true → m ≡ n
-whole_same m n h = (unsigned_Decides m n).0 (sym (whole_equal m n) ∙ h)
 
 -- Cancelling a booking doesn't change a booking with another key or number.
 other_stays : (key : List ℕ) (number refund : ℕ) (booking : Booking) → is_numbered key number booking ≡ false
@@ -52,21 +46,7 @@ module _ (rows : Rows) (once : AreBookingsOnce rows.bookings) (booking : Booking
   as_given : (b : Booking) → is_as_given b ≡ true → (b ≡ booking) × (b.cancelled ≡ false)
   as_given b h =
       let t = all_from (λ test. holds (params ∷ (Int (pos 0) ∷ booking_values b) ∷ []) test ≡ true) cancel_tests (λ test. test_has (holds (params ∷ (Int (pos 0) ∷ booking_values b) ∷ [])) cancel_tests test h) in
-      let same : b ≡ booking = grind (
-        arith,
-        truths,
-        text_same _ _ t.0,
-        whole_same _ _ t.1.0,
-        text_same _ _ t.1.1.0,
-        whole_same _ _ t.1.1.1.0,
-        whole_same _ _ t.1.1.1.1.0,
-        whole_same _ _ t.1.1.1.1.1.0,
-        whole_same _ _ t.1.1.1.1.1.1.0,
-        whole_same _ _ t.1.1.1.1.1.1.1.0,
-        whole_same _ _ t.1.1.1.1.1.1.1.1.0,
-        whole_same _ _ t.1.1.1.1.1.1.1.1.1.0,
-      ) in
-      (same, truths b.cancelled false (whole_same _ _ t.1.1.1.1.1.1.1.1.1.1.0))
+      grind (arith, nat_tests, bytes_eq-Decides, text_equal, whole_equal, truths)
 
   here_itself : is_here booking ≡ true
   here_itself = rw ((bytes_eq-Decides booking.key booking.key).1 refl, (unsigned_Decides booking.number booking.number).1 refl) refl
@@ -131,14 +111,8 @@ module _ (club : Club) (sound : IsSound club) (booking : Booking) (cancels : IsT
   marked_there : is_marked key number booking ≡ true
   marked_there = rw (there.1, cancels.1) refl
 
-  row : IsBooking booking
-  row = subst IsBooking there.0.2 (sound.rows.bookings there.0.0 booking there.0.1)
-
-  next_row : IsBooking (change booking)
-  next_row = mapped_holds IsBooking change club.bookings booking fits.rows.bookings there.0
-
   nothing_back : booking.refund ≡ 0
-  nothing_back = row.kept cancels.1
+  nothing_back = (subst IsBooking there.0.2 (sound.rows.bookings there.0.0 booking there.0.1)).kept cancels.1
 
   now_cancelled : (change booking).cancelled ≡ true
   now_cancelled = ap (λ b. booking.cancelled || b) marked_there ∙ or-true booking.cancelled
@@ -147,7 +121,7 @@ module _ (club : Club) (sound : IsSound club) (booking : Booking) (cancels : IsT
   now_refund = ap (λ b. if b then refund else booking.refund) marked_there
 
   at_most : refund ≤ booking.charge
-  at_most = omega (arith, next_row.refund, now_refund)
+  at_most = omega (arith, (mapped_holds IsBooking change club.bookings booking fits.rows.bookings there.0).refund, now_refund)
 
   -- If the key belongs to the member, a cancellation lowers the member's spent points by the
   -- refund.

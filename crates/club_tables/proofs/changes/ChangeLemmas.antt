@@ -5,9 +5,9 @@ use Rattle.club_tables.proofs.Common.{Int, Text, Blob, Binary, Arith, Compare, A
 use Rattle.club_tables.proofs.Common.{credited_member, revoked_key, rotated_key, truth, MemberRow, ADD_CREDIT, ADD_USED, REVOKE_KEY, SET_ROOT, used_values}
 use Rattle.club_tables.proofs.Common.{whole, member_values, key_values, is_given, Rows, members_tree, keys_tree, is_true, nat_le, nat_tests, arith}
 use Rattle.club_tables.proofs.{Common.{value_cmp-Int, SET_QUOTA, Sub, TAKE_CREDIT, debited_member, ◌<◌, ◌-◌, ◌^◌}, changes.AddLemmas.{member_table, key_table}}
-use Rattle.club_tables.proofs.statements.{MeansLemmas.{on_members, on_keys, Steps, WhenRan}, SelectLemmas.{text_equal, shows, test, blob_equal}}
+use Rattle.club_tables.proofs.statements.{MeansLemmas.{on_members, on_keys, Steps, WhenRan}, UpdateLemmas.{FindsOne, finds_by, finds_row, one_changed}}
+use Rattle.club_tables.proofs.statements.SelectLemmas.{text_equal, shows, test, blob_equal, contains_counts, find_some, found, wider_is}
 use Rattle.club_tables.proofs.{queries.{KeyLemmas.{both_tests, one_named}, MemberLemmas.total}, statements.InsertLemmas.cast_int}
-use Rattle.club_tables.proofs.statements.{UpdateLemmas.{FindsOne, finds_by, finds_row, one_changed}, PassLemmas.{contains_counts, find_some, found, wider_is}}
 use Rattle.club_tables.proofs.statements.JoinLemmas.{is_counted, some_counted, counted_some, passes, shown, with_count, answered_counted, counts_elements}
 use Rattle.club_core.specs.After.{member_with_quota}
 use Rattle.sqlite_sql.specs.declared.ops.CompareOp.TheVariants.{Le}

@@ -7,13 +7,12 @@ use Rattle.club_tables.proofs.Common.{ReplaceQuota, InsertBooking, MarkCancelled
 use Rattle.club_tables.proofs.Common.{FitsClub, TakeCredit, ReplaceNumbers, all_weaker, Bool, BoundStatement, IsBooking, IsTrueOf, Option, Rows, State}
 use Rattle.club_tables.proofs.Common.{adding_booking, booking_under, good_until, neg_ℤ, option_map, pos, transaction_start, Add, Arith, Binary, Compare, binary}
 use Rattle.club_tables.proofs.{Common.{is_true, whole, cancelled_booking}, changes.ChargeLemmas.{Charged, charge_found, pays}, statements.MeansLemmas.WhenRan}
-use Rattle.club_tables.proofs.changes.AddLemmas.{member_put, facility_put, key_put, slot_closed, slot_was_open, booking_put, older_represents, open_use}
-use Rattle.club_tables.proofs.changes.{AddLemmas.{slot_opened, new_row, close_use, take_use}, DebitLemmas.{enough_left, credited_little, spent_little}}
-use Rattle.club_tables.proofs.{queries.KeyLemmas.find_mapped, changes.{ChangeLemmas.{StoresMember, credit_finds}, NumberLemmas.{few_by_rows, numbers_finds}}}
-use Rattle.club_tables.proofs.changes.{CancelLemmas.{booking_cancelled, cancel_found}, FoundLemmas.{slot_placed, the_named, facility_there}}
-use Rattle.club_tables.proofs.changes.ChangeLemmas.{debit_finds, name_of, owned_key, quota_finds, revoke_finds, root_finds, used_finds, whole_to, StoresKey}
-use Rattle.club_tables.proofs.{queries.MemberLemmas.total, statements.UpdateLemmas.one_found, lists.{OwnerLemmas.all_last, KeyedRows.slot_once}}
-use Rattle.club_tables.proofs.lists.TakenRows.{the_slot}
+use Rattle.club_tables.proofs.changes.ChangeLemmas.{used_finds, whole_to, StoresKey, StoresMember, credit_finds, debit_finds, name_of, owned_key, quota_finds}
+use Rattle.club_tables.proofs.{changes.{ChangeLemmas.{revoke_finds, root_finds}, NumberLemmas.{few_by_rows, numbers_finds}}, statements.UpdateLemmas.one_found}
+use Rattle.club_tables.proofs.{queries.{MemberLemmas.total, KeyLemmas.find_mapped}, lists.{KeyedRows.{slot_once, the_slot}, OwnerLemmas.all_last}}
+use Rattle.club_tables.proofs.changes.{CancelLemmas.{booking_cancelled, cancel_found}, AddLemmas.{booking_put, older_represents, open_use}}
+use Rattle.club_tables.proofs.changes.AddLemmas.{slot_opened, new_row, close_use, take_use, member_put, facility_put, key_put, slot_closed, slot_was_open}
+use Rattle.club_tables.proofs.changes.FoundLemmas.{enough_left, credited_little, spent_little, slot_placed, the_named, facility_there}
 use Rattle.club_tables.proofs.changes.PlanLemmas.{adds, filled_use, members_once, facilities_once, bookings_once, filled, filled_rows, keys_once}
 use Rattle.club_tables.proofs.changes.ObeyLemmas.{members_apart, facilities_apart, keys_apart, key_members, booking_facilities, bookings_apart}
 use Rattle.sqlite_sql.specs.declared.ops.CompareOp.TheVariants.{Le}

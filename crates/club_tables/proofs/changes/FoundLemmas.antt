@@ -1,16 +1,19 @@
--- Lemmas about searches for rows, and about upper bounds on the number of persons in a slot.
+-- Lemmas about what a club contains, and about upper bounds on the points of a member and on the number
+-- of persons in a slot.
 use Rattle.club_tables.proofs.Common.{rules, ◌≡◌, ℕ, ◌≤◌, pos, neg_ℤ, Bool, List, Some, refl, sym, ◌∙◌, ◌≢◌, ◌-◌, true, if◌then◌else◌, [], ◌∷◌, ◌++◌, map}
 use Rattle.club_tables.proofs.Common.{Contains, ap, arith, All-contains, bytes_eq-Decides, find, bytes_eq, binary, Arith, Add, ◌<◌, ◌^◌, SlotUse, IsFacility}
 use Rattle.club_tables.proofs.Common.{Int, Club, IsSound, taken_in, same_slot, IsBooking, Booking, Facility, Slot, whole, persons_taken, SlotRow, AllPairs, Has}
 use Rattle.club_tables.proofs.Common.{has_kept, slice_get, filter, all_has, has_found, Database, HoldsRows, Rows, subst, FitsClub, MarkClosed, is_closed}
-use Rattle.club_tables.proofs.{Common.{AllByRecursion, false, list_any, row_of, contains_had, has_contained}, changes.ObeyLemmas.slot_facilities}
-use Rattle.club_tables.proofs.lists.OwnerLemmas.{apart_last}
-use Rattle.club_tables.proofs.statements.{SelectLemmas.{apart_from_pairs, find_first, only}, PassLemmas.{contains_counts, find_some}}
+use Rattle.club_tables.proofs.Common.{AllByRecursion, false, list_any, row_of, contains_had, has_contained, ◌+◌, Binary, Compare, Member, member_named}
+use Rattle.club_tables.proofs.{Common.{MemberRow, is_true, member_row, used_by, nat_tests, IsMember, TakeCredit, debited_member}, changes.ChangeLemmas.whole_to}
+use Rattle.club_tables.proofs.{changes.{ObeyLemmas.slot_facilities, CancelLemmas.mapped_holds}, queries.MemberLemmas.total}
+use Rattle.club_tables.proofs.{lists.OwnerLemmas.apart_last, statements.SelectLemmas.{apart_from_pairs, find_first, only, contains_counts, find_some, found}}
 use Rattle.club_tables.proofs.{lists.KeyedRows.{not_same, put_slot, changed, new_row, same_itself, by_put, same_row}, queries.KeyLemmas.{one_named, same_slots}}
 use Rattle.std.specs.Prelude.{is_some, Option}
 use Rattle.sqlite_rules.proofs.ProbeLemmas.{has_mapped}
 use Rattle.club_core.specs.Store.{HasFacility}
 use Rattle.club_rows.specs.Limits.{places_limit}
+use Rattle.sqlite_sql.specs.declared.ops.CompareOp.TheVariants.{Le}
 
 pub contains_mapped : {X Y : Type 0} (f : X → Y) (xs : List X) (y : Y) → Contains (map f xs) y → (x : X) × Contains xs x × (f x ≡ y)
 contains_mapped f xs y has = let it = has_mapped f xs y (has_contained (map f xs) y has) in (it.0, contains_had xs it.0 it.1, sym it.2)
@@ -72,3 +75,30 @@ the_named {X} name xs x unique has =
 
 pub few_persons : (booking : Booking) → IsBooking booking → persons_taken booking ≤ 50
 few_persons booking row = let guests : booking.guests ≤ 49 = row.guests in grind arith
+
+-- The member of this row has at least this many unspent points.
+abbrev pub leaves : ℕ → MemberRow → Bool
+leaves points row = is_true (binary (Compare Le Binary) (binary (Arith Add) (whole row.used) (whole points)) (whole row.member.credited))
+
+module _ (club : Club) (sound : IsSound club) (name : List ℕ) (points : ℕ) (member : Member) (named : member_named name club ≡ Some member) where
+  there : Contains club.members member × (bytes_eq member.name name ≡ true)
+  there = found (λ (m : Member). bytes_eq m.name name) club.members member named
+
+  pub credited_little : member.credited ≤ 999_999_999
+  credited_little = (All-contains IsMember club.members member sound.rows.members there.0).credited
+
+  pub spent_little : used_by club member.name ≤ member.credited
+  spent_little = All-contains (λ (m : Member). used_by club m.name ≤ m.credited) club.members member sound.balances there.0
+
+  pub enough_left : points < 2 ^ 32 → leaves points (member_row club member) ≡ true → used_by club member.name + points ≤ member.credited
+  enough_left few passes =
+      let is = rw (
+        total (used_by club member.name) points (omega (arith, few, spent_little, credited_little)),
+        whole_to (used_by club member.name + points) member.credited,
+      ) at passes in
+      grind (arith, nat_tests)
+
+  pub enough_if_fits : FitsClub (TakeCredit name points) club → points ≤ member.credited → used_by club member.name + points ≤ member.credited
+  enough_if_fits fits low =
+      let left = mapped_holds (λ (m : Member). used_by club m.name ≤ m.credited) (debited_member name points) club.members member fits.sound.balances there.0 in
+      grind (arith, there.1, low)

@@ -1,13 +1,13 @@
 -- Lemmas about the statement that sets a facility's places, price and hours.
-use Rattle.club_tables.proofs.Common.{rules, ◌≡◌, ◌≢◌, ◌≤◌, ℕ, pos, min, Bool, true, false, not, ◌&&◌, Some, List, [], ◌∷◌, length, map, refl, sym, ap, ◌∙◌}
-use Rattle.club_tables.proofs.Common.{find, filter, list_all, bytes_eq, bytes_eq-Decides, and_parts, everything, Int, Binary, Compare, Eq, Row, Term, col, op2}
-use Rattle.club_tables.proofs.Common.{holds, understood, Club, is_true, facility_values, slot_values, is_given, Rows, IsStoredAs, facilities_tree, slots_tree}
-use Rattle.club_tables.proofs.Common.{nat_tests, arith, AllPairs, Has, Facility, Slot, SlotRow, taken_in, FitsClub, after, ReplaceNumbers}
-use Rattle.club_tables.proofs.Common.{facility_with_numbers, SET_NUMBERS, op1, unary, Not, nat_lt, cast_row, ℤ, Contains, contains_had, inl, inr, true≢false}
-use Rattle.club_tables.proofs.{Common.{all_from, IsFacility, Gt}, lists.TakenRows.{row_taken, slot_taken_by}, statements.SelectLemmas.{text_equal, none_pass}}
-use Rattle.club_tables.proofs.statements.{UpdateLemmas.{FindsOne, one_changed, finds_by}, MeansLemmas.{WhenRan, on_facilities, Steps}, InsertLemmas.cast_int}
-use Rattle.club_tables.proofs.{changes.AddLemmas.facility_table, queries.MemberLemmas.whole_above}
-use Rattle.club_tables.proofs.{statements.PassLemmas.{contains_counts, found}, queries.KeyLemmas.{both_tests, one_named}, changes.CancelLemmas.mapped_holds}
+use Rattle.club_tables.proofs.Common.{◌≡◌, ◌≢◌, ◌≤◌, ℕ, pos, min, Bool, true, false, not, ◌&&◌, Some, List, [], ◌∷◌, length, map, refl, sym, ap, ◌∙◌, find}
+use Rattle.club_tables.proofs.Common.{filter, list_all, bytes_eq, bytes_eq-Decides, and_parts, everything, Int, Binary, Compare, Eq, Row, Term, col, op2, holds}
+use Rattle.club_tables.proofs.Common.{understood, Club, is_true, facility_values, slot_values, is_given, Rows, IsStoredAs, facilities_tree, slots_tree}
+use Rattle.club_tables.proofs.Common.{nat_tests, arith, AllPairs, Has, Facility, Slot, SlotRow, taken_in, FitsClub, ReplaceNumbers, facility_with_numbers}
+use Rattle.club_tables.proofs.Common.{SET_NUMBERS, op1, unary, Not, nat_lt, cast_row, ℤ, Contains, contains_had, inl, inr, all_from, IsFacility, Gt}
+use Rattle.club_tables.proofs.{lists.KeyedRows.{row_taken, slot_taken_by}, statements.{MeansLemmas.{WhenRan, on_facilities, Steps}, InsertLemmas.cast_int}}
+use Rattle.club_tables.proofs.statements.{SelectLemmas.{text_equal, none_pass, contains_counts, found}, UpdateLemmas.{FindsOne, one_changed, finds_by}}
+use Rattle.club_tables.proofs.{changes.{CancelLemmas.mapped_holds, AddLemmas.facility_table}, queries.KeyLemmas.{both_tests, one_named}}
+use Rattle.club_tables.proofs.queries.MemberLemmas.{whole_above}
 use Rattle.club_tables.proofs.statements.JoinLemmas.{is_counted, counted_some, passes, shown, with_count, answered_counted, counts_elements}
 use Rattle.club_core.specs.Office.{are_limits}
 use Rattle.club_tables.specs.ChangeStatements.{numbers_values}
@@ -73,30 +73,24 @@ module _ (club : Club) (rows : Rows) (stored : IsStoredAs club rows) (name : Lis
   pub few_by_rows : not (is_crowded name places rows.slots) ≡ true → (slot : Slot) → slot.facility ≡ name → taken_in slot club.bookings ≤ places
   few_by_rows roomy slot of = elim (slot_taken_by club rows stored slot) [
     | inl none ↦ omega (arith, none)
-    | inr it ↦ by it.0 it.1 ((bytes_eq-Decides it.0.slot.facility name).1 (ap (λ (s : Slot). s.facility) it.2 ∙ of)) it.3 (nat_lt places it.0.held.taken) refl
+    | inr it ↦ by it.0 it.1 ((bytes_eq-Decides it.0.slot.facility name).1 (ap (λ (s : Slot). s.facility) it.2 ∙ of)) it.3
   ]
     where
       by : (row : SlotRow) → Has rows.slots row → bytes_eq row.slot.facility name ≡ true → row.held.taken ≡ taken_in slot club.bookings
-          → (more : Bool) → nat_lt places row.held.taken ≡ more → taken_in slot club.bookings ≤ places
-      by row has named taken true more =
-          let passes : crowds name places row ≡ true = rw (named, more) refl in
-          let some = contains_counts (crowds name places) rows.slots row (contains_had rows.slots row has) passes in
-          absurd (true≢false (sym roomy ∙ ap not (counted_some (filter (crowds name places) rows.slots) some)))
-      by row has named taken false few = grind (arith, nat_tests)
+          → taken_in slot club.bookings ≤ places
+      by row has named taken =
+          let counts = contains_counts (crowds name places) rows.slots row (contains_had rows.slots row has) in
+          grind (arith, nat_tests, counts, counted_some (filter (crowds name places) rows.slots))
 
   pub few_in_rows : ((slot : Slot) → slot.facility ≡ name → taken_in slot club.bookings ≤ places) → not (is_crowded name places rows.slots) ≡ true
   few_in_rows few =
       let none : filter (crowds name places) rows.slots ≡ [] =
       none_pass (crowds name places) rows.slots (all_from (λ (row : SlotRow). crowds name places row ≡ false) rows.slots (λ row has.
-      by row has (bytes_eq row.slot.facility name) refl)) in
+      by row has)) in
       rw none refl
     where
-      by : (row : SlotRow) → Has rows.slots row → (b : Bool) → bytes_eq row.slot.facility name ≡ b → (b && nat_lt places row.held.taken) ≡ false
-      by row has false other = refl
-      by row has true named =
-          let taken = row_taken club rows stored row has in
-          let low = few row.slot ((bytes_eq-Decides row.slot.facility name).0 named) in
-          grind (arith, nat_tests)
+      by : (row : SlotRow) → Has rows.slots row → crowds name places row ≡ false
+      by row has = grind (arith, nat_tests, bytes_eq-Decides, row_taken club rows stored row has, few row.slot)
 
 module _ (club : Club) (name : List ℕ) (places price opens shuts : ℕ) (fits : FitsClub (ReplaceNumbers name places price opens shuts) club) where
   abbrev facility : Facility
@@ -118,9 +112,3 @@ module _ (club : Club) (name : List ℕ) (places price opens shuts : ℕ) (fits 
   numbers_if_fits =
       let row = mapped_holds IsFacility edit club.facilities facility fits.sound.rows.facilities there.0 in
       grind (arith, nat_tests, there.1)
-
-pub numbers_stored : (club : Club) (rows : Rows) → IsStoredAs club rows → (name : List ℕ) (places price opens shuts : ℕ)
-    → IsStoredAs (after (ReplaceNumbers name places price opens shuts) club)
-    (record rows { facilities = map (facility_with_numbers name places price opens shuts) rows.facilities })
-numbers_stored club rows stored name places price opens shuts =
-    let facilities = ap (map (facility_with_numbers name places price opens shuts)) stored.facilities in search rules

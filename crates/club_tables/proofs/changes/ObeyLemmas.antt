@@ -5,8 +5,7 @@ use Rattle.club_tables.proofs.Common.{Rows, MemberRow, Facility, Key, Booking, S
 use Rattle.club_tables.proofs.Common.{ascending_from_map, IsTable, club_schema, member_values, facility_values, key_values, slot_values, booking_values}
 use Rattle.club_tables.proofs.Common.{members_tree, facilities_tree, keys_tree, slots_tree, bookings_tree, IsRowOf, first_key, contains_had, value_cmp_total}
 use Rattle.club_tables.proofs.{Common.{all-map, all_from_map, all_weaker, false_from_ne_true, true≢false, arith}, statements.UpdateLemmas.Below}
-use Rattle.club_tables.proofs.statements.{PassLemmas.{any_filtered_is, as_many}, SelectLemmas.{Apart, paired, row_of, text_equal, whole_equal}}
-use Rattle.club_tables.proofs.lists.OwnerLemmas.{apart_last}
+use Rattle.club_tables.proofs.{statements.SelectLemmas.{any_filtered_is, as_many, Apart, paired, row_of, text_equal, whole_equal}, lists.OwnerLemmas.apart_last}
 use Rattle.sqlite_rules.proofs.{ListLemmas.{some_has, some_from}, ProbeLemmas.mapped_has}
 use Rattle.sqlite_schema.specs.{Names.same_name, Rules.{Obeys, agree, differ}, declared.schema.Constraint.TheVariants.{Unique, ForeignKey}}
 use Rattle.sqlite_value.specs.Keys.{plain, joined}

@@ -1,26 +1,24 @@
 -- Proof that the statements of a change apply the change to the tables.
-use Rattle.club_tables.proofs.Common.{◌≡◌, ℕ, ◌≤◌, ℤ, pos, neg_ℤ, Bool, List, Some, refl, sym, subst, ◌∙◌, ◌≢◌, ◌+◌, ◌-◌, true, if◌then◌else◌, [], ◌∷◌, ◌++◌}
-use Rattle.club_tables.proofs.Common.{map, Contains, ap, arith, recursion_from_All, All-contains, bytes_eq-Decides, find, option_map, bytes_eq, Database, Held}
-use Rattle.club_tables.proofs.Common.{state, Row, binary, Arith, Add, cond, SlotUse, IsMember, Ghosts, Int, good_until, after, cancelled_booking}
-use Rattle.club_tables.proofs.Common.{credited_member, Club, member_named, key_named, IsOwnedBy, FitsClub, booking_under, cost_of, taken_in, InsertMember}
-use Rattle.club_tables.proofs.Common.{AddCredit, InsertFacility, InsertKey, MarkRevoked, ReplaceRoot, MarkClosed, MarkOpen, ReplaceQuota, InsertBooking}
-use Rattle.club_tables.proofs.Common.{MarkCancelled, same_slot, persons_of, IsBooking, Booking, Facility, Key, Member, Slot, used_values, statements_of}
-use Rattle.club_tables.proofs.Common.{adding_booking, cancelling, whole, name_values, Rows, member_row, used_by, persons_taken, IsStoredAs, HoldsClub, Ran}
-use Rattle.club_tables.proofs.Common.{transaction_start, BoundStatement, MemberRow, ADD_TAKEN, CANCEL_BOOKING, SlotRow, Has, has_found, has_contained}
-use Rattle.club_tables.proofs.Common.{unwrap_or, stored_slot_use, no_slot_use, row_of, nat_le, nat_tests, unsigned_Decides, cancelling_with, TakeCredit}
-use Rattle.club_tables.proofs.{Common.{ReplaceNumbers, AllPairs}, changes.FoundLemmas.{contains_mapped, minus, few_taken, put_there, few_persons, still_open}}
+use Rattle.club_tables.proofs.Common.{◌≡◌, ℕ, ◌≤◌, pos, neg_ℤ, Bool, List, Some, refl, sym, subst, ◌∙◌, ◌≢◌, ◌+◌, ◌-◌, true, [], ◌∷◌, ◌++◌, map, Contains, ap}
+use Rattle.club_tables.proofs.Common.{arith, recursion_from_All, All-contains, bytes_eq-Decides, find, option_map, bytes_eq, Database, Held, state, binary}
+use Rattle.club_tables.proofs.Common.{Arith, Add, cond, SlotUse, IsMember, Ghosts, Int, good_until, after, cancelled_booking, credited_member, Club}
+use Rattle.club_tables.proofs.Common.{member_named, key_named, IsOwnedBy, FitsClub, booking_under, cost_of, taken_in, InsertMember, AddCredit, InsertFacility}
+use Rattle.club_tables.proofs.Common.{InsertKey, MarkRevoked, ReplaceRoot, MarkClosed, MarkOpen, ReplaceQuota, InsertBooking, MarkCancelled, same_slot}
+use Rattle.club_tables.proofs.Common.{persons_of, IsBooking, Booking, Facility, Key, Member, Slot, statements_of, adding_booking, cancelling, whole}
+use Rattle.club_tables.proofs.Common.{name_values, Rows, member_row, used_by, persons_taken, IsStoredAs, HoldsClub, Ran, transaction_start, BoundStatement}
+use Rattle.club_tables.proofs.Common.{MemberRow, ADD_TAKEN, SlotRow, Has, has_found, has_contained, row_of, nat_le, nat_tests, unsigned_Decides, TakeCredit}
+use Rattle.club_tables.proofs.{Common.{ReplaceNumbers, AllPairs, debited_member, facility_with_numbers}, changes.ChargeLemmas.{Charged, member_charged}}
+use Rattle.club_tables.proofs.changes.FoundLemmas.{contains_mapped, minus, few_taken, put_there, few_persons, still_open, enough_if_fits, credited_little}
+use Rattle.club_tables.proofs.{crashes.TurnLemmas.{GoThrough, left_by}, changes.ChangeLemmas.{key_revoked, root_set, whole_to, AreKeysOnce, StoresKey, name_of}}
+use Rattle.club_tables.proofs.{changes.NumberLemmas.{few_in_rows, few_if_fits, facility_renumbered}, lists.OwnerLemmas.{all_last, owner_is}}
 use Rattle.club_tables.proofs.changes.AddLemmas.{take_use, booking_put, member_put, facility_put, key_put, slot_taken, slot_closed, slot_opened}
-use Rattle.club_tables.proofs.changes.{AddLemmas.{older_represents, put_older}, NumberLemmas.{few_in_rows, few_if_fits, facility_renumbered, numbers_stored}}
-use Rattle.club_tables.proofs.{lists.KeyedRows.{put_slot, use_put, same_itself}, queries.KeyLemmas.{same_slots, find_mapped, AreBookingsOnce}}
-use Rattle.club_tables.proofs.changes.ChangeLemmas.{member_credited, member_given, key_revoked, root_set, whole_to, AreKeysOnce, StoresKey, name_of}
-use Rattle.club_tables.proofs.changes.{ChangeLemmas.{member_used, AreNamedOnce, used_row, StoresMember, member_debited}, ChargeLemmas.{Charged, member_charged}}
-use Rattle.club_tables.proofs.{statements.MeansLemmas.Steps, changes.InTurnLemmas.{GoThrough, left_by}, lists.OwnerLemmas.{all_last, owner_is}}
+use Rattle.club_tables.proofs.{changes.AddLemmas.{older_represents, put_older}, statements.SelectLemmas.{pairs_mapped, contains_counts, find_some, found}}
+use Rattle.club_tables.proofs.changes.ChangeLemmas.{member_used, AreNamedOnce, used_row, StoresMember, member_debited, member_credited, member_given}
+use Rattle.club_tables.proofs.{lists.KeyedRows.{put_slot, use_put, same_itself}, changes.StoredLemmas.{taken_more, member_stored, key_stored, revoke_stored}}
+use Rattle.club_tables.proofs.changes.StoredLemmas.{rotate_stored, close_stored, open_stored, used_more, bookings_stored, members_stored, facilities_stored}
+use Rattle.club_tables.proofs.{queries.{KeyLemmas.{same_slots, find_mapped, AreBookingsOnce}, MemberLemmas.total}, statements.MeansLemmas.Steps}
 use Rattle.club_tables.proofs.changes.CancelLemmas.{booking_cancelled, there, used_back, taken_back, mapped_holds, used_less, taken_less}
-use Rattle.club_tables.proofs.{changes.DebitLemmas.{enough_if_fits, credited_little, debit_stored}, statements.PassLemmas.{contains_counts, find_some, found}}
-use Rattle.club_tables.proofs.queries.MemberLemmas.{total}
-use Rattle.club_tables.proofs.changes.StoredLemmas.{taken_more, member_stored, credit_stored, facility_stored, key_stored, revoke_stored, rotate_stored}
-use Rattle.club_tables.proofs.{changes.StoredLemmas.{close_stored, open_stored, quota_stored, used_more, bookings_stored}, statements.SelectLemmas.pairs_mapped}
-use Rattle.club_core.specs.declared.change.Change.{Change}
+use Rattle.club_core.specs.{declared.change.Change.Change, After.member_with_quota}
 use Rattle.club_rows.specs.Limits.{credited_limit}
 
 module _ {S : Type 0} (g : Ghosts S) (old : Held S) (club : Club) (tables : HoldsClub (state g old).now club) where
@@ -61,13 +59,13 @@ module _ {S : Type 0} (g : Ghosts S) (old : Held S) (club : Club) (tables : Hold
   pub filled_use : (booking : Booking) (row : SlotRow) → row_of booking.slot (filled_rows booking).slots ≡ Some row
       → row.held.taken ≡ taken_in booking.slot (club.bookings ++ booking ∷ [])
   filled_use booking row is =
-      ap (λ o. (unwrap_or (option_map (λ (r : SlotRow). r.held) o) no_slot_use).taken) (sym is)
-      ∙ ap (λ (u : SlotUse). u.taken) (use_put booking.slot (take_use (adds booking)) booking.slot tables.rows.slots
-      ∙ ap (λ b. let v : SlotUse = if b then take_use (adds booking) (stored_slot_use booking.slot tables.rows.slots)
-      else stored_slot_use booking.slot tables.rows.slots in v) (same_itself booking.slot))
-      ∙ ap (λ (u : SlotUse). u.taken + persons_taken booking) (tables.storage.slots booking.slot)
-      ∙ sym (taken_more club booking booking.slot ∙ ap (λ b. if b then taken_in booking.slot club.bookings + persons_taken booking
-      else taken_in booking.slot club.bookings) (same_itself booking.slot))
+      grind (
+        arith,
+        use_put booking.slot (take_use (adds booking)) booking.slot tables.rows.slots,
+        same_itself booking.slot,
+        tables.storage.slots booking.slot,
+        taken_more club booking booking.slot,
+      )
 
   -- After the statements have run, the tables contain the rows of this club.
   abbrev LeaveRows : List BoundStatement → Club → Type 0
@@ -76,6 +74,11 @@ module _ {S : Type 0} (g : Ghosts S) (old : Held S) (club : Club) (tables : Hold
   one_step : (statement : BoundStatement) {last : Rows} {next : Club} → Steps statement tables.rows last → IsStoredAs next last
       → LeaveRows (statement ∷ []) next
   one_step statement step stored = (_, (_, λ a b. step (state g a) (state g b), refl), stored)
+
+  three_steps : (one two three : BoundStatement) {second third last : Rows} {next : Club} → Steps one tables.rows second → Steps two second third
+      → Steps three third last → IsStoredAs next last → LeaveRows (one ∷ two ∷ three ∷ []) next
+  three_steps one two three step again finally stored =
+      (_, (_, λ a b. step (state g a) (state g b), (_, λ a b. again (state g a) (state g b), (_, λ a b. finally (state g a) (state g b), refl))), stored)
 
   stored_key : (name : List ℕ) (key : Key) → key_named name club ≡ Some key → StoresKey name tables.rows.keys key
   stored_key name key h = subst (λ keys. StoresKey name keys key) (sym tables.storage.keys) h
@@ -102,36 +105,6 @@ module _ {S : Type 0} (g : Ghosts S) (old : Held S) (club : Club) (tables : Hold
         omega (arith, low, (All-contains IsMember club.members one.0 tables.sound.rows.members here.0).credited),
       )
 
-  totals : (values : Row) (change : List Booking → List Booking) (member key : List ℕ) (points : ℤ) (used : ℕ → ℕ) (slot : Slot) (persons : ℤ)
-      (taken : ℕ → ℕ) → Steps (CANCEL_BOOKING.now, values) tables.rows (record tables.rows { bookings = change tables.rows.bookings })
-      → IsOwnedBy member key club
-      → (used_by club member ≤ credited_limit → binary (Arith Add) (whole (used_by club member)) (Int points) ≡ whole (used (used_by club member)))
-      → (taken_in slot club.bookings ≡ 0 → persons ≡ pos (taken 0))
-      → binary (Arith Add) (whole (taken_in slot club.bookings)) (Int persons) ≡ whole (taken (taken_in slot club.bookings))
-      → ((m : Member) → used_row member used (member_row club m) ≡ member_row (record club { bookings = change club.bookings }) m)
-      → ((s : Slot) → taken_in s (change club.bookings) ≡ (if same_slot slot s then taken (taken_in s club.bookings) else taken_in s club.bookings))
-      → LeaveRows (cancelling_with values (used_values member points key) (name_values slot ++ Int persons ∷ []))
-      (record club { bookings = change club.bookings })
-  totals values change member key points used slot persons taken first owns uses fresh takes costs people =
-      let booked : Rows = record tables.rows { bookings = change tables.rows.bookings } in
-      let charged : Rows = record booked { members = map (used_row member used) tables.rows.members } in
-      let m = owner_of member key owns in
-      let sum = subst (λ name. used_by club name ≤ credited_limit → binary (Arith Add) (whole (used_by club name)) (Int points)
-      ≡ whole (used (used_by club name))) (sym m.2) uses m.3 in
-      let second = member_used booked members_once member points key owns.0 (stored_key key owns.0 owns.1) owns.2 (member_row club m.0)
-      (stored_member member m.0 m.1) used sum in
-      let held = tables.storage.slots slot in
-      let third = slot_taken charged tables.storage.once slot persons taken (λ none. fresh (ap (λ u. u.taken) (sym held ∙ none)))
-      (subst (λ (u : SlotUse). binary (Arith Add) (whole u.taken) (Int persons) ≡ whole (taken u.taken)) (sym held) takes) in (
-        _,
-        (
-          booked,
-          λ a b. first (state g a) (state g b),
-          (charged, λ a b. second (state g a) (state g b), (_, λ a b. third (state g a) (state g b), refl)),
-        ),
-        bookings_stored club tables.rows tables.storage change member used slot taken costs people,
-      )
-
   booking_through : (booking : Booking) (member : List ℕ) → FitsClub (InsertBooking booking member) club
       → LeaveRows (adding_booking booking member) (after (InsertBooking booking member) club)
   booking_through booking member fits =
@@ -143,9 +116,7 @@ module _ {S : Type 0} (g : Ghosts S) (old : Held S) (club : Club) (tables : Hold
       let sum = total (used_by club m.0.name) (cost_of booking) (omega (arith, m.3, limits.charge)) in
       let mine = (bytes_eq-Decides m.0.name member).1 m.2 in
       let costs : used_by (after (InsertBooking booking member) club) m.0.name ≡ used_by club m.0.name + cost_of booking =
-      ap (λ (r : MemberRow). r.used) (sym (used_more club tables.sound member booking fits.carries m.0))
-      ∙ ap (λ b. if b then used_by club m.0.name + cost_of booking
-      else used_by club m.0.name) mine in
+      grind (arith, used_more club tables.sound member booking fits.carries m.0, mine) in
       let m_there = found (λ (n : Member). bytes_eq n.name member) club.members m.0 m.1 in
       let enough = All-contains (λ (n : Member). used_by (after (InsertBooking booking member) club) n.name ≤ n.credited) club.members m.0 fits.sound.balances
       m_there.0 in
@@ -179,47 +150,49 @@ module _ {S : Type 0} (g : Ghosts S) (old : Held S) (club : Club) (tables : Hold
           roomy,
         ) refl;
       } in
-      let first = booking_put tables.rows booking in
-      let second = filled booking limits known in
-      let third = member_charged (filled_rows booking) members_once member (pos (cost_of booking)) booking.key booking.slot it used sum in (
-        _,
-        (
-          booked_rows booking,
-          λ a b. first (state g a) (state g b),
-          (filled_rows booking, λ a b. second (state g a) (state g b), (_, λ a b. third (state g a) (state g b), refl)),
-        ),
-        bookings_stored club tables.rows tables.storage (λ bs. bs ++ booking ∷ []) member used booking.slot (adds booking)
-            (used_more club tables.sound member booking fits.carries) (taken_more club booking),
-      )
+      three_steps _ _ _ (booking_put tables.rows booking) (filled booking limits known)
+      (member_charged (filled_rows booking) members_once member (pos (cost_of booking)) booking.key booking.slot it used sum)
+      (bookings_stored club tables.rows tables.storage (λ bs. bs ++ booking ∷ []) member used booking.slot (adds booking)
+      (used_more club tables.sound member booking fits.carries) (taken_more club booking))
 
   cancel_through : (booking : Booking) (member : List ℕ) (refund : ℕ) (fits : FitsClub (MarkCancelled booking member refund) club)
       → LeaveRows (cancelling booking member refund) (after (MarkCancelled booking member refund) club)
   cancel_through booking member refund fits =
       let persons = persons_of booking in
       let cancels = fits.carries.0 in
-      let mine = owner_is club tables.sound booking.key member member fits.carries.1 ∙ (bytes_eq-Decides member member).1 refl in
-      let back = rw mine at (used_back club tables.sound booking cancels refund fits.sound member) in
+      let owns = fits.carries.1 in
+      let change : List Booking → List Booking = map (cancelled_booking booking.key booking.number refund) in
+      let booked : Rows = record tables.rows { bookings = change tables.rows.bookings } in
+      let charged : Rows = record booked { members = map (used_row member (λ n. n - refund)) tables.rows.members } in
+      let m = owner_of member booking.key owns in
+      let mine = owner_is club tables.sound booking.key member m.0.name owns ∙ (bytes_eq-Decides m.0.name member).1 m.2 in
+      let back = rw mine at (used_back club tables.sound booking cancels refund fits.sound m.0.name) in
+      let second = member_used booked members_once member (neg_ℤ (pos refund)) booking.key owns.0 (stored_key booking.key owns.0 owns.1) owns.2
+      (member_row club m.0) (stored_member member m.0 m.1) (λ n. n - refund)
+      (minus (used_by club m.0.name) refund (omega (arith, back)) (omega (arith, m.3))) in
       let gone = rw (same_itself booking.slot) at (taken_back club tables.sound booking cancels refund fits.sound booking.slot) in
       let there_are : persons ≤ taken_in booking.slot club.bookings = omega (arith, gone) in
-      let booked = All-contains (λ (b : Booking). Contains (map (λ (f : Facility). f.name) club.facilities) b.slot.facility) club.bookings booking
+      let place = All-contains (λ (b : Booking). Contains (map (λ (f : Facility). f.name) club.facilities) b.slot.facility) club.bookings booking
       tables.sound.references.facilities (there club tables.sound booking cancels refund fits.sound).0 in
-      let few = few_taken club tables.sound booking.slot booked in
-      totals _ (map (cancelled_booking booking.key booking.number refund)) member booking.key (neg_ℤ (pos refund)) (λ n. n - refund) booking.slot
-      (neg_ℤ (pos persons)) (λ n. n - persons)
-      (booking_cancelled tables.rows bookings_once booking refund
-      (subst (λ bookings. booking_under booking.key booking.number bookings ≡ Some booking) (sym tables.storage.bookings) cancels.0) cancels.1)
-      fits.carries.1 (λ low. minus (used_by club member) refund (omega (arith, back)) (omega (arith, low)))
-      (λ none. absurd (omega (arith, none, there_are))) (minus (taken_in booking.slot club.bookings) persons there_are (omega (arith, few)))
-      (used_less club tables.sound booking cancels refund fits.sound member fits.carries.1) (taken_less club tables.sound booking cancels refund fits.sound)
+      let few = few_taken club tables.sound booking.slot place in
+      let held = tables.storage.slots booking.slot in
+      let third = slot_taken charged tables.storage.once booking.slot (neg_ℤ (pos persons)) (λ n. n - persons)
+      (λ none. absurd (omega (arith, ap (λ (u : SlotUse). u.taken) (sym held ∙ none), there_are)))
+      (subst (λ (u : SlotUse). binary (Arith Add) (whole u.taken) (Int (neg_ℤ (pos persons))) ≡ whole (u.taken - persons)) (sym held)
+      (minus (taken_in booking.slot club.bookings) persons there_are (omega (arith, few)))) in
+      three_steps _ _ _ (booking_cancelled tables.rows bookings_once booking refund
+      (subst (λ bookings. booking_under booking.key booking.number bookings ≡ Some booking) (sym tables.storage.bookings) cancels.0) cancels.1) second third
+      (bookings_stored club tables.rows tables.storage change member (λ n. n - refund) booking.slot (λ n. n - persons)
+      (used_less club tables.sound booking cancels refund fits.sound member owns) (taken_less club tables.sound booking cancels refund fits.sound))
 
   pub plan : (change : Change) → FitsClub change club → LeaveRows (statements_of change) (after change club)
   plan (InsertMember member) fits = one_step _ (member_put tables.rows member) (member_stored club tables.rows tables.storage tables.sound member fits.sound)
-  plan (InsertFacility facility) fits = one_step _ (facility_put tables.rows facility) (facility_stored club tables.rows tables.storage facility)
+  plan (InsertFacility facility) fits = one_step _ (facility_put tables.rows facility) (facilities_stored club tables.rows tables.storage (λ fs. fs ++ facility ∷ []))
   plan (ReplaceNumbers name places price opens shuts) fits =
       let is = subst (λ fs. find (λ (f : Facility). bytes_eq f.name name) fs ≡ Some fits.carries.0) (sym tables.storage.facilities) fits.carries.1 in
       let roomy = few_in_rows club tables.rows tables.storage name places (few_if_fits club name places price opens shuts fits) in
       one_step _ (facility_renumbered tables.rows facilities_once name places price opens shuts fits.carries.0 is roomy)
-      (numbers_stored club tables.rows tables.storage name places price opens shuts)
+      (facilities_stored club tables.rows tables.storage (map (facility_with_numbers name places price opens shuts)))
   plan (InsertKey key) fits =
       one_step _ (key_put tables.rows key) (key_stored club tables.rows tables.storage tables.sound key fits.carries fits.sound)
   plan (AddCredit name points) fits =
@@ -230,16 +203,16 @@ module _ {S : Type 0} (g : Ghosts S) (old : Held S) (club : Club) (tables : Hold
       (found (λ (m : Member). bytes_eq m.name name) club.members m fits.carries.1).1 next.credited in
       one_step _ (member_credited tables.rows members_once name points (member_row club m) (stored_member name m fits.carries.1)
       (total m.credited points (omega (arith, low))) (let small : nat_le (m.credited + points) 999_999_999 ≡ true = grind (arith, nat_tests) in small))
-      (credit_stored club tables.rows tables.storage name points)
+      (members_stored club tables.rows tables.storage (credited_member name points) (λ m. refl))
   plan (TakeCredit name points) fits =
       let m = fits.carries.0 in
       let enough = enough_if_fits club tables.sound name points m fits.carries.1 fits fits.carries.2 in
       let low = credited_little club tables.sound name points m fits.carries.1 in
       one_step _ (member_debited tables.rows members_once name points (member_row club m) (stored_member name m fits.carries.1) enough (omega (arith, low)))
-      (debit_stored club tables.rows tables.storage name points)
+      (members_stored club tables.rows tables.storage (debited_member name points) (λ m. refl))
   plan (ReplaceQuota name quota) fits =
       one_step _ (member_given tables.rows members_once name quota (member_row club fits.carries.0) (stored_member name fits.carries.0 fits.carries.1))
-      (quota_stored club tables.rows tables.storage name quota)
+      (members_stored club tables.rows tables.storage (member_with_quota name quota) (λ m. refl))
   plan (MarkRevoked name) fits =
       one_step _ (key_revoked tables.rows keys_once name fits.carries.0 (stored_key name fits.carries.0 fits.carries.1))
       (revoke_stored club tables.rows tables.storage name)

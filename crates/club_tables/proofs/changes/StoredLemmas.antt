@@ -1,16 +1,15 @@
 -- Lemmas about the rows that the tables store for the club after each change.
-use Rattle.club_tables.proofs.Common.{◌≡◌, ◌≢◌, ℕ, ◌+◌, Bool, true, false, not, ◌&&◌, ◌||◌, cond, if◌then◌else◌, List, [], ◌∷◌, ◌++◌, map, Option, Some, None}
-use Rattle.club_tables.proofs.Common.{Contains, refl, sym, ap, subst, ◌∙◌, arith, true≢false, rules, filter, find, sum_by, option_and_then, AllPairs}
-use Rattle.club_tables.proofs.Common.{AllByRecursion, list_any, bytes_eq, map-append, list_any-append, bytes_eq-Decides, or-true, or-false, recursion_from_All}
-use Rattle.club_tables.proofs.Common.{Slot, Booking, Facility, Key, OlderRoot, Member, SlotUse, InsertMember, AddCredit, InsertFacility, InsertKey, MarkRevoked}
-use Rattle.club_tables.proofs.Common.{ReplaceRoot, MarkClosed, InsertBooking, after, credited_member, revoked_key, good_until, rotated_key, same_slot}
-use Rattle.club_tables.proofs.Common.{persons_of, Club, IsSound, key_named, is_key_of, is_closed, slot_use, older_root_of, IsOwnedBy, HasRoot, is_in, taken_in}
-use Rattle.club_tables.proofs.Common.{cost_of, MemberRow, Rows, OlderRow, IsStoredAs, older_by, member_row, used_by, persons_taken, map-map, MarkOpen}
-use Rattle.club_tables.proofs.{Common.ReplaceQuota, changes.AddLemmas.{new_row, close_use, open_use, take_use, put_older, older_put, put_once as olders_once}}
-use Rattle.club_tables.proofs.{changes.ChangeLemmas.{credited_row, quota_row, used_row}, lists.KeyedRows.{put_slot, use_put, slot_once, not_same}}
+use Rattle.club_tables.proofs.Common.{◌≡◌, ◌≢◌, ℕ, ◌+◌, Bool, false, not, ◌&&◌, cond, if◌then◌else◌, List, [], ◌∷◌, ◌++◌, map, Option, Some, None, Contains}
+use Rattle.club_tables.proofs.Common.{refl, sym, ap, subst, ◌∙◌, arith, rules, filter, find, sum_by, option_and_then, AllPairs, AllByRecursion, list_any}
+use Rattle.club_tables.proofs.Common.{bytes_eq, map-append, list_any-append, bytes_eq-Decides, or-true, or-false, recursion_from_All, Slot, Booking, Facility}
+use Rattle.club_tables.proofs.Common.{Key, OlderRoot, Member, SlotUse, InsertMember, InsertKey, MarkRevoked, ReplaceRoot, MarkClosed, InsertBooking, after}
+use Rattle.club_tables.proofs.Common.{revoked_key, good_until, rotated_key, same_slot, persons_of, Club, IsSound, key_named, is_key_of, is_closed, slot_use}
+use Rattle.club_tables.proofs.Common.{older_root_of, IsOwnedBy, HasRoot, is_in, taken_in, cost_of, MemberRow, Rows, OlderRow, IsStoredAs, older_by, member_row}
+use Rattle.club_tables.proofs.{Common.{used_by, persons_taken, map-map, MarkOpen}, lists.KeyedRows.{same_itself, put_slot, use_put, slot_once}}
+use Rattle.club_tables.proofs.changes.{AddLemmas.{new_row, close_use, open_use, take_use, put_older, older_put, put_once as olders_once}, ChangeLemmas.used_row}
 use Rattle.club_tables.proofs.{lists.OwnerLemmas.{map_agree, apart_last, not_among, unequal, sum_more, owner_is}, statements.UpdateLemmas.each_of}
-use Rattle.club_tables.proofs.{queries.KeyLemmas.same_slots, statements.{SelectLemmas.{apart_from_pairs, none_pass, filter_same, none_of}, PassLemmas.found}}
-use Rattle.club_core.specs.After.{closed_but, member_with_quota}
+use Rattle.club_tables.proofs.{queries.KeyLemmas.same_slots, statements.SelectLemmas.{apart_from_pairs, none_pass, filter_same, none_of, found}}
+use Rattle.club_core.specs.After.{closed_but}
 
 -- Lemmas about the rows of members.
 
@@ -37,23 +36,21 @@ member_stored club rows stored sound member fits =
     ++ record { member = member; used = n } ∷ []) (sym none) ∙ sym (map-append (member_row club) club.members (member ∷ [])) in
     search rules
 
-pub credit_stored : (club : Club) (rows : Rows) → IsStoredAs club rows → (name : List ℕ) (points : ℕ)
-    → IsStoredAs (after (AddCredit name points) club) (record rows { members = map (credited_row name points) rows.members })
-credit_stored club rows stored name points =
-    let members = ap (map (credited_row name points)) stored.members ∙ map-map (credited_row name points) (member_row club) club.members
-    ∙ sym (map-map (member_row (after (AddCredit name points) club)) (credited_member name points) club.members) in
+pub members_stored : (club : Club) (rows : Rows) → IsStoredAs club rows → (change : Member → Member) → ((m : Member) → (change m).name ≡ m.name)
+    → IsStoredAs (record club { members = map change club.members })
+    (record rows { members = map (λ (row : MemberRow). record row { member = change row.member }) rows.members })
+members_stored club rows stored change kept =
+    let next : Club = record club { members = map change club.members } in
+    let edit : MemberRow → MemberRow = λ row. record row { member = change row.member } in
+    let members = ap (map edit) stored.members ∙ map-map edit (member_row club) club.members
+    ∙ map_agree _ (λ m. member_row next (change m)) (λ m.
+    ap (λ n. let row : MemberRow = record { member = change m; used = used_by club n } in row) (sym (kept m))) club.members
+    ∙ sym (map-map (member_row next) change club.members) in
     search rules
 
-pub quota_stored : (club : Club) (rows : Rows) → IsStoredAs club rows → (name : List ℕ) (quota : ℕ)
-    → IsStoredAs (after (ReplaceQuota name quota) club) (record rows { members = map (quota_row name quota) rows.members })
-quota_stored club rows stored name quota =
-    let members = ap (map (quota_row name quota)) stored.members ∙ map-map (quota_row name quota) (member_row club) club.members
-    ∙ sym (map-map (member_row (after (ReplaceQuota name quota) club)) (member_with_quota name quota) club.members) in
-    search rules
-
-pub facility_stored : (club : Club) (rows : Rows) → IsStoredAs club rows → (facility : Facility)
-    → IsStoredAs (after (InsertFacility facility) club) (record rows { facilities = rows.facilities ++ facility ∷ [] })
-facility_stored club rows stored facility = let facilities = ap (λ fs. fs ++ facility ∷ []) stored.facilities in search rules
+pub facilities_stored : (club : Club) (rows : Rows) → IsStoredAs club rows → (change : List Facility → List Facility)
+    → IsStoredAs (record club { facilities = change club.facilities }) (record rows { facilities = change rows.facilities })
+facilities_stored club rows stored change = let facilities = ap change stored.facilities in search rules
 
 keys_stored : (club : Club) (rows : Rows) → IsStoredAs club rows → (change : List Key → List Key) (olders : List OlderRow)
     → ((name : List ℕ) → AllByRecursion (λ (b : Booking).
@@ -126,72 +123,42 @@ rotate_stored club rows stored name root was until has =
     (owned_still club (rotated_key name root until) (λ k. refl) (λ k. refl)) (λ n.
     older_put name (good_until until was) n rows.olders
     ∙ ap (λ o. let returned : Option OlderRoot = if bytes_eq name n then Some (good_until until was) else o in
-    returned) (stored.olders n) ∙ by_name n (bytes_eq name n) refl ∙ sym (older_mapped (rotated_key name root until) (λ k. refl) n club.keys))
+    returned) (stored.olders n) ∙ by_name n ∙ sym (older_mapped (rotated_key name root until) (λ k. refl) n club.keys))
     (olders_once name (good_until until was) rows.olders stored.olders_once)
   where
-    other_name : (n : List ℕ) → bytes_eq name n ≡ false → (o : Option Key) → key_named n club ≡ o
-        → option_and_then (λ (k : Key). k.older) o ≡ option_and_then (λ (k : Key). (rotated_key name root until k).older) o
-    other_name n other None is = refl
-    other_name n other (Some k) is =
-        let named = (bytes_eq-Decides k.name n).0 (found (λ (j : Key). bytes_eq j.name n) club.keys k is).1 in
-        rw (unequal k.name name (λ e. true≢false (sym ((bytes_eq-Decides name n).1 (sym e ∙ named)) ∙ other))) refl
-
-    by_name : (n : List ℕ) (b : Bool) → bytes_eq name n ≡ b → (if b then Some (good_until until was) else older_root_of n club)
+    by_name : (n : List ℕ) → (if bytes_eq name n then Some (good_until until was) else older_root_of n club)
         ≡ option_and_then (λ (k : Key). (rotated_key name root until k).older) (key_named n club)
-    by_name n true same =
-        subst (λ m. Some (good_until until was) ≡ option_and_then (λ (k : Key). (rotated_key name root until k).older) (key_named m club))
-        ((bytes_eq-Decides name n).0 same) (rw (has.1, (found (λ (k : Key). bytes_eq k.name name) club.keys has.0 has.1).1, has.2) refl)
-    by_name n false other = other_name n other (key_named n club) refl
+    by_name n =
+        let named = found (λ (k : Key). bytes_eq k.name n) club.keys in
+        grind (arith, bytes_eq-Decides, has.1, has.2)
 
 -- Lemmas about the rows of slots.
 
-closed_use : (club : Club) (s : Slot) (b : Bool) → (if b then close_use (slot_use club s) else slot_use club s)
-    ≡ record { taken = taken_in s club.bookings; closed = is_closed s club || (b || false) }
-closed_use club s b = grind (arith, or-true, or-false)
+pub slots_stored : (club : Club) (rows : Rows) → IsStoredAs club rows → (slot : Slot) (change : SlotUse → SlotUse) (closed : List Slot)
+    → ((s : Slot) → (if same_slot slot s then change (slot_use club s) else slot_use club s)
+    ≡ record { taken = taken_in s club.bookings; closed = list_any (λ other. same_slot other s) closed })
+    → IsStoredAs (record club { closed = closed }) (record rows { slots = put_slot slot change rows.slots })
+slots_stored club rows stored slot change closed uses =
+    let slots = λ (s : Slot). use_put slot change s rows.slots
+    ∙ ap (λ u. let v : SlotUse = if same_slot slot s then change u else u in v) (stored.slots s) ∙ uses s in
+    let once = slot_once slot change rows.slots stored.once in
+    search rules
 
 pub close_stored : (club : Club) (rows : Rows) → IsStoredAs club rows → (slot : Slot)
     → IsStoredAs (after (MarkClosed slot) club) (record rows { slots = put_slot slot close_use rows.slots })
 close_stored club rows stored slot =
-    let slots = λ (s : Slot). use_put slot close_use s rows.slots
-    ∙ ap (λ u. let v : SlotUse = if same_slot slot s then close_use u else u in v) (stored.slots s) ∙ closed_use club s (same_slot slot s)
-    ∙ ap (λ c. let u : SlotUse = record { taken = taken_in s club.bookings; closed = c } in u)
-    (sym (list_any-append (λ other. same_slot other s) club.closed (slot ∷ []))) in
-    let once = slot_once slot close_use rows.slots stored.once in
-    search rules
-
-none_left : {X : Type 0} (p : X → Bool) (xs : List X) → list_any p (filter (λ x. not (p x)) xs) ≡ false
-none_left p [] = refl
-none_left p (x ∷ xs) = grind (arith, none_left p xs)
-
-any_left : {X : Type 0} (p q : X → Bool) → ((x : X) → p x ≡ true → q x ≡ true) → (xs : List X) → list_any p (filter q xs) ≡ list_any p xs
-any_left p q wide [] = refl
-any_left p q wide (x ∷ xs) = grind (arith, wide x, any_left p q wide xs)
+    slots_stored club rows stored slot close_use (club.closed ++ slot ∷ []) (λ s. grind (arith, list_any-append, or-true, or-false))
 
 still_closed : (slot s : Slot) (closed : List Slot) → list_any (λ other. same_slot other s) (closed_but slot closed)
     ≡ (if same_slot slot s then false else list_any (λ other. same_slot other s) closed)
-still_closed slot s closed = by (same_slot slot s) refl
-  where
-    by : (b : Bool) → same_slot slot s ≡ b → list_any (λ other. same_slot other s) (closed_but slot closed)
-        ≡ (if b then false else list_any (λ other. same_slot other s) closed)
-    by true same =
-        subst (λ (t : Slot). list_any (λ other. same_slot other t) (closed_but slot closed) ≡ false) (same_slots slot s same)
-        (none_left (λ other. same_slot other slot) closed)
-    by false apart =
-        any_left (λ other. same_slot other s) (λ other. not (same_slot other slot)) (λ other is. ap not (not_same other slot (λ e.
-        true≢false (sym is ∙ ap (λ (t : Slot). same_slot t s) e ∙ apart)))) closed
-
-opened_use : (club : Club) (s : Slot) (b : Bool) → (if b then open_use (slot_use club s) else slot_use club s)
-    ≡ record { taken = taken_in s club.bookings; closed = if b then false else is_closed s club }
-opened_use club s b = grind arith
+still_closed slot s [] = grind arith
+still_closed slot s (other ∷ closed) =
+    grind (arith, same_slots slot s, same_slots other s, same_slots other slot, same_itself slot, same_itself s, still_closed slot s closed)
 
 pub open_stored : (club : Club) (rows : Rows) → IsStoredAs club rows → (slot : Slot)
     → IsStoredAs (after (MarkOpen slot) club) (record rows { slots = put_slot slot open_use rows.slots })
 open_stored club rows stored slot =
-    let slots = λ (s : Slot). use_put slot open_use s rows.slots
-    ∙ ap (λ u. let v : SlotUse = if same_slot slot s then open_use u else u in v) (stored.slots s) ∙ opened_use club s (same_slot slot s)
-    ∙ ap (λ c. let u : SlotUse = record { taken = taken_in s club.bookings; closed = c } in u) (sym (still_closed slot s club.closed)) in
-    let once = slot_once slot open_use rows.slots stored.once in
-    search rules
+    slots_stored club rows stored slot open_use (closed_but slot club.closed) (λ s. grind (arith, still_closed slot s club.closed))
 
 -- Lemmas about the rows of bookings.
 

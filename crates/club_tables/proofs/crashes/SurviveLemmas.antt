@@ -1,7 +1,7 @@
 -- Lemmas about the states that a crash during a transaction may leave.
-use Rattle.club_tables.proofs.Common.{◌≡◌, ℕ, List, refl, arith, inl, Err, IsTrue, true, rules, Ghosts, Trees, Database, State, HasCleanDisk, Survives}
-use Rattle.club_tables.proofs.Common.{IsRolledBack, Shown, FailsToQuery, IsNotRun, IsTooLate, ExecutesInside, Held, state, survives_then, Row, Error}
-use Rattle.club_tables.proofs.Common.{StoreFault, BoundStatement, Ran, IsUntouched, MayCommit, IsAfterReadings, IsOpeningFault}
+use Rattle.club_tables.proofs.Common.{◌≡◌, ℕ, List, refl, arith, Err, IsTrue, true, rules, Ghosts, Trees, Database, State, HasCleanDisk, Survives, IsRolledBack}
+use Rattle.club_tables.proofs.Common.{Shown, FailsToQuery, IsNotRun, IsTooLate, ExecutesInside, Held, state, survives_then, Row, Error, StoreFault}
+use Rattle.club_tables.proofs.Common.{BoundStatement, Ran, IsUntouched, MayCommit, IsAfterReadings, IsOpeningFault}
 use Rattle.sqlite.specs.Steps.{FailsToCommit}
 
 pub was_clean : (old new : State) (P : Trees → Type 0) → Survives old new P → HasCleanDisk new → HasCleanDisk old
@@ -14,14 +14,7 @@ pub kept_when_idle : (s : State) → IsUntouched s s
 kept_when_idle s rest clean is_open = (is_open, rest is_open, refl)
 
 pub survives_itself : (s : State) → Survives s s (λ _. ⊥)
-survives_itself s = record {
-  clean = omega arith;
-  shield = λ h. h;
-  counts = omega arith;
-  limit = refl;
-  closes = λ _ is_open. inl is_open;
-  crash = λ _ db may. inl may;
-}
+survives_itself s = search (rules, arith)
 
 pub untouched_then : (a b c : State) → (HasCleanDisk c → HasCleanDisk b) → IsUntouched a b → IsUntouched b c → IsUntouched a c
 untouched_then a b c earlier first next rest clean is_open = search rules

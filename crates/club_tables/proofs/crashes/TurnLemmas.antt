@@ -1,8 +1,9 @@
--- Lemmas about statements that run one after another in a transaction.
+-- Lemmas about statements that run one after another in a transaction, and about statements that each
+-- write a row.
 use Rattle.club_tables.proofs.Common.{◌≡◌, ℕ, ◌+◌, ◌<◌, ◌≤◌, List, [], ◌∷◌, ◌++◌, length, map, take, get_or, zero, suc, Ok, IsTrue, inl, inr, refl, sym, subst}
 use Rattle.club_tables.proofs.Common.{add-one, arith, length-map, map-append, Ghosts, Trees, Database, HasCleanDisk, Survives, Executes, Held, state, Error}
 use Rattle.club_tables.proofs.Common.{survives_then, survives_begin, StoreFault, BoundStatement, bound_statement, Ran, RanInTurn, transaction_start, fault_by}
-use Rattle.club_tables.proofs.Common.{StopsAt, FailsInTurn}
+use Rattle.club_tables.proofs.Common.{StopsAt, FailsInTurn, rules, Rows, HoldsRows}
 use Rattle.std.proofs.Math.Seq.{take-suc, take_all}
 use Rattle.sqlite.specs.Steps.{FailsToCommit}
 use Rattle.club_tables.specs.declared.transaction.Statement.{Statement}
@@ -68,3 +69,30 @@ module _ {S : Type 0} (g : Ghosts S) (fewest : ℕ) where
       was_open earlier (omega arith) in
       let p : P trees = ((state g mid).now, record { last = mid; was_open = was; turns = turn; is = refl }, is) in p in
       survives_then (state g old) (state g mid) (state g new) _ _ P (λ _ db none. absurd none) made (survives_begin g old (state g mid) _ begun) commit
+
+module _ {S : Type 0} (g : Ghosts S) where
+  abbrev Moves : BoundStatement → Rows → Rows → Type 0
+  Moves statement rows next =
+      (old new : Held S) (count : ℕ) → HoldsRows (state g old).now rows → Executes statement.0 statement.1 (state g old) (state g new) (Ok count)
+      → HoldsRows (state g new).now next × (1 ≤ count)
+
+  abbrev pub GoThrough : List BoundStatement → Rows → Rows → Type 0
+  GoThrough [] rows last = rows ≡ last
+  GoThrough (statement ∷ more) rows last = (next : Rows) × Moves statement rows next × GoThrough more next last
+
+  pub left_by : (all : List BoundStatement) (rows last : Rows) → GoThrough all rows last → (old new : Held S) → HoldsRows (state g old).now rows
+      → RanInTurn g 1 all old new → HoldsRows (state g new).now last
+  left_by [] rows last same old new holds ran = subst (HoldsRows (state g new).now) same (subst (λ h. HoldsRows (state g h).now rows) (sym ran) holds)
+  left_by (statement ∷ more) rows last through old new holds ran =
+      left_by more through.0 last through.2 ran.0 new (through.1 old ran.0 ran.1 holds ran.2).0 ran.3
+
+  pub less_in_turn : (all : List BoundStatement) (old new : Held S) (fault : StoreFault)
+      → (IsTrue (state g old).is_open → (rows : Rows) × (last : Rows) × HoldsRows (state g old).now rows × GoThrough all rows last)
+      → FailsInTurn g 1 all old new fault → FailsInTurn g 0 all old new fault
+  less_in_turn [] old new fault through failed = failed
+  less_in_turn (statement ∷ more) old new fault through (inl (inl refused)) = inl (inl refused)
+  less_in_turn (statement ∷ more) old new fault through (inl (inr short)) = search rules
+  less_in_turn (statement ∷ more) old new fault through (inr ran) =
+      let it = through ran.5 in
+      let next = it.3.1 old ran.0 ran.1 it.2 ran.2 in
+      inr (ran.0, ran.1, ran.2, less_in_turn more ran.0 new fault (λ opened. (it.3.0, it.1, next.0, it.3.2)) ran.3, omega arith, ran.5)

@@ -3,8 +3,10 @@ use Rattle.club_tables.proofs.Common.{◌≡◌, ◌≢◌, Bool, true, false, c
 use Rattle.club_tables.proofs.Common.{true≢false, ℤ, ◌==◌, find, option_map, AllPairs, unwrap_or, option_or, list_any, false_from_ne_true, slots_tree}
 use Rattle.club_tables.proofs.Common.{find-append, list_any_at, bytes_eq, or-false, Value, Int, first_key, Table, conflicts, Slot, SlotUse, same_slot}
 use Rattle.club_tables.proofs.Common.{slots_table, club_schema, name_values, slot_values, SlotRow, no_slot_use, stored_slot_use, arith, bytes_eq-Decides}
-use Rattle.club_tables.proofs.{Common.nat_tests, queries.KeyLemmas.{same_slots, three, find_mapped}, statements.PassLemmas.{any_counts, find_some, found}}
-use Rattle.club_tables.proofs.statements.{SelectLemmas.{Apart, apart_from_pairs, text_equal, whole_equal, pairs_mapped, IsLone}, PutLemmas.put_among}
+use Rattle.club_tables.proofs.Common.{nat_tests, ◌⊎◌, inl, inr, filter, slice_get, Has, has_kept, has_contained, Club, taken_in, row_of, Rows, IsStoredAs}
+use Rattle.club_tables.proofs.{queries.KeyLemmas.{same_slots, three, find_mapped, one_slot}, statements.SelectLemmas.{pairs_mapped, IsLone}}
+use Rattle.club_tables.proofs.statements.SelectLemmas.{find_first, only, any_counts, find_some, found, Apart, apart_from_pairs, text_equal, whole_equal}
+use Rattle.club_tables.proofs.statements.PutLemmas.{put_among}
 use Rattle.std.proofs.lemmas.List.Quantifiers.{all_pairs_push}
 
 pub absent : {X : Type 0} (p : X → Bool) (xs : List X) → list_any p xs ≡ false → find p xs ≡ None
@@ -47,11 +49,7 @@ module _ {X K : Type 0} (key_of : X → K) (same : K → K → Bool) (same_keys 
     module _ {V : Type 0} (shown : Option X → V) (next : V → V) (shows : (x : X) → is_of x ≡ true → shown (Some (changed x)) ≡ next (shown (Some x)))
         (stays : (x : X) → is_of x ≡ false → changed x ≡ x) (makes : shown (Some first) ≡ next (shown None)) where
       unchanged : (name : K) (rows : List X) → same key name ≡ false → (o : Option X) → named name rows ≡ o → shown (option_map changed o) ≡ shown o
-      unchanged name rows other None is = refl
-      unchanged name rows other (Some x) is =
-          let of_name = (found (λ (y : X). same (key_of y) name) rows x is).1 in
-          ap (λ y. shown (Some y)) (stays x (false_from_ne_true (is_of x) (λ h.
-          true≢false (sym (ap (λ k. same k name) (sym (same_keys (key_of x) key h)) ∙ of_name) ∙ other))))
+      unchanged name rows other o is = grind (arith, stays, same_keys, found (λ (y : X). same (key_of y) name) rows)
 
       pub by_put : (name : K) (rows : List X) → shown (named name (put (list_any is_of rows) rows))
           ≡ (if same key name then next (shown (named name rows)) else shown (named name rows))
@@ -115,3 +113,30 @@ module _ (slot : Slot) (change : SlotUse → SlotUse) where
   pub slot_once : (rows : List SlotRow) → AllPairs (λ (a : SlotRow) (b : SlotRow). a.slot ≢ b.slot) rows
       → AllPairs (λ (a : SlotRow) (b : SlotRow). a.slot ≢ b.slot) (put_slot rows)
   slot_once = put_once (λ (row : SlotRow). row.slot) same_slot same_slots same_itself slot changed (λ row. refl) new_row refl
+
+pub the_slot : (slot : Slot) (rows : List SlotRow) (x : SlotRow) → AllPairs (λ (a : SlotRow) (b : SlotRow). a.slot ≢ b.slot) rows → Has rows x → x.slot ≡ slot
+    → row_of slot rows ≡ Some x
+the_slot slot rows x once has same =
+    let is_of : SlotRow → Bool = λ row. same_slot row.slot slot in
+    find_first is_of rows ∙ ap (λ ys. slice_get ys 0) (only (filter is_of rows) x (one_slot slot rows once)
+    (has_kept is_of rows x has (ap (λ s. same_slot s slot) same ∙ same_itself slot)))
+
+module _ (club : Club) (rows : Rows) (stored : IsStoredAs club rows) where
+  taken_by : (slot : Slot) (o : Option SlotRow) → row_of slot rows.slots ≡ o
+      → (unwrap_or (option_map (λ (row : SlotRow). row.held) o) no_slot_use).taken ≡ taken_in slot club.bookings
+  taken_by slot o is =
+      ap (λ p. (unwrap_or (option_map (λ (row : SlotRow). row.held) p) no_slot_use).taken) (sym is) ∙ ap (λ (u : SlotUse). u.taken) (stored.slots slot)
+
+  pub row_taken : (row : SlotRow) → Has rows.slots row → row.held.taken ≡ taken_in row.slot club.bookings
+  row_taken row has = taken_by row.slot (Some row) (the_slot row.slot rows.slots row stored.once has refl)
+
+  pub slot_taken_by : (slot : Slot) → (0 ≡ taken_in slot club.bookings)
+      ⊎ ((row : SlotRow) × Has rows.slots row × (row.slot ≡ slot) × (row.held.taken ≡ taken_in slot club.bookings))
+  slot_taken_by slot = by (row_of slot rows.slots) refl
+    where
+      by : (o : Option SlotRow) → row_of slot rows.slots ≡ o → (0 ≡ taken_in slot club.bookings)
+          ⊎ ((row : SlotRow) × Has rows.slots row × (row.slot ≡ slot) × (row.held.taken ≡ taken_in slot club.bookings))
+      by None is = inl (taken_by slot None is)
+      by (Some row) is =
+          let here = found (λ (r : SlotRow). same_slot r.slot slot) rows.slots row is in
+          inr (row, has_contained rows.slots row here.0, same_slots row.slot slot here.1, taken_by slot (Some row) is)

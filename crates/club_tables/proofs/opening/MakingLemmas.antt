@@ -5,13 +5,58 @@ use Rattle.club_tables.proofs.Common.{Term, lit, col, Values, Insert, Update, Da
 use Rattle.club_tables.proofs.Common.{Table, IsSound, empty_club, Club, ADD_VERSION, SET_VERSION, DROP_BOOKINGS_BY_KEY, no_schema, desk_table, club_schema}
 use Rattle.club_tables.proofs.Common.{unindexed_schema, whole, version_values, table_batch, HasNoDesk, migration, index_batch, Rows, IsStoredAs, HoldsClub}
 use Rattle.club_tables.proofs.Common.{HoldsRows, Holds, HoldsClubVersion1, HoldsRowsVersion1, HoldsTrees, RepresentsVersion1, desk_tree, HoldsClubUnindexed}
-use Rattle.club_tables.proofs.Common.{HoldsRowsWith, Represents, RepresentsVersion2, HoldsClubVersion2, Ran, transaction_start, IsKept, IsUnderstood, select}
+use Rattle.club_tables.proofs.Common.{HoldsRowsWith, Represents, RepresentsVersion2, HoldsClubVersion2, Ran, transaction_start, IsKept, IsUnderstood, select, ℕ}
+use Rattle.club_tables.proofs.Common.{false, true≢false, BoundStatement, Schema, created, members_table, facilities_table, keys_table, slots_table}
+use Rattle.club_tables.proofs.Common.{bookings_table, six_tables, old_roots_table, keys_by_member, first_schema, bookings_by_key, MAKE_DESK, MAKE_MEMBERS}
+use Rattle.club_tables.proofs.Common.{MAKE_FACILITIES, MAKE_KEYS, MAKE_SLOTS, MAKE_BOOKINGS, MAKE_KEYS_BY_MEMBER, MAKE_OLD_ROOTS, MAKE_BOOKINGS_BY_KEY}
 use Rattle.club_tables.proofs.{crashes.RepresentsLemmas.represents_on, statements.SelectLemmas.{answered, shows}, opening.VersionLemmas.desk_made}
-use Rattle.club_tables.proofs.{lists.RowLemmas.{holds_more, holds_none}, statements.UpdateLemmas.{updates, FindsOne, one_changed}}
-use Rattle.club_tables.proofs.opening.MakesLemmas.{makes_six, makes_keys_by_member, makes_old_roots, makes_bookings_by_key, indexes_again, never_ran}
-use Rattle.club_tables.proofs.statements.{InsertLemmas.{creates, indexes, inserts, cast_null, cast_int}, MeansLemmas.{Means, but, others_kept, trees_kept}}
+use Rattle.club_tables.proofs.{lists.RowLemmas.{holds_more, holds_none}, statements.InsertLemmas.{creates, indexes, inserts, cast_null, cast_int}}
+use Rattle.club_tables.proofs.statements.{UpdateLemmas.{updates, FindsOne, one_changed}, MeansLemmas.{Means, but, others_kept, trees_kept, Makes, MakesIndex}}
 use Rattle.club_tables.specs.Tables.{without_olders}
 use Rattle.sqlite_trees.proofs.ListLemmas.{all_both}
+
+abbrev pub MakesEach : Schema → List (List ℕ × Table) → Type 0
+MakesEach schema [] = Unit {0}
+MakesEach schema (one ∷ more) = Makes schema one.0 one.1 × MakesEach (created schema one.1) more
+
+pub makes_six : MakesEach no_schema ((MAKE_DESK.now, desk_table) ∷ (MAKE_MEMBERS.now, members_table) ∷ (MAKE_FACILITIES.now, facilities_table)
+    ∷ (MAKE_KEYS.now, keys_table) ∷ (MAKE_SLOTS.now, slots_table) ∷ (MAKE_BOOKINGS.now, bookings_table) ∷ [])
+unfolding understood everything
+makes_six = assumption
+
+abbrev pub keys_made : Table
+keys_made = record keys_table { tree = 5 }
+
+pub makes_keys_by_member : MakesIndex six_tables MAKE_KEYS_BY_MEMBER.now 3 keys_made keys_by_member
+unfolding understood everything
+makes_keys_by_member = record { plain = (refl, refl); listed = refl; is = refl; whole = refl; defined = refl }
+
+pub makes_old_roots : Makes first_schema MAKE_OLD_ROOTS.now old_roots_table
+unfolding understood everything
+makes_old_roots = record { plain = (refl, refl); is = refl; whole = refl; defined = refl; uncounted = refl }
+
+abbrev pub bookings_made : Table
+bookings_made = record bookings_table { tree = 9 }
+
+pub makes_bookings_by_key : MakesIndex unindexed_schema MAKE_BOOKINGS_BY_KEY.now 5 bookings_made bookings_by_key
+unfolding understood everything
+makes_bookings_by_key = record { plain = (refl, refl); listed = refl; is = refl; whole = refl; defined = refl }
+
+pub never_ran : {S : Type 0} {g : Ghosts S} {old : Held S} {db : Database} {text : List ℕ} {more : List BoundStatement} {schema : Schema}
+    → Ran g 0 ((text, []) ∷ more) old db → (state g old).now.schema ≡ schema → is_ok (understood schema text) ≡ false → ⊥
+unfolding ExecutesIn
+never_ran {text = text} ran has refused = true≢false (sym (ap is_ok ran.turns.2.1.is) ∙ ap (λ s. is_ok (understood s text)) has ∙ refused)
+
+-- The index of the bookings can be created only if it doesn't exist, and can be dropped only if it
+-- exists.
+pub indexes_again : (is_ok (understood club_schema MAKE_BOOKINGS_BY_KEY.now) ≡ false) × (is_ok (understood unindexed_schema DROP_BOOKINGS_BY_KEY.now) ≡ false)
+unfolding understood everything
+indexes_again = (refl, refl)
+
+pub makes_again : (is_ok (understood club_schema MAKE_DESK.now) ≡ false) × (is_ok (understood unindexed_schema MAKE_DESK.now) ≡ false)
+    × (is_ok (understood first_schema MAKE_DESK.now) ≡ false)
+unfolding understood everything
+makes_again = (refl, refl, refl)
 
 abbrev version_terms : List Term
 version_terms = lit Null ∷ lit (Int (pos 2)) ∷ []

@@ -1,9 +1,9 @@
 -- Lemmas about the query for the bookings of a day.
-use Rattle.club_tables.proofs.Common.{◌≢◌, ◌≡◌, ℕ, ◌<◌, ◌⊎◌, inl, inr, pos, false, List, [], ◌∷◌, map, refl, sym, subst, ◌∙◌, arith, Ordering, Less, Equal}
-use Rattle.club_tables.proofs.Common.{Greater, nat_cmp, ◌==◌, not, filter, IsSorted, slice_index_or, on, then_cmp, is_gt, ordering_then, IsTotalOrder}
-use Rattle.club_tables.proofs.Common.{nat_tests, ranked, nat_cmp_total, nat_list_cmp_total, on_total, then_total, and-true, and_comm, everything, Text, Binary}
-use Rattle.club_tables.proofs.Common.{ascending, value_cmp-Int, value_cmp-Text, then-Equal, Row, value_cmp, Ghosts, Term, col, inner, end, key_cmp, understood}
-use Rattle.club_tables.proofs.Common.{Held, state, truth, Booking, DAY, club_schema, whole, booking_values, ShowsDay, bookings_tree, select, in_order, is_given}
+use Rattle.club_tables.proofs.Common.{◌≡◌, ℕ, ◌<◌, ◌⊎◌, inl, inr, pos, false, List, [], ◌∷◌, map, refl, sym, subst, ◌∙◌, arith, Ordering, Less, Equal, Greater}
+use Rattle.club_tables.proofs.Common.{nat_cmp, ◌==◌, not, filter, IsSorted, slice_index_or, on, then_cmp, is_gt, ordering_then, IsTotalOrder, nat_tests, ranked}
+use Rattle.club_tables.proofs.Common.{nat_cmp_total, nat_list_cmp_total, on_total, then_total, and-true, and_comm, everything, Text, Binary, ascending}
+use Rattle.club_tables.proofs.Common.{value_cmp-Int, value_cmp-Text, then-Equal, Row, value_cmp, Ghosts, Term, col, inner, end, key_cmp, understood, Held}
+use Rattle.club_tables.proofs.Common.{state, truth, Booking, DAY, club_schema, whole, booking_values, ShowsDay, bookings_tree, select, in_order, is_given}
 use Rattle.club_tables.proofs.crashes.RepresentsLemmas.{Asks, Shows, asked_tables, asked_reads, bookings_held}
 use Rattle.club_tables.proofs.queries.KeyLemmas.{booking_terms, booking_names, is_uncancelled, no_truth}
 use Rattle.club_tables.proofs.statements.SelectLemmas.{whole_equal, apart_from_pairs, pairs_from_apart, selected_in_order, none_greater, apart-permutation}
@@ -35,11 +35,7 @@ abbrev Differ : Booking → Booking → Type 0
 Differ a b = ¬ ((a.key ≡ b.key) × (a.number ≡ b.number))
 
 precedes : (a b : Booking) → is_gt (sheet_cmp a b) ≡ false → Differ a b → Precedes a b
-precedes a b fails differ =
-    by_parts _ _ (λ h. h) (exact_bytes a.slot.facility b.slot.facility) (λ _.
-    by_parts _ _ (number_less a.slot.hour b.slot.hour) (exact_unsigned a.slot.hour b.slot.hour) (λ _.
-    by_parts _ _ (λ h. h) (exact_bytes a.key b.key) (λ key last.
-    let apart : a.number ≢ b.number = λ number. differ (key, number) in grind (arith, nat_tests)))) fails
+precedes a b fails differ = grind (arith, nat_tests, exact_bytes, exact_unsigned, number_less)
 
 -- The values that determine the order of the day sheet.
 abbrev sheet_key : Booking → Row

@@ -1,12 +1,15 @@
--- Lemmas about the query for the highest number of persons in a slot of a facility.
+-- Lemmas about the query for the highest number of persons in a slot of a facility, and about the
+-- total cost of the bookings in the rows of an answer.
 use Rattle.club_tables.proofs.Common.{◌≡◌, ◌≤◌, ◌+◌, ◌<◌, ℕ, Bool, true, List, [], ◌∷◌, length, get_or, take, map, refl, sym, ap, ◌∙◌, subst, filter, fold, max}
 use Rattle.club_tables.proofs.Common.{sum_by, bytes_eq, and_parts, inl, inr, arith, everything, Text, Row, column, select, is_given, inner, end, col, codes}
 use Rattle.club_tables.proofs.Common.{IsPermutation, All-get_or, Has, has_kept, has_filtered, has_contained, contains_had, club_schema, Ghosts, Held, Club}
 use Rattle.club_tables.proofs.Common.{Booking, Slot, SlotRow, persons_of, is_in, taken_in, is_at, most_taken_in, slot_values, slots_tree, whole, whole_in}
-use Rattle.club_tables.proofs.{Common.{IsStoredAs, Rows, IsTakenRow, IsMostIn, most_in, TAKEN, and-true, understood, take_more}, queries.KeyLemmas.same_slots}
-use Rattle.club_tables.proofs.{crashes.RepresentsLemmas.{Asks, Shows, shown_by}, lists.TakenRows.{row_taken, slot_taken_by}, statements.SelectLemmas.text_equal}
+use Rattle.club_tables.proofs.Common.{IsStoredAs, Rows, IsTakenRow, IsMostIn, most_in, TAKEN, and-true, understood, take_more, ◌-◌, sum_by-cons}
+use Rattle.club_tables.proofs.{Common.{sum_by-IsPermutation, cost_of, AreCosts, cost_values, cost_in, IsCostIn, IsCostRow}, statements.SelectLemmas.text_equal}
+use Rattle.club_tables.proofs.{queries.KeyLemmas.same_slots, crashes.RepresentsLemmas.{Asks, Shows, shown_by}, lists.KeyedRows.{row_taken, slot_taken_by}}
 use Rattle.club_rows.specs.Limits.{places_limit}
 use Rattle.std.proofs.lemmas.List.{Folds.fold-map, Sorted.{Contains-permutation, IsPermutation-sym}, Sums.fold-append}
+use Rattle.sqlite_value.specs.Order.{Row}
 
 module _ {X : Type 0} (f : X → ℕ) where
   abbrev pub greatest : ℕ → List X → ℕ
@@ -107,3 +110,19 @@ pub none_taken : (rows : List Row) (at : ℕ) (row : Row) → at < length rows �
 none_taken rows at row low is n none taken =
     let here = All-get_or IsTakenRow rows at row low taken.0 in
     none here.0 (here.1, ap (λ r. column r 0) is ∙ here.2)
+
+pub cost_in_is : (row : Row) (cost : ℕ) → IsCostIn row cost → cost_in row ≡ cost
+cost_in_is row cost h = let low : h.charge - h.refund ≡ cost = omega arith in rw (h.charge_column, h.refund_column) low
+
+pub costs_are : (bookings : List Booking) (rows : List Row) → IsPermutation (map cost_values bookings) rows → sum_by cost_in rows ≡ sum_by cost_of bookings
+costs_are bookings rows same = sum_by-IsPermutation cost_in _ rows same ∙ through bookings
+  where
+    through : (bs : List Booking) → sum_by cost_in (map cost_values bs) ≡ sum_by cost_of bs
+    through [] = refl
+    through (b ∷ bs) = sum_by-cons cost_in (cost_values b) (map cost_values bs) ∙ ap (λ n. cost_of b + n) (through bs) ∙ sym (sum_by-cons cost_of b bs)
+
+module _ (rows : List Row) (at : ℕ) (row : Row) (low : at < length rows) (is : row ≡ get_or rows at row) (n : ℕ) where
+  pub no_costs : ((cost : ℕ) → ¬ (IsCostIn row cost)) → ¬ (AreCosts rows n)
+  no_costs none costs =
+      let here = All-get_or IsCostRow rows at row low costs.0 in
+      none here.0 (subst (λ r. IsCostIn r here.0) (sym is) here.1)

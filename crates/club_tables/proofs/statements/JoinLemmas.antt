@@ -3,8 +3,7 @@ use Rattle.club_tables.proofs.Common.{◌≡◌, ℕ, ℤ, Bool, true, false, co
 use Rattle.club_tables.proofs.Common.{filter, flat_map, IsPermutation, AllByRecursion, list_all, list_any, length-map, Int, Row, Term, Env, holds, eval_all}
 use Rattle.club_tables.proofs.Common.{inner, end, IsAnswer, output, counted, Select, Database, Reads, Answers, map-map, map-flat_map, flat_map-map}
 use Rattle.club_tables.proofs.Common.{flat_map_same_on, sym, ◌+◌, length-append, is_true, Holds, select, AllZip, Has, has_filtered, has_kept, inl, inr, IsRowOf}
-use Rattle.club_tables.proofs.statements.PassLemmas.{as_many}
-use Rattle.club_tables.proofs.statements.SelectLemmas.{Apart, pick_by_if, plain_answer, picked, none_of, shown_of, row_of, paired as with_rowids}
+use Rattle.club_tables.proofs.statements.SelectLemmas.{as_many, Apart, pick_by_if, plain_answer, picked, none_of, shown_of, row_of, paired as with_rowids}
 
 pub filter_filter : {X : Type 0} (p q : X → Bool) (xs : List X) → filter p (filter q xs) ≡ filter (λ x. q x && p x) xs
 filter_filter p q [] = refl

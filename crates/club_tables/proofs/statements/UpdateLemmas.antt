@@ -6,9 +6,9 @@ use Rattle.club_tables.proofs.Common.{edited, taken_by, works, work_by, pairs, d
 use Rattle.club_tables.proofs.Common.{select, Holds, IsRowOf, is_eq, ordering_reverse, tied_itself, Value, value_cmp_total, rowid, has_rowid, put_row}
 use Rattle.club_tables.proofs.Common.{without_rowid, IsTable, filter-map, filter_all, filter_same, all_weaker, all_from_map, ascending-map, ascending_from_map}
 use Rattle.club_tables.proofs.Common.{all_has, has_filtered, one_permutation, HoldsRows, Rows, option_to_list, Trees}
-use Rattle.club_tables.proofs.statements.InsertLemmas.{Leaves, task_of, went, same_value, wrote_rows, edited_alone}
-use Rattle.club_tables.proofs.statements.{MeansLemmas.{Means, Wrote, WhenRan}, SelectLemmas.{answered, shows, test, row_of, paired, lone_pair, one_listed}}
-use Rattle.club_tables.proofs.statements.PassLemmas.{as_many, find_some, Implies, agree, contains_counts, found, wider_is}
+use Rattle.club_tables.proofs.statements.{InsertLemmas.{Leaves, task_of, went, same_value, wrote_rows, edited_alone}, MeansLemmas.{Means, Wrote, WhenRan}}
+use Rattle.club_tables.proofs.statements.SelectLemmas.{answered, shows, test, row_of, paired, lone_pair, one_listed, as_many, find_some, Implies, agree}
+use Rattle.club_tables.proofs.statements.SelectLemmas.{contains_counts, found, wider_is}
 use Rattle.sqlite_rules.{proofs.RowLemmas.length-numbered, specs.Calls.ids_of}
 use Rattle.sqlite_schema.specs.Rules.{parent_key}
 use Rattle.sqlite.specs.Rows.{Updates as WritesUpdate}
@@ -34,12 +34,7 @@ module _ {X : Type 0} (values : X → Row) (p : X → Bool) (change : X → X) (
 
   none_change : (ps : List (ℤ × X)) → filter passes ps ≡ [] → map (row_of values) ps ≡ map next ps
   none_change [] h = refl
-  none_change (q ∷ ps) h = go (p q.1) refl h (none_change ps)
-    where
-      go : (b : Bool) → p q.1 ≡ b → cond b (q ∷ filter passes ps) (filter passes ps) ≡ [] → (filter passes ps ≡ [] → map (row_of values) ps ≡ map next ps)
-          → map (row_of values) (q ∷ ps) ≡ map next (q ∷ ps)
-      go true is some more = absurd cc
-      go false is none more = ap₂ ◌∷◌ (ap (λ x. Int q.0 ∷ values x) (sym (kept q.1 is))) (more none)
+  none_change (q ∷ ps) h = grind (arith, kept q.1, none_change ps)
 
   put_again : (ps : List (ℤ × X)) (one : ℤ × X) → IsTable (map (row_of values) ps) → filter passes ps ≡ one ∷ []
       → put_row (next one) (without_rowid one.0 (map (row_of values) ps)) ≡ map next ps

@@ -5,4 +5,4 @@ pub returns-clause-opens : goal.returns-clause-opens
 returns-clause-opens g c =
     let old = c.args.self.now in
     runs_batch g.S.Store HoldsClubVersion2 index_batch old c.run.new.self (holds_second g.S.Store old) c.run.result c.run.ensures.commits
-    (inr (inr refl)) (λ is_open trees may. g.met.S.Store.settled c.run.new.self.store trees is_open may)
+    (inr (inr refl)) (g.met.S.Store.settled c.run.new.self.store)

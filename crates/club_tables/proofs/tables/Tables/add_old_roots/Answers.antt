@@ -5,4 +5,4 @@ pub returns-clause-opens : goal.returns-clause-opens
 returns-clause-opens g c =
     let old = c.args.self.now in
     runs_batch g.S.Store HoldsClubVersion1 migration old c.run.new.self (holds_first g.S.Store old) c.run.result c.run.ensures.commits
-    (inr (inl refl)) (λ is_open trees may. g.met.S.Store.settled c.run.new.self.store trees is_open may)
+    (inr (inl refl)) (g.met.S.Store.settled c.run.new.self.store)

@@ -1,6 +1,6 @@
 use Rattle.club_tables.proofs.Common.{rules, ◌≡◌, List, ℕ, Option, Result, Ghosts, Survives, Held, state, Booking, StoreFault, booking_under, OfBooking}
 use Rattle.club_tables.proofs.{Common.{IsFirst, IsBookingNamed, reading_statement, ReadsClub, IsKept, booking_values}, queries.KeyLemmas.booking_shown}
-use Rattle.club_tables.proofs.{lists.BookingRows.{first_held, unnamed, one_booking}, queries.ReadLemmas.{read_answer, fewer_read}}
+use Rattle.club_tables.proofs.{lists.BookingRows.{first_held, unnamed, one_booking}, crashes.RepresentsLemmas.{read_answer, fewer_read}}
 use Rattle.club_tables.specs.Answers.{Answers}
 use Rattle.club_tables.proofs.tables.Tables.booking.Goals as goal
 

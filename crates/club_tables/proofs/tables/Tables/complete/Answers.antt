@@ -1,6 +1,6 @@
 use Rattle.club_tables.proofs.Common.{◌≡◌, All, IsTrue, inl, inr, sym, subst, ◌∙◌, arith, All-push, Ghosts, Database, HasCleanDisk, Held, state, HasOrGetsIndex}
 use Rattle.club_tables.proofs.Common.{EnsuresIndex, Understands, texts_by_key, index_text, HoldsClubVersion2, IsKept, IsUnderstood}
-use Rattle.club_tables.proofs.{crashes.SurviveLemmas.opened_after, opening.StepLemmas.{keeps_after, opens_after, opens_not, kept_then}}
+use Rattle.club_tables.proofs.{crashes.SurviveLemmas.opened_after, opening.OpenLemmas.{keeps_after, opens_after, opens_not, kept_then}}
 use Rattle.club_tables.proofs.tables.Tables.complete.Goals as goal
 
 ensured_after : {S : Type 0} (g : Ghosts S) (old mid new : Held S) → HasCleanDisk (state g mid) → HasCleanDisk (state g new) → IsTrue (state g new).is_open

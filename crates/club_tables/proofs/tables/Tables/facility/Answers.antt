@@ -1,5 +1,5 @@
 use Rattle.club_tables.proofs.{Common.{OfFacility, facility_named, facility_values}, lists.BookingRows.{first_held, one_facility}}
-use Rattle.club_tables.proofs.queries.{KeyLemmas.facility_shown, ReadLemmas.read_answer}
+use Rattle.club_tables.proofs.{queries.KeyLemmas.facility_shown, crashes.RepresentsLemmas.read_answer}
 use Rattle.club_tables.proofs.tables.Tables.facility.Goals as goal
 
 pub returns-clause-reads : goal.returns-clause-reads

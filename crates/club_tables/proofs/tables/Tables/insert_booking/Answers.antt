@@ -1,4 +1,4 @@
-use Rattle.club_tables.proofs.{Common.{◌≡◌, true, arith, InsertBooking}, changes.WriteLemmas.changes}
+use Rattle.club_tables.proofs.{Common.{arith, InsertBooking}, changes.WriteLemmas.changes}
 use Rattle.club_tables.proofs.tables.Tables.insert_booking.Goals as goal
 
 pub returns-clause-commits : goal.returns-clause-commits
@@ -6,7 +6,6 @@ returns-clause-commits g c = λ within. rw (c.of_booking-row.ensures, c.of_place
 
 pub returns-clause-makes : goal.returns-clause-makes
 returns-clause-makes g c =
-    let yes : c.is_booking.result ≡ true = grind arith in
-    let within = c.is_booking.ensures.yes yes in
+    let within = c.is_booking.ensures.yes (grind arith) in
     changes c.suiting_changes_keep_sound.ensures (InsertBooking c.args.booking.now c.args.member.now) within (returns-clause-commits g c within)
-    (λ is_open trees may. g.met.S.Store.settled c.run_booking.new.self.store trees is_open may)
+    (g.met.S.Store.settled c.run_booking.new.self.store)

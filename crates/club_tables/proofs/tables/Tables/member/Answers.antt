@@ -1,5 +1,5 @@
 use Rattle.club_tables.proofs.{Common.{OfMember, option_map, member_named, member_row, member_values}, lists.BookingRows.{first_held, one_member}}
-use Rattle.club_tables.proofs.queries.{KeyLemmas.member_shown, ReadLemmas.read_answer}
+use Rattle.club_tables.proofs.{queries.KeyLemmas.member_shown, crashes.RepresentsLemmas.read_answer}
 use Rattle.club_tables.proofs.tables.Tables.member.Goals as goal
 
 pub returns-clause-reads : goal.returns-clause-reads

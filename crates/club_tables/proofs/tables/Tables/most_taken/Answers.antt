@@ -1,4 +1,4 @@
-use Rattle.club_tables.proofs.{Common.{◌∙◌, OfTaken}, queries.{MostLemmas.taken_shown, ReadLemmas.read_answer}}
+use Rattle.club_tables.proofs.{Common.{◌∙◌, OfTaken}, queries.MostLemmas.taken_shown, crashes.RepresentsLemmas.read_answer}
 use Rattle.club_tables.proofs.tables.Tables.most_taken.Goals as goal
 
 pub returns-clause-reads : goal.returns-clause-reads

@@ -1,5 +1,5 @@
 use Rattle.club_tables.proofs.{Common.{OfOlderRoot, older_root_of, older_root_values}, lists.BookingRows.{first_held, one_older}, queries.KeyLemmas.older_shown}
-use Rattle.club_tables.proofs.queries.ReadLemmas.{read_answer}
+use Rattle.club_tables.proofs.crashes.RepresentsLemmas.{read_answer}
 use Rattle.club_tables.proofs.tables.Tables.older_root.Goals as goal
 
 pub returns-clause-reads : goal.returns-clause-reads

@@ -1,4 +1,4 @@
-use Rattle.club_tables.proofs.{Common.{OfOpen, IsCount, ◌∙◌, rules}, queries.{MemberLemmas.open_shown, ReadLemmas.read_answer}}
+use Rattle.club_tables.proofs.{Common.{OfOpen, IsCount, ◌∙◌, rules}, crashes.RepresentsLemmas.read_answer, queries.MemberLemmas.open_shown}
 use Rattle.club_tables.proofs.tables.Tables.open_count.Goals as goal
 
 pub returns-in-Err-clause-reads : goal.returns-in-Err-clause-reads

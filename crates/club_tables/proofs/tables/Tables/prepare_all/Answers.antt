@@ -1,4 +1,4 @@
-use Rattle.club_tables.proofs.{Common.{arith, HasCleanDisk, state, FailsToPrepare}, opening.StepLemmas.{kept_then, one_at, one_understood, all_understood}}
+use Rattle.club_tables.proofs.{Common.{arith, HasCleanDisk, state, FailsToPrepare}, opening.OpenLemmas.{kept_then, one_at, one_understood, all_understood}}
 use Rattle.club_tables.proofs.crashes.RepresentsLemmas.{survives_none}
 use Rattle.club_tables.proofs.tables.Tables.prepare_all.Goals as goal
 

@@ -1,4 +1,4 @@
-use Rattle.club_tables.proofs.{Common.OfSlot, lists.BookingRows.use_is, queries.{ReadLemmas.read_answer, KeyLemmas.slot_shown}}
+use Rattle.club_tables.proofs.{Common.OfSlot, lists.BookingRows.use_is, crashes.RepresentsLemmas.read_answer, queries.KeyLemmas.slot_shown}
 use Rattle.club_tables.proofs.tables.Tables.slot.Goals as goal
 
 pub returns-clause-reads : goal.returns-clause-reads

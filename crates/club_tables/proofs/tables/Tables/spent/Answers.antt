@@ -1,4 +1,4 @@
-use Rattle.club_tables.proofs.{Common.{◌∙◌, OfCosts}, lists.SumLemmas.costs_are, queries.{ReadLemmas.read_answer, KeyLemmas.costs_shown}}
+use Rattle.club_tables.proofs.{Common.{◌∙◌, OfCosts}, queries.{MostLemmas.costs_are, KeyLemmas.costs_shown}, crashes.RepresentsLemmas.read_answer}
 use Rattle.club_tables.proofs.tables.Tables.spent.Goals as goal
 
 pub returns-clause-reads : goal.returns-clause-reads
