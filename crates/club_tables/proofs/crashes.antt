@@ -2,4 +2,3 @@
 
 pub mod RepresentsLemmas
 pub mod SurviveLemmas
-pub mod TurnLemmas

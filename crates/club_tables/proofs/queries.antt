@@ -2,5 +2,4 @@
 
 pub mod KeyLemmas
 pub mod MemberLemmas
-pub mod DayLemmas
 pub mod MostLemmas

@@ -13,7 +13,7 @@ use Rattle.club_tables.proofs.Common.{slots_tree, olders_tree, list_all, holds, 
 use Rattle.club_tables.proofs.statements.{SelectLemmas.{found, text_equal, whole_equal}, InsertLemmas.{inserts, cast_null, cast_int}}
 use Rattle.club_tables.proofs.lists.KeyedRows.{lone, by_put, put_once as once_put, slots_conflict, slot_table, same_itself, changed, same_row as unchanged}
 use Rattle.club_tables.proofs.{lists.KeyedRows.{put_slot, new_row as new_row_of}, statements.PutLemmas.{PutsRow, first_clause, row_put, row_allowed, put_among}}
-use Rattle.club_tables.proofs.{queries.KeyLemmas.{same_slots, no_truth}, lists.RowLemmas.holds_more}
+use Rattle.club_tables.proofs.{queries.KeyLemmas.{same_slots, no_truth}, lists.BookingRows.holds_more}
 use Rattle.club_tables.proofs.statements.MeansLemmas.{Wrote, Means, on_members, on_facilities, on_keys, on_bookings, Steps, on_slots, on_olders}
 use Rattle.std.proofs.Common.{unwrap_or}
 use Rattle.sqlite.specs.Kind.TheVariants.{Integer}

@@ -1,12 +1,11 @@
 -- Lemmas about the statement that cancels a booking.
-use Rattle.club_tables.proofs.Common.{nat_tests, ◌≡◌, ℕ, ◌≤◌, pos, Some, Bool, true, false, ◌||◌, List, [], ◌∷◌, ◌++◌, map, refl, sym, ap, subst, ◌∙◌, All}
-use Rattle.club_tables.proofs.Common.{arith, ◌+◌, ◌-◌, if◌then◌else◌, Contains, unsigned_Decides, bytes_eq-Decides, and_parts, or-true, or-false, bytes_eq}
-use Rattle.club_tables.proofs.Common.{length-map, get_or-map, everything, Int, Text, Binary, Compare, Eq, binary, is_true, Row, Term, lit, col, holds}
-use Rattle.club_tables.proofs.Common.{understood, truth, Booking, cancelled_booking, is_marked, booking_under, is_in, taken_in, cost_of, Slot, Member}
-use Rattle.club_tables.proofs.Common.{same_slot, persons_of, Club, IsSound, is_key_of, IsBooking, IsOwnedBy, IsToCancel, CANCEL_BOOKING, whole, booking_values}
-use Rattle.club_tables.proofs.{Common.{is_given, Rows, member_row, used_by, MemberRow, all_from}, statements.MeansLemmas.{on_bookings, Steps, WhenRan}}
-use Rattle.club_tables.proofs.changes.{AddLemmas.booking_table, ChangeLemmas.used_row}
-use Rattle.club_tables.proofs.{statements.InsertLemmas.cast_int, queries.KeyLemmas.{AreBookingsOnce, is_numbered, is_uncancelled, one_numbered, same_names}}
+use Rattle.club_tables.proofs.Common.{slice_index_or, nat_tests, ◌≡◌, ℕ, ◌≤◌, pos, Some, Bool, true, false, ◌||◌, List, [], ◌∷◌, ◌++◌, map, refl, sym, ap}
+use Rattle.club_tables.proofs.Common.{subst, ◌∙◌, All, arith, ◌+◌, ◌-◌, if◌then◌else◌, Contains, bytes_eq-Decides, or-true, or-false, bytes_eq, length-map}
+use Rattle.club_tables.proofs.Common.{get_or-map, everything, Int, Row, Term, lit, col, holds, understood, Booking, cancelled_booking, is_marked, booking_under}
+use Rattle.club_tables.proofs.Common.{is_in, taken_in, cost_of, Slot, Member, same_slot, persons_of, Club, IsSound, is_key_of, IsBooking, IsOwnedBy, IsToCancel}
+use Rattle.club_tables.proofs.Common.{CANCEL_BOOKING, whole, booking_values, is_given, Rows, member_row, used_by, MemberRow, all_from}
+use Rattle.club_tables.proofs.{statements.MeansLemmas.{on_bookings, Steps, WhenRan}, changes.{AddLemmas.booking_table, ChangeLemmas.used_row}}
+use Rattle.club_tables.proofs.{statements.InsertLemmas.cast_int, queries.KeyLemmas.{AreBookingsOnce, is_numbered, is_uncancelled, one_numbered, same_numbers}}
 use Rattle.club_tables.proofs.{statements.SelectLemmas.{found, text_equal, whole_equal, test, shows, Apart, apart_from_pairs, IsLone}, lists.BookingRows.truths}
 use Rattle.club_tables.proofs.{statements.UpdateLemmas.{finds_row, one_found, FindsOne, one_changed}, lists.OwnerLemmas.{picked_changed, owner_is}}
 use Rattle.sqlite_rules.proofs.ListLemmas.{test_has}
@@ -18,12 +17,6 @@ cancel_tests =
 
 abbrev cancel_terms : List Term
 cancel_terms = col 1 0 ∷ col 1 0 ∷ col 1 1 ∷ col 1 2 ∷ col 1 3 ∷ col 1 4 ∷ col 1 5 ∷ col 1 6 ∷ col 1 7 ∷ col 1 8 ∷ lit (Int (pos 1)) ∷ col 0 10 ∷ []
-
-text_itself : (a : List ℕ) → is_true (binary (Compare Eq Binary) (Text a) (Text a)) ≡ true
-text_itself a = text_equal a a ∙ (bytes_eq-Decides a a).1 refl
-
-whole_itself : (n : ℕ) → is_true (binary (Compare Eq Binary) (Int (pos n)) (Int (pos n))) ≡ true
-whole_itself n = whole_equal n n ∙ (unsigned_Decides n n).1 refl
 
 -- Cancelling a booking doesn't change a booking with another key or number.
 other_stays : (key : List ℕ) (number refund : ℕ) (booking : Booking) → is_numbered key number booking ≡ false
@@ -48,15 +41,12 @@ module _ (rows : Rows) (once : AreBookingsOnce rows.bookings) (booking : Booking
       let t = all_from (λ test. holds (params ∷ (Int (pos 0) ∷ booking_values b) ∷ []) test ≡ true) cancel_tests (λ test. test_has (holds (params ∷ (Int (pos 0) ∷ booking_values b) ∷ [])) cancel_tests test h) in
       grind (arith, nat_tests, bytes_eq-Decides, text_equal, whole_equal, truths)
 
-  here_itself : is_here booking ≡ true
-  here_itself = rw ((bytes_eq-Decides booking.key booking.key).1 refl, (unsigned_Decides booking.number booking.number).1 refl) refl
-
   cancel_finds : WhenRan (CANCEL_BOOKING.now, params) rows (λ old new count.
       FindsOne booking_values is_as_given is_here rows.bookings (shows params cancel_tests cancel_terms) old new booking_table count)
   unfolding understood everything
   cancel_finds =
       finds_row 5 params cancel_tests cancel_terms (record { is = refl; plain = (refl, refl) }) refl (λ db holds_rows. holds_rows.held.bookings) (λ id b. refl)
-      (λ b passes. subst (λ (x : Booking). is_here x ≡ true) (sym (as_given b passes).0) here_itself)
+      (λ b passes. subst (λ (x : Booking). is_here x ≡ true) (sym (as_given b passes).0) (grind (arith, nat_tests, bytes_eq-Decides)))
       (one_numbered booking.key booking.number rows.bookings once)
 
   -- If the statement that cancels a booking writes a row, the booking was stored and not yet
@@ -73,9 +63,7 @@ module _ (rows : Rows) (once : AreBookingsOnce rows.bookings) (booking : Booking
       → Steps (CANCEL_BOOKING.now, params) rows
       (record rows { bookings = map (cancelled_booking booking.key booking.number refund) rows.bookings })
   booking_cancelled on_record uncancelled old new count holds_rows ran =
-      let none : is_true (binary (Compare Eq Binary) (Int (pos (truth booking.cancelled))) (Int (pos 0))) ≡ true =
-      ap (λ (b : Bool). is_true (binary (Compare Eq Binary) (Int (pos (truth b))) (Int (pos 0)))) uncancelled ∙ whole_itself 0 in
-      one_changed (cancel_finds old new count holds_rows ran) booking on_record (simp (text_itself, whole_itself, none))
+      one_changed (cancel_finds old new count holds_rows ran) booking on_record (grind (arith, nat_tests, bytes_eq-Decides, text_equal, whole_equal))
       (cancelled_booking booking.key booking.number refund) (other_stays booking.key booking.number refund)
       (λ id passes. rw (passes, uncancelled) refl) (λ id b. simp cast_int) (λ wrote held. on_bookings holds_rows wrote held)
 
@@ -98,12 +86,8 @@ module _ (club : Club) (sound : IsSound club) (booking : Booking) (cancels : IsT
 
   alone : Apart (IsLone (is_numbered key number)) club.bookings
   alone = apart_from_pairs _ club.bookings (λ i j d less low both.
-      let mine = and_parts _ _ both.0 in
-      let its = and_parts _ _ both.1 in
-      sound.unique.bookings i j d less low (
-        same_names key _ _ mine.0 its.0,
-        (unsigned_Decides _ number).0 mine.1 ∙ sym ((unsigned_Decides _ number).0 its.1),
-      ))
+      sound.unique.bookings i j d less low
+      (same_numbers key number (slice_index_or club.bookings i d) (slice_index_or club.bookings j d) both.0 both.1))
 
   pub there : Contains club.bookings booking × (is_numbered key number booking ≡ true)
   there = found (is_numbered key number) club.bookings booking cancels.0

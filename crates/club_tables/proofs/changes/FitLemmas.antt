@@ -1,8 +1,8 @@
 -- Proof that a change fits the club if each of its statements wrote a row.
 use Rattle.club_tables.proofs.Common.{None, ◌≡◌, ◌≢◌, ℕ, ◌+◌, ◌≤◌, true, false, ◌&&◌, ◌==◌, List, ◌∷◌, map, Contains, All, refl, sym, ap, subst, ◌∙◌, arith}
-use Rattle.club_tables.proofs.Common.{find, Some, bytes_eq, bytes_eq-Decides, and_parts, nat_le, nat_tests, AllByRecursion, All-from_recursion, all_from_map}
-use Rattle.club_tables.proofs.Common.{Has, map-map, Ghosts, Held, state, Database, HoldsClub, Ran, Club, Member, Facility, Key, Booking, Slot, SlotRow, SlotUse}
-use Rattle.club_tables.proofs.Common.{MemberRow, InLimits, InsertMember, AddCredit, InsertFacility, InsertKey, MarkRevoked, ReplaceRoot, MarkClosed, MarkOpen}
+use Rattle.club_tables.proofs.Common.{find, Some, bytes_eq, bytes_eq-Decides, and_parts, nat_tests, AllByRecursion, All-from_recursion, all_from_map, Has}
+use Rattle.club_tables.proofs.Common.{map-map, Ghosts, Held, state, Database, HoldsClub, Ran, Club, Member, Facility, Key, Booking, SlotUse, MemberRow}
+use Rattle.club_tables.proofs.Common.{InLimits, InsertMember, AddCredit, InsertFacility, InsertKey, MarkRevoked, ReplaceRoot, MarkClosed, MarkOpen}
 use Rattle.club_tables.proofs.Common.{ReplaceQuota, InsertBooking, MarkCancelled, member_row, member_named, facility_named, cost_of, used_by, statements_of}
 use Rattle.club_tables.proofs.Common.{FitsClub, TakeCredit, ReplaceNumbers, all_weaker, Bool, BoundStatement, IsBooking, IsTrueOf, Option, Rows, State}
 use Rattle.club_tables.proofs.Common.{adding_booking, booking_under, good_until, neg_ℤ, option_map, pos, transaction_start, Add, Arith, Binary, Compare, binary}
@@ -10,8 +10,8 @@ use Rattle.club_tables.proofs.{Common.{is_true, whole, cancelled_booking}, chang
 use Rattle.club_tables.proofs.changes.ChangeLemmas.{used_finds, whole_to, StoresKey, StoresMember, credit_finds, debit_finds, name_of, owned_key, quota_finds}
 use Rattle.club_tables.proofs.{changes.{ChangeLemmas.{revoke_finds, root_finds}, NumberLemmas.{few_by_rows, numbers_finds}}, statements.UpdateLemmas.one_found}
 use Rattle.club_tables.proofs.{queries.{MemberLemmas.total, KeyLemmas.find_mapped}, lists.{KeyedRows.{slot_once, the_slot}, OwnerLemmas.all_last}}
-use Rattle.club_tables.proofs.changes.{CancelLemmas.{booking_cancelled, cancel_found}, AddLemmas.{booking_put, older_represents, open_use}}
-use Rattle.club_tables.proofs.changes.AddLemmas.{slot_opened, new_row, close_use, take_use, member_put, facility_put, key_put, slot_closed, slot_was_open}
+use Rattle.club_tables.proofs.changes.{CancelLemmas.{booking_cancelled, cancel_found}, AddLemmas.{open_use, slot_opened, new_row, close_use}}
+use Rattle.club_tables.proofs.changes.AddLemmas.{take_use, member_put, facility_put, key_put, slot_closed, slot_was_open, booking_put, older_represents}
 use Rattle.club_tables.proofs.changes.FoundLemmas.{enough_left, credited_little, spent_little, slot_placed, the_named, facility_there}
 use Rattle.club_tables.proofs.changes.PlanLemmas.{adds, filled_use, members_once, facilities_once, bookings_once, filled, filled_rows, keys_once}
 use Rattle.club_tables.proofs.changes.ObeyLemmas.{members_apart, facilities_apart, keys_apart, key_members, booking_facilities, bookings_apart}
@@ -21,21 +21,6 @@ use Rattle.club_laws.specs.SoundRuns.{Suits, SuitsBooking, SuitingChangesKeepSou
 
 unnamed : {X : Type 0} (name : X → List ℕ) (n : List ℕ) (xs : List X) → AllByRecursion (λ x. bytes_eq n (name x) ≡ false) xs → All (λ x. name x ≢ n) xs
 unnamed name n xs apart = All-from_recursion (λ x. name x ≢ n) xs (all_weaker _ _ (λ x other e. grind (arith, bytes_eq-Decides)) xs apart)
-
-unnumbered : (booking : Booking) (bookings : List Booking)
-    → AllByRecursion (λ (b : Booking). (bytes_eq booking.key b.key && booking.number == b.number) ≡ false) bookings
-    → All (λ (b : Booking). ¬ ((b.key ≡ booking.key) × (b.number ≡ booking.number))) bookings
-unnumbered booking bookings apart =
-    All-from_recursion (λ (b : Booking). ¬ ((b.key ≡ booking.key) × (b.number ≡ booking.number))) bookings (all_weaker _ _ (λ b other same.
-    grind (arith, nat_tests, bytes_eq-Decides)) bookings apart)
-
-at_most : (m n : ℕ) → nat_le m n ≡ true → m ≤ n
-at_most m n h = grind (arith, nat_tests)
-
-room_parts : (row : SlotRow) (facility : Facility) (slot : Slot) → (bytes_eq facility.name slot.facility && (bytes_eq row.slot.facility slot.facility
-    && (row.slot.day == slot.day && (row.slot.hour == slot.hour && nat_le row.held.taken facility.places)))) ≡ true
-    → (facility.name ≡ slot.facility) × (row.slot ≡ slot) × (row.held.taken ≤ facility.places)
-room_parts row facility slot h = grind (arith, nat_tests, bytes_eq-Decides)
 
 module _ {S : Type 0} (g : Ghosts S) (old : Held S) (club : Club) (tables : HoldsClub (state g old).now club) where
   when_ran : {statement : BoundStatement} {more : List BoundStatement} {db : Database} {P : State → State → ℕ → Type 0}
@@ -88,19 +73,22 @@ module _ {S : Type 0} (g : Ghosts S) (old : Held S) (club : Club) (tables : Hold
       let low = credited_little club tables.sound member 0 m.0 m.1 in
       let few = spent_little club tables.sound member 0 m.0 m.1 in
       let paid = rw (total (used_by club m.0.name) (cost_of booking) (omega (arith, low, few, within.charge)), whole_to used m.0.credited) at m.2 in
-      let room = room_parts it.at it.facility booking.slot it.room in
+      let room : (it.facility.name ≡ booking.slot.facility) × (it.at.slot ≡ booking.slot) × (it.at.held.taken ≤ it.facility.places) =
+      grind (arith, nat_tests, bytes_eq-Decides, it.room) in
       let once = slot_once booking.slot (take_use (adds g old club tables booking)) tables.rows.slots tables.storage.once in
       let taken = filled_use g old club tables booking it.at (the_slot booking.slot _ it.at once it.among room.1) in
       let there = subst (λ (fs : List Facility). Has fs it.facility) tables.storage.facilities it.located in
       record {
         row = within;
-        free = unnumbered booking club.bookings (subst (λ bs. AllByRecursion (λ (b : Booking). (bytes_eq booking.key b.key && booking.number == b.number)
-            ≡ false) bs) tables.storage.bookings by.free);
+        free = All-from_recursion (λ (b : Booking). ¬ ((b.key ≡ booking.key) × (b.number ≡ booking.number))) club.bookings
+            (all_weaker _ _ (λ b other same. grind (arith, nat_tests, bytes_eq-Decides)) club.bookings
+            (subst (λ bs. AllByRecursion (λ (b : Booking). (bytes_eq booking.key b.key && booking.number == b.number) ≡ false) bs)
+            tables.storage.bookings by.free));
         key = it.owner;
         known = subst (λ ks. find (λ (k : Key). bytes_eq k.name booking.key) ks ≡ Some it.owner) tables.storage.keys it.known;
         payer = m.0;
         owned = subst (λ n. member_named n club ≡ Some m.0) (sym it.own) m.1;
-        paid = at_most used m.0.credited paid;
+        paid = grind (arith, nat_tests, paid);
         facility = it.facility;
         located = subst (λ n. facility_named n club ≡ Some it.facility) room.0
             (the_named (λ (f : Facility). f.name) club.facilities it.facility tables.sound.unique.facilities there);
@@ -125,7 +113,7 @@ module _ {S : Type 0} (g : Ghosts S) (old : Held S) (club : Club) (tables : Hold
       let sum : is_true (binary (Compare Le Binary) (binary (Arith Add) (whole m.0.credited) (whole points)) (whole 999_999_999)) ≡ true =
       (and_parts _ _ (and_parts _ _ m.2).1).0 in
       let low = rw (total m.0.credited points (omega (arith, few, within)), whole_to (m.0.credited + points) 999_999_999) at sum in
-      ((m.0, m.1), (m.0, m.1, at_most (m.0.credited + points) 999_999_999 low))
+      ((m.0, m.1), (m.0, m.1, grind (arith, nat_tests, low)))
   fits db (TakeCredit name points) within ran =
       let m = member_of _ name (one_found (when_ran (debit_finds tables.rows (members_once g old club tables) name points) ran) ran.turns.4) in
       let left = enough_left club tables.sound name points m.0 m.1 within (and_parts _ _ (and_parts _ _ m.2).1).0 in

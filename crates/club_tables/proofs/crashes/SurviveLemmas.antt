@@ -1,8 +1,13 @@
--- Lemmas about the states that a crash during a transaction may leave.
+-- Lemmas about the states that a crash during a transaction may leave, and about statements that run
+-- one after another in a transaction.
 use Rattle.club_tables.proofs.Common.{◌≡◌, ℕ, List, refl, arith, Err, IsTrue, true, rules, Ghosts, Trees, Database, State, HasCleanDisk, Survives, IsRolledBack}
 use Rattle.club_tables.proofs.Common.{Shown, FailsToQuery, IsNotRun, IsTooLate, ExecutesInside, Held, state, survives_then, Row, Error, StoreFault}
-use Rattle.club_tables.proofs.Common.{BoundStatement, Ran, IsUntouched, MayCommit, IsAfterReadings, IsOpeningFault}
+use Rattle.club_tables.proofs.Common.{BoundStatement, Ran, IsUntouched, MayCommit, IsAfterReadings, IsOpeningFault, ◌+◌, ◌<◌, ◌≤◌, [], ◌∷◌, ◌++◌, length, map}
+use Rattle.club_tables.proofs.Common.{take, get_or, zero, suc, Ok, inl, inr, sym, subst, add-one, length-map, map-append, Executes, survives_begin}
+use Rattle.club_tables.proofs.Common.{bound_statement, RanInTurn, transaction_start, fault_by, StopsAt, FailsInTurn, Rows, HoldsRows}
 use Rattle.sqlite.specs.Steps.{FailsToCommit}
+use Rattle.std.proofs.Math.Seq.{take-suc, take_all}
+use Rattle.club_tables.specs.declared.transaction.Statement.{Statement}
 
 pub was_clean : (old new : State) (P : Trees → Type 0) → Survives old new P → HasCleanDisk new → HasCleanDisk old
 was_clean old new P survives clean = omega (arith, survives.clean)
@@ -88,3 +93,92 @@ then_rolled old mid new kept back is_open = search rules
 pub commit_keeps : (old mid new : State) (e : Error) → Keeps old mid → IsTrue mid.in_transaction → FailsToCommit mid new e → IsTrue new.is_open
     → IsTrue old.is_open × (new.now ≡ old.committed) × (new.committed ≡ old.committed)
 commit_keeps old mid new e kept inside h is_open = grind arith
+
+module _ {S : Type 0} (g : Ghosts S) (fewest : ℕ) where
+  pub turn_more : (all : List BoundStatement) (statement : BoundStatement) (a b c : Held S) (count : ℕ) → RanInTurn g fewest all a b
+      → Executes statement.0 statement.1 (state g b) (state g c) (Ok count) → fewest ≤ count → IsTrue (state g b).is_open
+      → RanInTurn g fewest (all ++ statement ∷ []) a c
+  turn_more [] statement a b c count before one enough opened = (
+    c,
+    count,
+    subst (λ h. Executes statement.0 statement.1 (state g h) (state g c) (Ok count)) before one,
+    refl,
+    enough,
+    subst (λ h. IsTrue (state g h).is_open) before opened,
+  )
+  turn_more (first ∷ all) statement a b c count before one enough opened =
+      (before.0, before.1, before.2, turn_more all statement before.0 b c count before.3 one enough opened, before.4, before.5)
+
+  pub turn_at : (statements : List Statement) (at : ℕ) (d : Statement) (a b c : Held S) (count : ℕ) → at < length statements
+      → RanInTurn g fewest (map bound_statement (take at statements)) a b
+      → Executes (bound_statement (get_or statements at d)).0 (bound_statement (get_or statements at d)).1 (state g b) (state g c) (Ok count)
+      → fewest ≤ count → IsTrue (state g b).is_open → RanInTurn g fewest (map bound_statement (take (at + 1) statements)) a c
+  turn_at statements at d a b c count within before one enough opened =
+      let front = map bound_statement (take at statements) in
+      let more : map bound_statement (take (at + 1) statements) ≡ front ++ bound_statement (get_or statements at d) ∷ [] =
+      rw (add-one, take-suc statements at d within, map-append bound_statement (take at statements) (get_or statements at d ∷ [])) in
+      subst (λ all. RanInTurn g fewest all a c) (sym more) (turn_more front (bound_statement (get_or statements at d)) a b c count before one enough opened)
+
+  pub turn_all : (statements : List Statement) (at : ℕ) (a b : Held S) → length statements ≤ at
+      → RanInTurn g fewest (map bound_statement (take at statements)) a b → RanInTurn g fewest (map bound_statement statements) a b
+  turn_all statements at a b past before = subst (λ all. RanInTurn g fewest (map bound_statement all) a b) (take_all at statements past) before
+
+  pub fails_at : (statements : List Statement) (at : ℕ) (d : Statement) (a b c : Held S) (fault : StoreFault) → at < length statements
+      → RanInTurn g fewest (map bound_statement (take at statements)) a b → StopsAt g fewest (bound_statement (get_or statements at d)) b c fault
+      → FailsInTurn g fewest (map bound_statement statements) a c fault
+  fails_at [] at d a b c fault within before one = absurd (omega arith)
+  fails_at (s ∷ statements) zero d a b c fault within before one = inl (subst (λ h. StopsAt g fewest (bound_statement s) h c fault) before one)
+  fails_at (s ∷ statements) (suc at) d a b c fault within before one =
+      inr (before.0, before.1, before.2, fails_at statements at d before.0 b c fault (omega arith) before.3 one, before.4, before.5)
+
+  pub fails_last : (all : List BoundStatement) (a b c : Held S) (error : Error) (fault : StoreFault) → RanInTurn g fewest all a b
+      → FailsToCommit (state g b) (state g c) error → fault ≡ fault_by error → FailsInTurn g fewest all a c fault
+  fails_last [] a b c error fault before last is = (error, subst (λ h. FailsToCommit (state g h) (state g c) error) before last, is)
+  fails_last (statement ∷ all) a b c error fault before last is =
+      inr (before.0, before.1, before.2, fails_last all before.0 b c error fault before.3 last is, before.4, before.5)
+
+  -- Whether or not the commit succeeds, a crash leaves the effects of all statements, or a state
+  -- that a crash before the transaction could leave.
+  pub commit_survives : (statements : List Statement) (at : ℕ) (old mid new : Held S) → length statements ≤ at
+      → Survives (state g (transaction_start old)) (state g mid) (λ _. ⊥)
+      → (HasCleanDisk (state g mid) → RanInTurn g fewest (map bound_statement (take at statements)) (transaction_start old) mid)
+      → (HasCleanDisk (state g mid) → 0 < at → IsTrue (state g old).is_open)
+      → Survives (state g mid) (state g new) (λ trees. trees ≡ (state g mid).now.trees)
+      → Survives (state g old) (state g new) (λ trees. (db : Database) × Ran g fewest (map bound_statement statements) old db × (trees ≡ db.trees))
+  commit_survives statements at old mid new past begun ran was_open commit =
+      let all = map bound_statement statements in
+      let P = λ (trees : Trees). (db : Database) × Ran g fewest all old db × (trees ≡ db.trees) in
+      let made = λ (clean : HasCleanDisk (state g new)) (trees : Trees) (is : trees ≡ (state g mid).now.trees).
+      let earlier : HasCleanDisk (state g mid) = omega (arith, commit.clean) in
+      let turn : RanInTurn g fewest all (transaction_start old) mid = turn_all statements at (transaction_start old) mid past (ran earlier) in
+      let was = λ (some : 0 < length all). let more : 0 < length statements = subst (λ n. 0 < n) (length-map statements bound_statement) some in
+      was_open earlier (omega arith) in
+      let p : P trees = ((state g mid).now, record { last = mid; was_open = was; turns = turn; is = refl }, is) in p in
+      survives_then (state g old) (state g mid) (state g new) _ _ P (λ _ db none. absurd none) made (survives_begin g old (state g mid) _ begun) commit
+
+module _ {S : Type 0} (g : Ghosts S) where
+  abbrev Moves : BoundStatement → Rows → Rows → Type 0
+  Moves statement rows next =
+      (old new : Held S) (count : ℕ) → HoldsRows (state g old).now rows → Executes statement.0 statement.1 (state g old) (state g new) (Ok count)
+      → HoldsRows (state g new).now next × (1 ≤ count)
+
+  abbrev pub GoThrough : List BoundStatement → Rows → Rows → Type 0
+  GoThrough [] rows last = rows ≡ last
+  GoThrough (statement ∷ more) rows last = (next : Rows) × Moves statement rows next × GoThrough more next last
+
+  pub left_by : (all : List BoundStatement) (rows last : Rows) → GoThrough all rows last → (old new : Held S) → HoldsRows (state g old).now rows
+      → RanInTurn g 1 all old new → HoldsRows (state g new).now last
+  left_by [] rows last same old new holds ran = subst (HoldsRows (state g new).now) same (subst (λ h. HoldsRows (state g h).now rows) (sym ran) holds)
+  left_by (statement ∷ more) rows last through old new holds ran =
+      left_by more through.0 last through.2 ran.0 new (through.1 old ran.0 ran.1 holds ran.2).0 ran.3
+
+  pub less_in_turn : (all : List BoundStatement) (old new : Held S) (fault : StoreFault)
+      → (IsTrue (state g old).is_open → (rows : Rows) × (last : Rows) × HoldsRows (state g old).now rows × GoThrough all rows last)
+      → FailsInTurn g 1 all old new fault → FailsInTurn g 0 all old new fault
+  less_in_turn [] old new fault through failed = failed
+  less_in_turn (statement ∷ more) old new fault through (inl (inl refused)) = inl (inl refused)
+  less_in_turn (statement ∷ more) old new fault through (inl (inr short)) = search rules
+  less_in_turn (statement ∷ more) old new fault through (inr ran) =
+      let it = through ran.5 in
+      let next = it.3.1 old ran.0 ran.1 it.2 ran.2 in
+      inr (ran.0, ran.1, ran.2, less_in_turn more ran.0 new fault (λ opened. (it.3.0, it.1, next.0, it.3.2)) ran.3, omega arith, ran.5)

@@ -1,20 +1,16 @@
 -- Lemmas about lists with at most one row for each primary key, such as the rows of slots.
 use Rattle.club_tables.proofs.Common.{◌≡◌, ◌≢◌, Bool, true, false, cond, if◌then◌else◌, Option, Some, None, List, [], ◌∷◌, ◌++◌, map, refl, sym, ap, subst, ◌∙◌}
-use Rattle.club_tables.proofs.Common.{true≢false, ℤ, ◌==◌, find, option_map, AllPairs, unwrap_or, option_or, list_any, false_from_ne_true, slots_tree}
-use Rattle.club_tables.proofs.Common.{find-append, list_any_at, bytes_eq, or-false, Value, Int, first_key, Table, conflicts, Slot, SlotUse, same_slot}
-use Rattle.club_tables.proofs.Common.{slots_table, club_schema, name_values, slot_values, SlotRow, no_slot_use, stored_slot_use, arith, bytes_eq-Decides}
-use Rattle.club_tables.proofs.Common.{nat_tests, ◌⊎◌, inl, inr, filter, slice_get, Has, has_kept, has_contained, Club, taken_in, row_of, Rows, IsStoredAs}
-use Rattle.club_tables.proofs.{queries.KeyLemmas.{same_slots, three, find_mapped, one_slot}, statements.SelectLemmas.{pairs_mapped, IsLone}}
-use Rattle.club_tables.proofs.statements.SelectLemmas.{find_first, only, any_counts, find_some, found, Apart, apart_from_pairs, text_equal, whole_equal}
-use Rattle.club_tables.proofs.statements.PutLemmas.{put_among}
+use Rattle.club_tables.proofs.Common.{true≢false, ℤ, find, option_map, AllPairs, unwrap_or, option_or, list_any, false_from_ne_true, slots_tree, find-append}
+use Rattle.club_tables.proofs.Common.{list_any_at, Value, Int, first_key, Table, conflicts, Slot, SlotUse, same_slot, slots_table, club_schema, name_values}
+use Rattle.club_tables.proofs.Common.{slot_values, SlotRow, no_slot_use, stored_slot_use, arith, bytes_eq-Decides, nat_tests, ◌⊎◌, inl, inr, filter, slice_get}
+use Rattle.club_tables.proofs.{Common.{Has, has_kept, has_contained, Club, taken_in, row_of, Rows, IsStoredAs}, statements.SelectLemmas.{found, Apart}}
+use Rattle.club_tables.proofs.statements.SelectLemmas.{apart_from_pairs, text_equal, whole_equal, pairs_mapped, IsLone, find_first, only, any_counts, find_some}
+use Rattle.club_tables.proofs.{statements.PutLemmas.put_among, queries.KeyLemmas.{same_slots, find_mapped, one_slot}}
 use Rattle.std.proofs.lemmas.List.Quantifiers.{all_pairs_push}
 
 pub absent : {X : Type 0} (p : X → Bool) (xs : List X) → list_any p xs ≡ false → find p xs ≡ None
 absent p [] none = refl
 absent p (x ∷ xs) none = grind (arith, absent p xs)
-
-or_none : {X : Type 0} (o : Option X) → option_or o None ≡ o
-or_none o = grind arith
 
 module _ {X K : Type 0} (key_of : X → K) (same : K → K → Bool) (same_keys : (a b : K) → same a b ≡ true → a ≡ b) (itself : (a : K) → same a a ≡ true)
     (key : K) where
@@ -67,11 +63,9 @@ module _ {X K : Type 0} (key_of : X → K) (same : K → K → Bool) (same_keys 
               ap shown (found_changed name rows) ∙ subst (λ o. shown (option_map changed o) ≡ next (shown o)) (sym one.1 ∙ ap (λ p. find p rows) mine)
               (shows one.0 (found is_of rows one.0 one.1).1)
           go true any false other = ap shown (found_changed name rows) ∙ unchanged name rows other (named name rows) refl
-          go false none true is =
-              let empty = ap (λ k. named k rows) (sym (same_keys key name is)) ∙ absent is_of rows none in
-              ap shown (pushed ∙ ap (λ o. option_or o (cond (same key name) (Some first) None)) empty ∙ ap (λ b. cond b (Some first) None) is)
-              ∙ makes ∙ ap (λ o. next (shown o)) (sym empty)
-          go false none false other = ap shown (pushed ∙ ap (λ b. option_or (named name rows) (cond b (Some first) None)) other ∙ or_none (named name rows))
+          go false none b is =
+              let empty = λ (mine : same key name ≡ true). ap (λ k. named k rows) (sym (same_keys key name mine)) ∙ absent is_of rows none in
+              grind (arith, pushed, makes, empty)
 
 abbrev pub slot_table : Table
 slot_table = record slots_table { tree = slots_tree }
@@ -79,9 +73,7 @@ slot_table = record slots_table { tree = slots_tree }
 pub slots_conflict : (id id' : ℤ) (a : SlotRow) (b : Slot) (v w : Value) → conflicts (Some (1 ∷ 2 ∷ 3 ∷ [])) club_schema.indexes slot_table (Int id'
     ∷ name_values b ++ v ∷ w ∷ []) (Int id ∷ slot_values a) ≡ same_slot a.slot b
 unfolding first_key
-slots_conflict id id' a b v w =
-    rw (text_equal a.slot.facility b.facility, whole_equal a.slot.day b.day, whole_equal a.slot.hour b.hour)
-    (or-false _ ∙ three (bytes_eq a.slot.facility b.facility) (a.slot.day == b.day) (a.slot.hour == b.hour))
+slots_conflict id id' a b v w = grind (arith, text_equal, whole_equal)
 
 pub same_itself : (slot : Slot) → same_slot slot slot ≡ true
 same_itself slot = grind (arith, nat_tests, bytes_eq-Decides)

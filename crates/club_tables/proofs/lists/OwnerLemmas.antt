@@ -37,16 +37,10 @@ module _ {X : Type 0} (p : X → Bool) (f : X → X) (kept : (x : X) → p x ≡
 
   sum_changed : (c : X → ℕ) (xs : List X) (x : X) → Apart (IsLone p) xs → find p xs ≡ Some x → sum_by c (map f xs) + c x ≡ sum_by c xs + c (f x)
   sum_changed c [] x alone is = absurd cc
-  sum_changed c (y ∷ xs) x alone is = go (sum_changed c xs x alone.1) (p y) refl is
-    where
-      go : (find p xs ≡ Some x → sum_by c (map f xs) + c x ≡ sum_by c xs + c (f x)) → (b : Bool) → p y ≡ b → cond b (Some y) (find p xs) ≡ Some x
-          → sum_by c (map f (y ∷ xs)) + c x ≡ sum_by c (y ∷ xs) + c (f x)
-      go later true passes e =
-          let same : y ≡ x = cc in
-          let fail = all_weaker (IsLone p y) _ (λ z apart. false_from_ne_true (p z) (λ h. apart (passes, h))) xs alone.0 in
-          let rest : sum_by c (map f xs) ≡ sum_by c xs = ap (sum_by c) (none_changed xs fail) in
-          omega (arith, sum_by-cons c (f y) (map f xs), sum_by-cons c y xs, rest, ap c same, ap (λ z. c (f z)) same)
-      go later false fails e = omega (arith, sum_by-cons c (f y) (map f xs), sum_by-cons c y xs, later e, ap c (kept y fails))
+  sum_changed c (y ∷ xs) x alone is =
+      let rest = λ (passes : p y ≡ true). none_changed xs
+      (all_weaker (IsLone p y) _ (λ z apart. false_from_ne_true (p z) (λ h. apart (passes, h))) xs alone.0) in
+      grind (arith, sum_by-cons c (f y) (map f xs), sum_by-cons c y xs, rest, kept y, sum_changed c xs x alone.1)
 
   pub picked_changed : (w : X → ℕ) (q : X → Bool) (xs : List X) (x : X) → Apart (IsLone p) xs → find p xs ≡ Some x
       → sum_by w (filter q (map f xs)) + cond (q x) (w x) 0 ≡ sum_by w (filter q xs) + cond (q (f x)) (w (f x)) 0

@@ -1,8 +1,8 @@
 -- Lemmas about the query for the version, and about the statement that creates the table with the
 -- version.
-use Rattle.club_tables.proofs.Common.{◌≡◌, ℕ, List, [], false, Option, None, Ok, Err, inl, inr, refl, sym, subst, ap, ◌∙◌, true≢false, ◌∷◌, Bool, true, codes}
-use Rattle.club_tables.proofs.Common.{is_ok, if◌then◌else◌, cases_Bool, option_or, everything, Schema, Row, Reads, understood, reads_listing, listing_schema}
-use Rattle.club_tables.proofs.Common.{if_select, IsSourceOf, State, Shown, VERSION, MAKE_DESK, YieldsRows, HasNoDesk, arith}
+use Rattle.club_tables.proofs.Common.{◌≡◌, ℕ, List, [], false, Option, None, Ok, Err, refl, sym, subst, ◌∙◌, true≢false, ◌∷◌, Bool, true, codes, is_ok}
+use Rattle.club_tables.proofs.Common.{if◌then◌else◌, option_or, everything, Schema, Row, Reads, understood, reads_listing, listing_schema, if_select}
+use Rattle.club_tables.proofs.Common.{IsSourceOf, State, Shown, VERSION, MAKE_DESK, YieldsRows, HasNoDesk, arith}
 use Rattle.sqlite_schema.specs.{Names.{same_name, table_named, view_named, index_named}, declared.command.Command.{TheVariants.{CreateTable, Nothing}, Command}}
 use Rattle.sqlite_schema.specs.declared.command.Returning.{Returning}
 use Rattle.sqlite_resolve.specs.{Body.{table_in, bound, bounds, body}, Lowering.{Checked, and_then, take_slot}, declared.compiled.Compiled.Compiled}
@@ -45,13 +45,7 @@ version_bare schema = commanded _ _ _ _ _
 version_understood : (schema : Schema) (c : Compiled) → understood schema VERSION.now ≡ Ok c → (reads_listing schema VERSION.now ≡ false) × (c.returning ≡ None)
     × (c.formats ≡ [])
 unfolding understood
-version_understood schema c h = elim (cases_Bool (reads_listing schema VERSION.now)) [
-  | inl listed ↦ absurd (let e : if_select (compiled listing_schema VERSION.now) ≡ Ok c = rw listed at h in true≢false (sym (ap is_ok e) ∙ version_unlisted))
-  | inr unlisted ↦
-      let e : compiled schema VERSION.now ≡ Ok c = rw unlisted at h in
-      let bare = subst IsBare e (version_bare schema) in
-      (unlisted, bare.0, bare.1)
-]
+version_understood schema c h = grind (arith, version_unlisted, version_bare schema)
 
 pub version_answered : (old new : State) (rows : List Row) → Shown VERSION.now [] old new rows → YieldsRows VERSION.now old.now rows
 unfolding Shown
@@ -114,10 +108,7 @@ module _ (schema : Schema) (tables : table_named schema (codes "desk") ≡ None)
 
   version_missing : is_ok (understood schema VERSION.now) ≡ false
   unfolding understood compiled
-  version_missing = elim (cases_Bool (reads_listing schema VERSION.now)) [
-    | inl listed ↦ rw listed version_unlisted
-    | inr unlisted ↦ rw unlisted (not_compiled (first VERSION.now) version_reads)
-  ]
+  version_missing = grind (arith, version_unlisted, not_compiled (first VERSION.now) version_reads)
 
 abbrev makes_where : Bool → Option ℕ → Option ℕ → Checked Command
 makes_where kept same other =

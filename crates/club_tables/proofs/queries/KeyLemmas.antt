@@ -16,9 +16,6 @@ pub find_mapped : {X Y : Type 0} (p : Y → Bool) (f : X → Y) (xs : List X) �
 find_mapped p f [] = refl
 find_mapped p f (x ∷ xs) = grind (arith, find_mapped p f xs)
 
-pub same_names : (name a b : List ℕ) → bytes_eq a name ≡ true → bytes_eq b name ≡ true → a ≡ b
-same_names name a b p q = (bytes_eq-Decides a name).0 p ∙ sym ((bytes_eq-Decides b name).0 q)
-
 pub both_tests : (a a' b b' : Bool) → a ≡ a' → b ≡ b' → (a && (b && true)) ≡ (a' && b')
 both_tests a a' b b' p q = let e = and-true b in cc
 
@@ -32,7 +29,7 @@ pub one_named : {X : Type 0} (name_of : X → List ℕ) (name : List ℕ) (xs : 
     → length (filter (λ x. bytes_eq (name_of x) name) xs) ≤ 1
 one_named {X} name_of name xs unique =
     let R : X → X → Type 0 = λ a b. name_of a ≢ name_of b in
-    one_passes R (λ x. bytes_eq (name_of x) name) xs (λ x y a b apart. apart (same_names name (name_of x) (name_of y) a b)) (apart_from_pairs R xs unique)
+    one_passes R (λ x. bytes_eq (name_of x) name) xs (λ x y a b apart. grind (arith, bytes_eq-Decides)) (apart_from_pairs R xs unique)
 
 pub key_shown : {S : Type 0} (g : Ghosts S) (old : Held S) (name : List ℕ)
     → Shows g old (KEY.now, Text name ∷ []) (λ club rows. rows ≡ map key_values (option_to_list (key_named name club)))
@@ -97,9 +94,6 @@ facility_shown g old name =
           (one_named (λ (facility : Facility). facility.name) name club.facilities tables.sound.unique.facilities),
     ))
 
-pub three : (a b c : Bool) → (a && (b && (c && true))) ≡ (a && b && c)
-three a b c = grind arith
-
 pub same_slots : (a b : Slot) → same_slot a b ≡ true → a ≡ b
 same_slots a b h = grind (arith, nat_tests, bytes_eq-Decides)
 
@@ -121,8 +115,7 @@ slot_shown g old slot =
     let p : SlotRow → Bool = λ row. same_slot row.slot slot in
     let show : SlotRow → Row = λ row. use_values row.held in
     shown_by asks slot_values p show (λ id row.
-    rw (text_equal row.slot.facility slot.facility, whole_equal row.slot.day slot.day, whole_equal row.slot.hour slot.hour)
-    (three (bytes_eq row.slot.facility slot.facility) (row.slot.day == slot.day) (row.slot.hour == slot.hour))) (λ id row. refl) (λ club tables.
+    grind (arith, text_equal, whole_equal)) (λ id row. refl) (λ club tables.
     let slots = tables.rows.slots in (
       slots,
       tables.holds_rows.held.slots,
@@ -142,10 +135,14 @@ AreBookingsOnce = AllPairs (λ (a : Booking) (b : Booking). ¬ ((a.key ≡ b.key
 abbrev pub is_numbered : List ℕ → ℕ → Booking → Bool
 is_numbered key number booking = is_under key booking && booking.number == number
 
+pub same_numbers : (key : List ℕ) (number : ℕ) (a b : Booking) → is_numbered key number a ≡ true → is_numbered key number b ≡ true
+    → (a.key ≡ b.key) × (a.number ≡ b.number)
+same_numbers key number a b p q = grind (arith, nat_tests, bytes_eq-Decides)
+
 pub one_numbered : (key : List ℕ) (number : ℕ) (bookings : List Booking) → AreBookingsOnce bookings → length (filter (is_numbered key number) bookings) ≤ 1
 one_numbered key number bookings unique =
     let R : Booking → Booking → Type 0 = λ a b. ¬ ((a.key ≡ b.key) × (a.number ≡ b.number)) in
-    one_passes R (is_numbered key number) bookings (λ x y a b apart. grind (arith, nat_tests, bytes_eq-Decides)) (apart_from_pairs R bookings unique)
+    one_passes R (is_numbered key number) bookings (λ x y a b apart. apart (same_numbers key number x y a b)) (apart_from_pairs R bookings unique)
 
 pub booking_shown : {S : Type 0} (g : Ghosts S) (old : Held S) (key : List ℕ) (number : ℕ) → Shows g old (BOOKING.now, Text key ∷ whole number ∷ [])
     (λ club rows. rows ≡ map booking_values (option_to_list (booking_under key number club.bookings)))

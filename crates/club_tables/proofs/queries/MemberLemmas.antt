@@ -1,21 +1,26 @@
--- Lemmas about the queries for the bookings of a member.
+-- Lemmas about the queries for the bookings of a member and of a day.
 use Rattle.club_tables.proofs.Common.{◌≡◌, ◌≢◌, ℕ, ◌+◌, ◌*◌, ◌/◌, ◌<◌, ◌^◌, pos, Bool, true, false, not, ◌&&◌, List, [], ◌∷◌, map, codes, length, refl, sym, ap}
 use Rattle.club_tables.proofs.Common.{◌∙◌, arith, filter, flat_map, slice_index_or, nat_lt, nat_le, AllPairs, IsPermutation, list_any, bytes_eq, lt-ltb}
 use Rattle.club_tables.proofs.Common.{nat_tests, length-map, All-filter, filter_agree, recursion_from_All, All-weaker, length_permutation, bytes_eq-Decides}
 use Rattle.club_tables.proofs.Common.{and-true, and-false, and_comm, list_any_none, everything, Value, Int, Text, Binary, value_cmp-Int, Add, Mul, Arith}
 use Rattle.club_tables.proofs.Common.{Compare, Eq, Gt, Ge, binary, is_true, Row, Ghosts, Term, lit, col, op2, inner, end, understood, Held, state, truth, Key}
 use Rattle.club_tables.proofs.Common.{Booking, IsBooking, is_to_come, count_to_come, Club, is_key_of, bookings_of, OPEN, club_schema, whole, key_values}
-use Rattle.club_tables.proofs.Common.{booking_values, keys_tree, bookings_tree, select, is_given, map-flat_map}
-use Rattle.club_tables.proofs.{crashes.RepresentsLemmas.{Asks, Shows, asked_tables, asked_reads, keys_held, bookings_held}, queries.KeyLemmas.no_truth}
-use Rattle.club_tables.proofs.statements.SelectLemmas.{apart_from_pairs, text_equal, whole_equal, filter_same}
-use Rattle.club_tables.proofs.statements.JoinLemmas.{filter_filter, IsElsewhere, pairs_counted, selected_both}
+use Rattle.club_tables.proofs.Common.{booking_values, keys_tree, bookings_tree, select, is_given, map-flat_map, subst, Ordering, Less, nat_cmp, ◌==◌, IsSorted}
+use Rattle.club_tables.proofs.Common.{on, then_cmp, is_gt, IsTotalOrder, ranked, nat_cmp_total, in_order, nat_list_cmp_total, on_total, then_total, ascending}
+use Rattle.club_tables.proofs.Common.{value_cmp-Text, then-Equal, value_cmp, key_cmp, DAY, ShowsDay}
+use Rattle.club_tables.proofs.crashes.RepresentsLemmas.{Asks, Shows, asked_tables, asked_reads, keys_held, bookings_held}
+use Rattle.club_tables.proofs.queries.KeyLemmas.{no_truth, booking_terms, booking_names, is_uncancelled}
+use Rattle.club_tables.proofs.statements.SelectLemmas.{apart_from_pairs, text_equal, whole_equal, filter_same, pairs_from_apart, selected_in_order}
+use Rattle.club_tables.proofs.statements.{SelectLemmas.{none_greater, apart-permutation}, JoinLemmas.{filter_filter, IsElsewhere, pairs_counted, selected_both}}
 use Rattle.club_values.specs.Slot.{start_of}
+use Rattle.std.{proofs.{Common.int_cmp, lemmas.{List.Kept.AllPairs-filter, Map.Lookups.{exact_bytes, exact_unsigned}}}, specs.Cmp.Lexicographic.slice_cmp}
+use Rattle.club_core.specs.Sheet.{is_on, Precedes}
 
 abbrev under_it : Term
 under_it = op2 (Compare Eq Binary) (col 1 1) (col 2 1)
 
-abbrev is_uncancelled : Term
-is_uncancelled = op2 (Compare Eq Binary) (col 2 9) (lit (Int (pos 0)))
+abbrev is_not_cancelled : Term
+is_not_cancelled = op2 (Compare Eq Binary) (col 2 9) (lit (Int (pos 0)))
 
 abbrev begins_later : Term
 begins_later = op2 (Compare Gt Binary) (op2 (Arith Add) (op2 (Arith Mul) (col 2 4) (lit (Int (pos 1440)))) (op2 (Arith Mul) (col 2 5) (lit (Int (pos 60)))))
@@ -25,7 +30,7 @@ abbrev from_day : Term
 from_day = op2 (Compare Ge Binary) (col 2 4) (col 0 2)
 
 abbrev open_tests : List Term
-open_tests = under_it ∷ is_given 2 0 ∷ is_uncancelled ∷ begins_later ∷ from_day ∷ []
+open_tests = under_it ∷ is_given 2 0 ∷ is_not_cancelled ∷ begins_later ∷ from_day ∷ []
 
 pub whole_above : (m n : ℕ) → is_true (binary (Compare Gt Binary) (Int (pos m)) (Int (pos n))) ≡ nat_lt n m
 unfolding binary
@@ -118,3 +123,69 @@ open_shown g old member moment rows clean asked club others represents =
     owned_count member (comes moment) number club rows tables.sound.unique.keys both
     ∙ ap length (filter_same (comes moment) (is_to_come moment) own (recursion_from_All _ own (All-weaker IsBooking _ (comes_is moment) own
     (All-filter (λ b. is_key_of member club b.key) IsBooking club.bookings tables.sound.rows.bookings))))
+
+abbrev sheet_cmp : Booking → Booking → Ordering
+sheet_cmp =
+    then_cmp (on (λ (b : Booking). b.slot.facility) (slice_cmp nat_cmp))
+    (then_cmp (on (λ (b : Booking). b.slot.hour) nat_cmp)
+    (then_cmp (on (λ (b : Booking). b.key) (slice_cmp nat_cmp)) (on (λ (b : Booking). b.number) nat_cmp)))
+
+sheet_total : IsTotalOrder sheet_cmp
+sheet_total =
+    then_total (on_total (λ (b : Booking). b.slot.facility) nat_list_cmp_total)
+    (then_total (on_total (λ (b : Booking). b.slot.hour) nat_cmp_total)
+    (then_total (on_total (λ (b : Booking). b.key) nat_list_cmp_total) (on_total (λ (b : Booking). b.number) nat_cmp_total)))
+
+number_less : (m n : ℕ) → nat_cmp m n ≡ Less → m < n
+number_less m n h = ranked m n Less (sym h)
+
+abbrev Differ : Booking → Booking → Type 0
+Differ a b = ¬ ((a.key ≡ b.key) × (a.number ≡ b.number))
+
+precedes : (a b : Booking) → is_gt (sheet_cmp a b) ≡ false → Differ a b → Precedes a b
+precedes a b fails differ = grind (arith, nat_tests, exact_bytes, exact_unsigned, number_less)
+
+-- The values that determine the order of the day sheet.
+abbrev sheet_key : Booking → Row
+sheet_key b = Text b.slot.facility ∷ whole b.slot.hour ∷ Text b.key ∷ whole b.number ∷ []
+
+abbrev sheet_terms : List Term
+sheet_terms = map (col 1) (3 ∷ 5 ∷ 1 ∷ 2 ∷ [])
+
+abbrev day_tests : List Term
+day_tests = is_given 4 0 ∷ is_uncancelled ∷ []
+
+whole_cmp : (m n : ℕ) → value_cmp (whole m) (whole n) ≡ nat_cmp m n
+whole_cmp m n = let same : int_cmp (pos m) (pos n) ≡ nat_cmp m n = grind (arith, nat_tests) in value_cmp-Int (pos m) (pos n) ∙ same
+
+by_values : (a b : Booking) → key_cmp 0 (map (λ _. ascending Binary) sheet_terms) (sheet_key a) (sheet_key b) ≡ sheet_cmp a b
+by_values a b = simp (value_cmp-Text, whole_cmp, then-Equal)
+
+pub day_shown : {S : Type 0} (g : Ghosts S) (old : Held S) (day : ℕ) → Shows g old (DAY.now, whole day ∷ []) (λ club. ShowsDay club day)
+unfolding understood everything
+day_shown g old day rows clean asked club others represents =
+    let tables = asked_tables asked clean club others represents in
+    let asks : Asks club_schema DAY.now (in_order sheet_terms (select (inner bookings_tree end) day_tests booking_terms)) booking_names =
+    record { is = refl; plain = (refl, refl); unlisted = refl } in
+    let reads = asked_reads asked asks tables.holds_rows.schema in
+    let day_selection = selected_in_order booking_values (whole day
+    ∷ []) day_tests booking_terms (map (λ term. (term, ascending Binary)) sheet_terms) (is_on day)
+    booking_values sheet_key (λ id b. rw (whole_equal b.slot.day day, whole_equal (truth b.cancelled) 0, no_truth b.cancelled, and-true (not b.cancelled))
+    (and_comm (b.slot.day == day) (not b.cancelled))) (λ id b. refl) (λ id b. refl) bookings_tree booking_names (state g old).now
+    club.bookings rows (bookings_held _ club tables) reads in
+    let bookings = day_selection.ordered in
+    let same_cmp : (λ (a b : Booking). key_cmp 0 (map (λ _. ascending Binary) sheet_terms) (sheet_key a) (sheet_key b)) ≡ sheet_cmp =
+    λ i a b. by_values a b i in
+    let none_after = none_greater sheet_cmp sheet_total bookings (subst (λ cmp. IsSorted cmp bookings) same_cmp day_selection.sorted) in
+    let unique = AllPairs-filter Differ (is_on day) club.bookings tables.sound.unique.bookings in
+    let apart = apart-permutation Differ (λ a b differ same. differ (sym same.0, sym same.1)) (filter (is_on day) club.bookings) bookings day_selection.same
+    (apart_from_pairs Differ _ unique) in
+    let differ = pairs_from_apart Differ bookings apart in (
+      bookings,
+      record {
+        same = day_selection.same;
+        order = λ i j d less low. precedes (slice_index_or bookings i d) (slice_index_or bookings j d)
+            (none_after i j d less low) (differ i j d less low);
+      },
+      day_selection.shown,
+    )

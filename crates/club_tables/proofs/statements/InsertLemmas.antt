@@ -1,10 +1,10 @@
 -- Lemmas about the statements INSERT, CREATE TABLE and CREATE INDEX.
-use Rattle.club_tables.proofs.Common.{◌≡◌, ◌≢◌, ◌⊎◌, ◌≤◌, inl, inr, ℕ, ◌/◌, Bool, true, false, cond, None, Some, Option, Ok, Err, Result, List, [], ◌∷◌, length}
-use Rattle.club_tables.proofs.Common.{map, slice_get, refl, sym, ap, subst, subst₂, ◌∙◌, append-nil, arith, MatchBool, drop, unwrap_or, length-map}
-use Rattle.club_tables.proofs.Common.{AllByRecursion, Value, Null, Int, Row, Trees, put_row, Term, Schema, Table, Values, Command, Insert, CreateTable}
-use Rattle.club_tables.proofs.Common.{CreateIndex, created, next_tree, is_used, KeepsRows, cast, cast_row, Chosen, Above, Edit, edit_of, edited, next_rowid}
-use Rattle.club_tables.proofs.Common.{with_rowid, taken_by, works, Enforced, Written, Task, stamped, count_of, rowids_for, Error, Database, IsDatabase}
-use Rattle.club_tables.proofs.Common.{value_rows, understood, State, mode_of, Runs, Writes, Executes, statement_of, runs_as, one_step}
+use Rattle.club_tables.proofs.Common.{◌≡◌, ◌≢◌, ◌⊎◌, ◌≤◌, inl, inr, ℕ, ◌/◌, Bool, false, cond, None, Some, Option, Ok, Err, Result, List, [], ◌∷◌, length, map}
+use Rattle.club_tables.proofs.Common.{slice_get, sym, ap, subst, subst₂, ◌∙◌, append-nil, arith, MatchBool, drop, unwrap_or, length-map, AllByRecursion, Value}
+use Rattle.club_tables.proofs.Common.{Null, Int, Row, Trees, put_row, Term, Schema, Table, Values, Command, Insert, CreateTable, CreateIndex, created}
+use Rattle.club_tables.proofs.Common.{next_tree, is_used, KeepsRows, cast, cast_row, Chosen, Above, Edit, edit_of, edited, next_rowid, with_rowid, taken_by}
+use Rattle.club_tables.proofs.Common.{works, Enforced, Written, Task, stamped, count_of, rowids_for, Error, Database, IsDatabase, value_rows, understood, State}
+use Rattle.club_tables.proofs.Common.{mode_of, Runs, Writes, Executes, statement_of, runs_as, one_step}
 use Rattle.club_tables.proofs.statements.MeansLemmas.{Makes, MakesIndex, Means, Wrote}
 use Rattle.sqlite_rules.{proofs.RowLemmas.length-numbered, specs.Action.Writes as ActionWrites}
 use Rattle.sqlite.specs.{Does.{Tally, Does, OnTable, OnRows, WritesRows, lacks_sequence}, Kind.TheVariants.Integer, Ops.unary}
@@ -19,8 +19,7 @@ pub same_value : {B E : Type 0} {a b : B} → ◌≡◌ {A = Result B E} (Ok a) 
 same_value e = cc
 
 pub either : (b : Bool) (x : Value) → cond b x x ≡ x
-either true x = refl
-either false x = refl
+either b x = grind arith
 
 pub cast_null : cast Integer Null ≡ Null
 unfolding unary

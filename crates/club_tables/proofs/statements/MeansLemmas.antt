@@ -1,10 +1,9 @@
 -- Lemmas about the commands that SQLite compiles SQL texts into.
-use Rattle.club_tables.proofs.Common.{◌≡◌, ◌≢◌, ℕ, List, Ok, Some, slice_get, false, Bool, true, ◌==◌, if◌then◌else◌, [], ◌∷◌, refl, sym, subst, ◌∙◌}
-use Rattle.club_tables.proofs.Common.{true≢false, ◌≤◌, AllByRecursion, unsigned_Decides, Table, Database, IsDatabase, Schema, Command, CreateTable, CreateIndex}
-use Rattle.club_tables.proofs.Common.{created, understood, IsPlain, command_of, statement_of, Trees, State, Executes, Facility, Key, Booking, club_schema}
-use Rattle.club_tables.proofs.Common.{version_values, member_values, facility_values, key_values, slot_values, booking_values, older_values, MemberRow, Rows}
-use Rattle.club_tables.proofs.Common.{SlotRow, OlderRow, Holds, HoldsTrees, HoldsRows, members_tree, facilities_tree, keys_tree, slots_tree, bookings_tree}
-use Rattle.club_tables.proofs.Common.{olders_tree, BoundStatement, rules}
+use Rattle.club_tables.proofs.Common.{arith, nat_tests, ◌≡◌, ◌≢◌, ℕ, List, Ok, Some, slice_get, false, ◌==◌, if◌then◌else◌, [], ◌∷◌, sym, subst, ◌≤◌}
+use Rattle.club_tables.proofs.Common.{AllByRecursion, Table, Database, IsDatabase, Schema, Command, CreateTable, CreateIndex, created, understood, IsPlain}
+use Rattle.club_tables.proofs.Common.{command_of, statement_of, Trees, State, Executes, Facility, Key, Booking, club_schema, version_values, member_values}
+use Rattle.club_tables.proofs.Common.{facility_values, key_values, slot_values, booking_values, older_values, MemberRow, Rows, SlotRow, OlderRow, Holds, rules}
+use Rattle.club_tables.proofs.Common.{HoldsTrees, HoldsRows, members_tree, facilities_tree, keys_tree, slots_tree, bookings_tree, olders_tree, BoundStatement}
 use Rattle.sqlite.specs.{Compile.table_defined_by, Does.lacks_sequence}
 use Rattle.sqlite_resolve.specs.Compile.{index_defined_by}
 use Rattle.sqlite_schema.specs.declared.schema.Index.{Index}
@@ -62,11 +61,10 @@ but tree old new at = if at == tree then old at else new at
 pub others_kept : (tree : ℕ) (old new : Trees) (ts : List Table) → AllByRecursion (λ (t : Table). t.tree ≢ tree → new t.tree ≡ old t.tree) ts
     → AllByRecursion (λ (t : Table). but tree old new t.tree ≡ old t.tree) ts
 others_kept tree old new [] others = tt
-others_kept tree old new (t ∷ ts) others = (one (t.tree == tree) refl, others_kept tree old new ts others.1)
+others_kept tree old new (t ∷ ts) others = (one, others_kept tree old new ts others.1)
   where
-    one : (b : Bool) → (t.tree == tree) ≡ b → (if b then old t.tree else new t.tree) ≡ old t.tree
-    one true is = refl
-    one false is = others.0 (λ same. true≢false (sym ((unsigned_Decides t.tree tree).1 same) ∙ is))
+    one : but tree old new t.tree ≡ old t.tree
+    one = grind (arith, nat_tests, others.0)
 
 module _ {old new : Database} {rows : Rows} (holds_rows : HoldsRows old rows) where
   kept : {tree : ℕ} → Wrote club_schema old new tree → HoldsTrees 2 (but tree old.trees new.trees) rows

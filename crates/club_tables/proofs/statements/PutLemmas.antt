@@ -9,7 +9,7 @@ use Rattle.club_tables.proofs.Common.{Meets, value_rows, State, Executes, unders
 use Rattle.club_tables.proofs.Common.{list_all, holds, and_comm, ◌&&◌, find, length_permutation, option_to_list, subst₂, if◌then◌else◌}
 use Rattle.club_tables.proofs.statements.SelectLemmas.{IsLone, no_pair, one_listed, Apart, one_passes, test, shows, answered, row_of, Paired, paired, only}
 use Rattle.club_tables.proofs.statements.{SelectLemmas.{from_truth_is, lone_pair, any_filtered_is}, JoinLemmas.filter_filter}
-use Rattle.club_tables.proofs.{statements.InsertLemmas.{Leaves, task_of, went, same_value, wrote_rows, edited_alone}, lists.RowLemmas.holds_more}
+use Rattle.club_tables.proofs.{statements.InsertLemmas.{Leaves, task_of, went, same_value, wrote_rows, edited_alone}, lists.BookingRows.holds_more}
 use Rattle.club_tables.proofs.statements.{UpdateLemmas.{Updates, update_leaves, no_works, replaced, Below}, MeansLemmas.{Means, Wrote}}
 use Rattle.sqlite_schema.specs.declared.{command.{Conflict.TheVariants.Abort, Upsert.Upsert}, schema.Reference.Reference, program.Program.Program}
 use Rattle.sqlite_schema.specs.declared.schema.Column.{Column}

@@ -262,12 +262,11 @@ agree {X} p q implies xs one low is = all_from (λ x. p x ≡ q x) xs go
         let lone : filter q xs ≡ one ∷ [] = only (filter q xs) one low (has_kept q xs one it.0 (implies one it.1)) in
         grind (arith, implies x, has_kept q xs x has, it.1)
 
-pub found_by_both : {X : Type 0} (p q : X → Bool) (xs : List X) → AllByRecursion (λ x. p x ≡ q x) xs → find p xs ≡ find q xs
-found_by_both p q xs same = find_first p xs ∙ ap (λ ys. slice_get ys 0) (filter_same p q xs same) ∙ sym (find_first q xs)
-
 pub found : {X : Type 0} (p : X → Bool) (xs : List X) (x : X) → find p xs ≡ Some x → Contains xs x × (p x ≡ true)
 found p xs x h = let it = has_found p xs x h in (contains_had xs x it.0, it.1)
 
 pub wider_is : {X : Type 0} (p q : X → Bool) → Implies p q → (xs : List X) → length (filter q xs) ≤ 1 → (x : X) → find p xs ≡ Some x
     → (find q xs ≡ Some x) × (p x ≡ true)
-wider_is p q wide xs low x is = (sym (found_by_both p q xs (agree p q wide xs x low is)) ∙ is, (found p xs x is).1)
+wider_is p q wide xs low x is =
+    let same = ap (λ ys. slice_get ys 0) (filter_same p q xs (agree p q wide xs x low is)) in
+    (find_first q xs ∙ sym same ∙ sym (find_first p xs) ∙ is, (found p xs x is).1)

@@ -1,5 +1,5 @@
 use Rattle.club_tables.proofs.{Common.{rules, Vec, IfOk-weaker, Booking, OfDay, AreBookings}, lists.BookingRows.{day_of_rows, within_limits}}
-use Rattle.club_tables.proofs.{queries.DayLemmas.day_shown, crashes.RepresentsLemmas.read_by}
+use Rattle.club_tables.proofs.{queries.MemberLemmas.day_shown, crashes.RepresentsLemmas.read_by}
 use Rattle.std.specs.declared.alloc.Global.{Global}
 use Rattle.club_tables.proofs.tables.Tables.day.Goals as goal
 
