@@ -5,15 +5,15 @@ pub use Rattle.std.proofs.Common.{true≢false, IsPermutation, AllPairs, option_
 pub use Rattle.std.proofs.Common.{Less, is_ok, ◌⊎◌, codes, flat_map, slice_index_or, Greater, add-one, Bor, IsSorted, nat_le, subst₂, append-nil, drop, neg_ℤ}
 pub use Rattle.std.proofs.Common.{option_and_then, OnOk, OnErr, MatchResult, ◌+ℤ◌, fold, nat_cmp, ◌*◌, nat_lt, IfOk, IfErr, vec_len, vec_capacity, MatchBool}
 pub use Rattle.std.proofs.{Common.{min, length-append, Ordering, Vec}, lemmas.List.{length-map, map-append, get_or-map, take_more, take_all}}
-pub use Rattle.std.proofs.lemmas.List.{Folds.{find-append, list_any_at, list_any-append, list_any_none}, Elements.{All-from_recursion, All-push, All-contains}}
+pub use Rattle.std.proofs.lemmas.List.{Folds.{find-append, list_any_at, list_any-append, list_any_none}, Elements.{All-same, recursion_from_All, filter_agree}}
+pub use Rattle.std.proofs.lemmas.List.Elements.{All-from_recursion, All-push, All-contains, All-get_or, All-filter, All-weaker, filter_passes, All-more}
 pub use Rattle.std.proofs.{Math.Bool.{and-true, or-false, or-true, and_comm, and-false}, lemmas.Result.{IfErr-weaker, on_err_weaker, IfOk-weaker, on_ok_weaker}}
-pub use Rattle.std.proofs.lemmas.List.{Sums.{sum_by-cons, sum_by_push, sum_by_more}, Sorted.{IsPermutation-cons, IsPermutation-middle, IsPermutation-trans}}
-pub use Rattle.std.proofs.lemmas.List.Sorted.{length_permutation, sum_by-IsPermutation, IsPermutation-map, sorted_far, ranks_by, IsPermutation-refl}
+pub use Rattle.std.proofs.lemmas.List.{Sums.{sum_by-cons, sum_by_push, sum_by_more}, Sorted.{IsPermutation-map, sorted_far, ranks_by, IsPermutation-refl}}
+pub use Rattle.std.proofs.lemmas.List.Sorted.{IsPermutation-cons, IsPermutation-middle, IsPermutation-trans, length_permutation, sum_by-IsPermutation}
 pub use Rattle.std.{proofs.lemmas.Bool.{and_parts, false_from_ne_true, lt-ltb}, specs.Cmp.{unsigned_Decides, IsTotalOrder, int_cmp_is, Equal-is}}
 pub use Rattle.std.specs.{List.{AllByRecursion, list_any, list_all, AllZip, filter_map}, Ordering.{is_gt, is_eq, ordering_reverse, on, then_cmp, is_lt}}
 pub use Rattle.std.{proofs.lemmas.Slice.Eq.bytes_eq-Decides, specs.{Option.{option_or, option_to_list}, Prelude.{unwrap_or, max}, Str.bytes_eq}}
 pub use Rattle.std.proofs.lemmas.{Bool.Decides.nat_tests, Cmp.{nat_list_eq_equiv, tied_itself, ranked, nat_cmp_total, nat_list_cmp_total, on_total, then_total}}
-pub use Rattle.std.proofs.lemmas.List.Elements.{All-get_or, All-filter, All-weaker, filter_passes, All-more, All-same, recursion_from_All, filter_agree}
 pub use Rattle.club_core.specs.After.{credited_member, after, cancelled_booking, revoked_key, rotated_key, good_until, is_marked, debited_member}
 pub use Rattle.club_core.specs.{After.facility_with_numbers, Store.{IsOwnedBy, IsTrueOf, IsToCancel, FitsClub, HasRoot}, declared.store.StoreFault.StoreFault}
 pub use Rattle.club_core.specs.{Basis.slot_use, Club.{Club, IsSound, is_key_of, key_named, member_named, facility_named, is_closed, empty_club, bookings_of}}

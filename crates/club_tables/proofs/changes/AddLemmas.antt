@@ -121,8 +121,8 @@ module _ {text : List ℕ} {terms more sets : List Term} {at : ℕ} (puts : Puts
       let left = row_put _ _ _ _ _ slots_tree target 4 refl text terms more sets 6 at _ puts old new holds_rows.schema params
       (name_values slot ++ closed ∷ taken ∷ []) gives (simp (cast_null, cast_int, casts_closed, casts_taken))
       (λ id. simp (cast_int, casts_closed, casts_taken)) slot_values is_of_slot (changed slot change) (unchanged slot change) (new_row_of slot change)
-      (λ id x. slots_conflict id next x slot closed taken) (λ id x. simp cast_int) rows.slots holds_rows.held.slots alone (λ there. ids there next) (λ none. ap (λ vs. name_values slot ++ vs) (fresh none))
-      (λ x is id there. let y = yields x is id next there in (
+      (λ id x. slots_conflict id next x slot closed taken) (λ id x. simp cast_int) rows.slots holds_rows.held.slots alone (λ there. ids there next)
+      (λ none. ap (λ vs. name_values slot ++ vs) (fresh none)) (λ x is id there. let y = yields x is id next there in (
         y.0,
         y.1 ∙ ap (λ b. Int id ∷ Int id ∷ name_values x.slot ++ use_values (if b then change x.held else x.held))
             (sym (found is_of_slot rows.slots x is).1),
@@ -141,7 +141,8 @@ module _ {text : List ℕ} {terms more sets : List Term} {at : ℕ} (puts : Puts
       row_allowed _ _ _ _ _ slots_tree target 4 refl text terms more sets 6 at _ puts old new holds_rows.schema params
       (name_values slot ++ closed ∷ taken ∷ []) gives (simp (cast_null, cast_int, casts_closed, casts_taken))
       (λ id. simp (cast_int, casts_closed, casts_taken)) slot_values is_of_slot (changed slot change) (unchanged slot change) (new_row_of slot change)
-      (λ id x. slots_conflict id next x slot closed taken) (λ id x. simp cast_int) rows.slots holds_rows.held.slots alone (λ there. ids there next) allows (λ id there x. allowed id next there x) count executed some x is
+      (λ id x. slots_conflict id next x slot closed taken) (λ id x. simp cast_int) rows.slots holds_rows.held.slots alone (λ there. ids there next)
+      allows (λ id there x. allowed id next there x) count executed some x is
 
 -- Lemmas about the statement that closes a slot.
 
@@ -274,9 +275,9 @@ pub older_represents : (rows : Rows) → AllPairs (λ (a : OlderRow) (b : OlderR
 older_represents rows once key older old new count holds_rows executed =
     let params = Text key ∷ older_root_values older in
     let put = row_put _ _ _ _ _ olders_tree older_target 6 refl _ _ _ _ 4 3 _ put_puts old new holds_rows.schema params params refl
-    (simp (cast_null, cast_int)) (λ id. simp cast_int) older_values (is_of key older) (renewed key older) (same_older key older) (record { key = key; older = older }) (λ id row.
-    olders_conflict id (next_rowid (old.now.trees olders_tree)) row key older) (λ id row. simp cast_int) rows.olders holds_rows.held.olders
-    (lone (λ (row : OlderRow). row.key) bytes_eq same_names itself key rows.olders once)
+    (simp (cast_null, cast_int)) (λ id. simp cast_int) older_values (is_of key older) (renewed key older) (same_older key older)
+    (record { key = key; older = older }) (λ id row. olders_conflict id (next_rowid (old.now.trees olders_tree)) row key older) (λ id row. simp cast_int)
+    rows.olders holds_rows.held.olders (lone (λ (row : OlderRow). row.key) bytes_eq same_names itself key rows.olders once)
     (λ there. refl) (λ _. refl) (λ x is id there. (
       refl,
       ap (λ b. Int id ∷ Int id ∷ Text x.key ∷ older_root_values (if b then older else x.older)) (sym (found (is_of key older) rows.olders x is).1),

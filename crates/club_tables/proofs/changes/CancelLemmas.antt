@@ -38,7 +38,8 @@ module _ (rows : Rows) (once : AreBookingsOnce rows.bookings) (booking : Booking
 
   as_given : (b : Booking) → is_as_given b ≡ true → (b ≡ booking) × (b.cancelled ≡ false)
   as_given b h =
-      let t = all_from (λ test. holds (params ∷ (Int (pos 0) ∷ booking_values b) ∷ []) test ≡ true) cancel_tests (λ test. test_has (holds (params ∷ (Int (pos 0) ∷ booking_values b) ∷ [])) cancel_tests test h) in
+      let passes = holds (params ∷ (Int (pos 0) ∷ booking_values b) ∷ []) in
+      let all = all_from (λ test. passes test ≡ true) cancel_tests (λ test. test_has passes cancel_tests test h) in
       grind (arith, nat_tests, bytes_eq-Decides, text_equal, whole_equal, truths)
 
   cancel_finds : WhenRan (CANCEL_BOOKING.now, params) rows (λ old new count.

@@ -97,8 +97,8 @@ module _ (rows : Rows) (once : AreNamedOnce rows.members) (name : List ℕ) wher
         FindsOne member_values is_credited is_named rows.members (shows points_params credit_tests credit_terms) old new member_table count)
     unfolding understood everything
     credit_finds =
-        finds_row 1 points_params credit_tests credit_terms (record { is = refl; plain = (refl, refl) }) refl (λ db holds_rows. holds_rows.held.members) (λ id row. refl)
-        (λ row passes. sym (text_equal (name_of row) name) ∙ (and_parts _ _ passes).0) low_named
+        finds_row 1 points_params credit_tests credit_terms (record { is = refl; plain = (refl, refl) }) refl (λ db holds_rows. holds_rows.held.members)
+        (λ id row. refl) (λ row passes. sym (text_equal (name_of row) name) ∙ (and_parts _ _ passes).0) low_named
 
     pub member_credited : (row : MemberRow) → StoresMember name rows.members row
         → binary (Arith Add) (whole row.member.credited) (whole points) ≡ whole (row.member.credited + points)
@@ -117,8 +117,8 @@ module _ (rows : Rows) (once : AreNamedOnce rows.members) (name : List ℕ) wher
         FindsOne member_values is_debited is_named rows.members (shows points_params debit_tests debit_terms) old new member_table count)
     unfolding understood everything
     debit_finds =
-        finds_row 1 points_params debit_tests debit_terms (record { is = refl; plain = (refl, refl) }) refl (λ db holds_rows. holds_rows.held.members) (λ id row. refl)
-        (λ row passes. sym (text_equal (name_of row) name) ∙ (and_parts _ _ passes).0) low_named
+        finds_row 1 points_params debit_tests debit_terms (record { is = refl; plain = (refl, refl) }) refl (λ db holds_rows. holds_rows.held.members)
+        (λ id row. refl) (λ row passes. sym (text_equal (name_of row) name) ∙ (and_parts _ _ passes).0) low_named
 
     pub member_debited : (row : MemberRow) → StoresMember name rows.members row → row.used + points ≤ row.member.credited → row.member.credited < 2 ^ 63
         → Steps (TAKE_CREDIT.now, points_params) rows (record rows { members = map (debited_row name points) rows.members })

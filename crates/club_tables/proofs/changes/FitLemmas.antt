@@ -1,17 +1,17 @@
 -- Proof that a change fits the club if each of its statements wrote a row.
-use Rattle.club_tables.proofs.Common.{None, ◌≡◌, ◌≢◌, ℕ, ◌+◌, ◌≤◌, true, false, ◌&&◌, ◌==◌, List, ◌∷◌, map, Contains, All, refl, sym, ap, subst, ◌∙◌, arith}
-use Rattle.club_tables.proofs.Common.{find, Some, bytes_eq, bytes_eq-Decides, and_parts, nat_tests, AllByRecursion, All-from_recursion, all_from_map, Has}
-use Rattle.club_tables.proofs.Common.{map-map, Ghosts, Held, state, Database, HoldsClub, Ran, Club, Member, Facility, Key, Booking, SlotUse, MemberRow}
-use Rattle.club_tables.proofs.Common.{InLimits, InsertMember, AddCredit, InsertFacility, InsertKey, MarkRevoked, ReplaceRoot, MarkClosed, MarkOpen}
-use Rattle.club_tables.proofs.Common.{ReplaceQuota, InsertBooking, MarkCancelled, member_row, member_named, facility_named, cost_of, used_by, statements_of}
-use Rattle.club_tables.proofs.Common.{FitsClub, TakeCredit, ReplaceNumbers, all_weaker, Bool, BoundStatement, IsBooking, IsTrueOf, Option, Rows, State}
-use Rattle.club_tables.proofs.Common.{adding_booking, booking_under, good_until, neg_ℤ, option_map, pos, transaction_start, Add, Arith, Binary, Compare, binary}
-use Rattle.club_tables.proofs.{Common.{is_true, whole, cancelled_booking}, changes.ChargeLemmas.{Charged, charge_found, pays}, statements.MeansLemmas.WhenRan}
+use Rattle.club_tables.proofs.Common.{◌≡◌, ◌≢◌, ℕ, ◌+◌, ◌≤◌, true, false, ◌&&◌, ◌==◌, List, ◌∷◌, map, Contains, All, refl, sym, ap, subst, ◌∙◌, arith, find}
+use Rattle.club_tables.proofs.Common.{Some, bytes_eq, bytes_eq-Decides, and_parts, nat_tests, AllByRecursion, All-from_recursion, all_from_map, Has, map-map}
+use Rattle.club_tables.proofs.Common.{Ghosts, Held, state, Database, HoldsClub, Ran, Club, Member, Facility, Key, Booking, SlotUse, MemberRow, InLimits}
+use Rattle.club_tables.proofs.Common.{InsertMember, AddCredit, InsertFacility, InsertKey, MarkRevoked, ReplaceRoot, MarkClosed, MarkOpen, ReplaceQuota}
+use Rattle.club_tables.proofs.Common.{InsertBooking, MarkCancelled, member_row, member_named, facility_named, cost_of, used_by, statements_of, FitsClub}
+use Rattle.club_tables.proofs.Common.{TakeCredit, ReplaceNumbers, all_weaker, Bool, BoundStatement, IsBooking, IsTrueOf, Option, Rows, State, adding_booking}
+use Rattle.club_tables.proofs.Common.{booking_under, good_until, neg_ℤ, option_map, pos, transaction_start, Add, Arith, Binary, Compare, binary, is_true, whole}
+use Rattle.club_tables.proofs.{Common.cancelled_booking, queries.{KeyLemmas.find_mapped, MemberLemmas.total}, lists.OwnerLemmas.all_last}
+use Rattle.club_tables.proofs.{changes.{ChargeLemmas.{Charged, charge_found, pays}, NumberLemmas.{few_by_rows, numbers_finds}}, statements.MeansLemmas.WhenRan}
 use Rattle.club_tables.proofs.changes.ChangeLemmas.{used_finds, whole_to, StoresKey, StoresMember, credit_finds, debit_finds, name_of, owned_key, quota_finds}
-use Rattle.club_tables.proofs.{changes.{ChangeLemmas.{revoke_finds, root_finds}, NumberLemmas.{few_by_rows, numbers_finds}}, statements.UpdateLemmas.one_found}
-use Rattle.club_tables.proofs.{queries.{MemberLemmas.total, KeyLemmas.find_mapped}, lists.{KeyedRows.{slot_once, the_slot}, OwnerLemmas.all_last}}
-use Rattle.club_tables.proofs.changes.{CancelLemmas.{booking_cancelled, cancel_found}, AddLemmas.{open_use, slot_opened, new_row, close_use}}
-use Rattle.club_tables.proofs.changes.AddLemmas.{take_use, member_put, facility_put, key_put, slot_closed, slot_was_open, booking_put, older_represents}
+use Rattle.club_tables.proofs.{changes.ChangeLemmas.{revoke_finds, root_finds}, lists.KeyedRows.{slot_once, the_slot}, statements.UpdateLemmas.one_found}
+use Rattle.club_tables.proofs.changes.{CancelLemmas.{booking_cancelled, cancel_found}, AddLemmas.{slot_was_open, booking_put, older_represents}}
+use Rattle.club_tables.proofs.changes.AddLemmas.{open_use, slot_opened, new_row, close_use, take_use, member_put, facility_put, key_put, slot_closed}
 use Rattle.club_tables.proofs.changes.FoundLemmas.{enough_left, credited_little, spent_little, slot_placed, the_named, facility_there}
 use Rattle.club_tables.proofs.changes.PlanLemmas.{adds, filled_use, members_once, facilities_once, bookings_once, filled, filled_rows, keys_once}
 use Rattle.club_tables.proofs.changes.ObeyLemmas.{members_apart, facilities_apart, keys_apart, key_members, booking_facilities, bookings_apart}
@@ -37,8 +37,7 @@ module _ {S : Type 0} (g : Ghosts S) (old : Held S) (club : Club) (tables : Hold
     where
       by : (o : Option Member) → member_named name club ≡ o → option_map (member_row club) o ≡ Some it.0
           → (m : Member) × (member_named name club ≡ Some m) × (p (member_row club m) ≡ true)
-      by None is e = absurd cc
-      by (Some m) is e = let same : it.0 ≡ member_row club m = cc in (m, is, sym (ap p same) ∙ it.2)
+      by o is e = grind (arith, it.2)
 
   abbrev filled_club : Booking → Rows
   filled_club = filled_rows g old club tables

@@ -187,7 +187,8 @@ module _ {S : Type 0} (g : Ghosts S) (old : Held S) (club : Club) (tables : Hold
 
   pub plan : (change : Change) → FitsClub change club → LeaveRows (statements_of change) (after change club)
   plan (InsertMember member) fits = one_step _ (member_put tables.rows member) (member_stored club tables.rows tables.storage tables.sound member fits.sound)
-  plan (InsertFacility facility) fits = one_step _ (facility_put tables.rows facility) (facilities_stored club tables.rows tables.storage (λ fs. fs ++ facility ∷ []))
+  plan (InsertFacility facility) fits =
+      one_step _ (facility_put tables.rows facility) (facilities_stored club tables.rows tables.storage (λ fs. fs ++ facility ∷ []))
   plan (ReplaceNumbers name places price opens shuts) fits =
       let is = subst (λ fs. find (λ (f : Facility). bytes_eq f.name name) fs ≡ Some fits.carries.0) (sym tables.storage.facilities) fits.carries.1 in
       let roomy = few_in_rows club tables.rows tables.storage name places (few_if_fits club name places price opens shuts fits) in

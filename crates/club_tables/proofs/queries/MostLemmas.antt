@@ -60,9 +60,8 @@ module _ (club : Club) (rows : Rows) (stored : IsStoredAs club rows) (facility :
       by (b ∷ bs) some =
           let it = has_filtered (is_in slot) club.bookings b (rw some (inl refl)) in
           let same = same_slots b.slot slot (and_parts _ _ it.1).1 in
-          let at : is_at facility b ≡ true = ap (λ (s : Slot). bytes_eq s.facility facility) same ∙ of in
-          subst (λ (s : Slot). taken_in s club.bookings ≤ most) same
-          (each_below booked 0 (filter (is_at facility) club.bookings) b (has_kept (is_at facility) club.bookings b it.0 at))
+          let at = has_kept (is_at facility) club.bookings b it.0 (ap (λ (s : Slot). bytes_eq s.facility facility) same ∙ of) in
+          subst (λ (s : Slot). taken_in s club.bookings ≤ most) same (each_below booked 0 (filter (is_at facility) club.bookings) b at)
 
   few_by : (slot : Slot) → bytes_eq slot.facility facility ≡ true → taken_in slot club.bookings ≤ greatest persons 0 (filter is_of rows.slots)
   few_by slot of = elim (slot_taken_by club rows stored slot) [

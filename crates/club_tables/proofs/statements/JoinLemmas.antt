@@ -2,8 +2,10 @@
 use Rattle.club_tables.proofs.Common.{◌≡◌, ℕ, ℤ, Bool, true, false, cond, ◌||◌, ◌&&◌, List, [], ◌∷◌, map, refl, ap, subst, ◌∙◌, ◌≤◌, pos, min, length, arith}
 use Rattle.club_tables.proofs.Common.{filter, flat_map, IsPermutation, AllByRecursion, list_all, list_any, length-map, Int, Row, Term, Env, holds, eval_all}
 use Rattle.club_tables.proofs.Common.{inner, end, IsAnswer, output, counted, Select, Database, Reads, Answers, map-map, map-flat_map, flat_map-map}
-use Rattle.club_tables.proofs.Common.{flat_map_same_on, sym, ◌+◌, length-append, is_true, Holds, select, AllZip, Has, has_filtered, has_kept, inl, inr, IsRowOf}
+use Rattle.club_tables.proofs.Common.{flat_map_same_on, sym, ◌+◌, length-append, is_true, Holds, select, AllZip, Has, has_kept, IsRowOf, nat_tests}
 use Rattle.club_tables.proofs.statements.SelectLemmas.{as_many, Apart, pick_by_if, plain_answer, picked, none_of, shown_of, row_of, paired as with_rowids}
+use Rattle.club_tables.proofs.statements.SelectLemmas.{any_filtered_is}
+use Rattle.sqlite_rules.proofs.ListLemmas.{some_has}
 
 pub filter_filter : {X : Type 0} (p q : X → Bool) (xs : List X) → filter p (filter q xs) ≡ filter (λ x. q x && p x) xs
 filter_filter p q [] = refl
@@ -129,19 +131,17 @@ lengths_alike : {X A B : Type 0} (f : X → List A) (g : X → List B) → ((x :
 lengths_alike f g same [] = refl
 lengths_alike f g same (x ∷ xs) = grind (arith, length-append, same x, lengths_alike f g same xs)
 
+any_pair : {X Y : Type 0} (p : X → Y → Bool) (xs : List X) (ys : List Y) → 1 ≤ length (flat_map (λ x. filter (p x) ys) xs)
+    → list_any (λ x. list_any (p x) ys) xs ≡ true
+any_pair p [] ys some = absurd (omega arith)
+any_pair p (x ∷ xs) ys some = grind (arith, nat_tests, length-append, any_filtered_is (p x) ys, any_pair p xs ys)
+
 pub pair_found : {X Y : Type 0} (p : X → Y → Bool) (xs : List X) (ys : List Y) → 1 ≤ length (flat_map (λ x. filter (p x) ys) xs)
     → (x : X) × Has xs x × (y : Y) × Has ys y × (p x y ≡ true)
-pair_found p [] ys some = absurd (omega arith)
-pair_found {X} {Y} p (x ∷ xs) ys some = go (filter (p x) ys) refl (omega (arith, some, length-append (filter (p x) ys) (flat_map (λ z. filter (p z) ys) xs)))
-    (λ more. pair_found p xs ys more)
-  where
-    go : (here : List Y) → filter (p x) ys ≡ here → 1 ≤ length here + length (flat_map (λ z. filter (p z) ys) xs)
-        → (1 ≤ length (flat_map (λ z. filter (p z) ys) xs) → (z : X) × Has xs z × (y : Y) × Has ys y × (p z y ≡ true))
-        → (z : X) × Has (x ∷ xs) z × (y : Y) × Has ys y × (p z y ≡ true)
-    go [] is more later =
-        let it = later (omega (arith, more)) in
-        (it.0, inr it.1, it.2, it.3, it.4)
-    go (y ∷ here) is more later = let it = has_filtered (p x) ys y (rw is (inl refl)) in (x, inl refl, y, it.0, it.1)
+pair_found p xs ys some =
+    let one = some_has (λ x. list_any (p x) ys) xs (any_pair p xs ys some) in
+    let other = some_has (p one.0) ys one.2 in
+    (one.0, one.1, other.0, other.1, other.2)
 
 pub pair_counts : {X Y : Type 0} (p : X → Y → Bool) (xs : List X) (ys : List Y) (x : X) (y : Y) → Has xs x → Has ys y → p x y ≡ true
     → 1 ≤ length (flat_map (λ z. filter (p z) ys) xs)
