@@ -9,14 +9,13 @@ use Rattle.club_tables.proofs.Common.{ADD_BOOKING, CLOSE_SLOT, OPEN_SLOT, ADD_TA
 use Rattle.club_tables.proofs.Common.{bookings_table, club_schema, slots_table, old_roots_table, whole, member_values, facility_values, key_values}
 use Rattle.club_tables.proofs.Common.{booking_values, flag, name_values, use_values, slot_values, older_root_values, older_values, Rows, SlotRow, no_slot_use}
 use Rattle.club_tables.proofs.Common.{OlderRow, older_by, stored_slot_use, row_of, Holds, members_tree, facilities_tree, keys_tree, bookings_tree, HoldsRows}
-use Rattle.club_tables.proofs.Common.{slots_tree, olders_tree, list_all, holds, is_true, Compare, Eq, Binary, ◌&&◌, not, State, Executes, Ok, arith}
+use Rattle.club_tables.proofs.Common.{slots_tree, olders_tree, list_all, holds, is_true, Compare, Eq, Binary, ◌&&◌, not, State, Executes, Ok, arith, Integer}
 use Rattle.club_tables.proofs.statements.{SelectLemmas.{found, text_equal, whole_equal}, InsertLemmas.{inserts, cast_null, cast_int}}
 use Rattle.club_tables.proofs.lists.KeyedRows.{lone, by_put, put_once as once_put, slots_conflict, slot_table, same_itself, changed, same_row as unchanged}
 use Rattle.club_tables.proofs.{lists.KeyedRows.{put_slot, new_row as new_row_of}, statements.PutLemmas.{PutsRow, first_clause, row_put, row_allowed, put_among}}
 use Rattle.club_tables.proofs.{queries.KeyLemmas.{same_slots, no_truth}, lists.BookingRows.holds_more}
 use Rattle.club_tables.proofs.statements.MeansLemmas.{Wrote, Means, on_members, on_facilities, on_keys, on_bookings, Steps, on_slots, on_olders}
 use Rattle.std.proofs.Common.{unwrap_or}
-use Rattle.sqlite.specs.Kind.TheVariants.{Integer}
 
 -- An inserted row becomes the last row of its table.
 

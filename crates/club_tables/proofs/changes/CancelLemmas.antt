@@ -3,12 +3,11 @@ use Rattle.club_tables.proofs.Common.{slice_index_or, nat_tests, ◌≡◌, ℕ,
 use Rattle.club_tables.proofs.Common.{subst, ◌∙◌, All, arith, ◌+◌, ◌-◌, if◌then◌else◌, Contains, bytes_eq-Decides, or-true, or-false, bytes_eq, length-map}
 use Rattle.club_tables.proofs.Common.{get_or-map, everything, Int, Row, Term, lit, col, holds, understood, Booking, cancelled_booking, is_marked, booking_under}
 use Rattle.club_tables.proofs.Common.{is_in, taken_in, cost_of, Slot, Member, same_slot, persons_of, Club, IsSound, is_key_of, IsBooking, IsOwnedBy, IsToCancel}
-use Rattle.club_tables.proofs.Common.{CANCEL_BOOKING, whole, booking_values, is_given, Rows, member_row, used_by, MemberRow, all_from}
+use Rattle.club_tables.proofs.Common.{CANCEL_BOOKING, whole, booking_values, is_given, Rows, member_row, used_by, MemberRow, all_from, test_has}
 use Rattle.club_tables.proofs.{statements.MeansLemmas.{on_bookings, Steps, WhenRan}, changes.{AddLemmas.booking_table, ChangeLemmas.used_row}}
 use Rattle.club_tables.proofs.{statements.InsertLemmas.cast_int, queries.KeyLemmas.{AreBookingsOnce, is_numbered, is_uncancelled, one_numbered, same_numbers}}
 use Rattle.club_tables.proofs.{statements.SelectLemmas.{found, text_equal, whole_equal, test, shows, Apart, apart_from_pairs, IsLone}, lists.BookingRows.truths}
 use Rattle.club_tables.proofs.{statements.UpdateLemmas.{finds_row, one_found, FindsOne, one_changed}, lists.OwnerLemmas.{picked_changed, owner_is}}
-use Rattle.sqlite_rules.proofs.ListLemmas.{test_has}
 
 abbrev cancel_tests : List Term
 cancel_tests =

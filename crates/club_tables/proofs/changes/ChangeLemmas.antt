@@ -4,13 +4,12 @@ use Rattle.club_tables.proofs.Common.{◌∙◌, filter, find, AllPairs, list_al
 use Rattle.club_tables.proofs.Common.{Int, Text, Blob, Binary, Arith, Compare, Add, Eq, binary, cast_row, Row, Term, col, op2, holds, lit, understood, Key}
 use Rattle.club_tables.proofs.Common.{credited_member, revoked_key, rotated_key, truth, MemberRow, ADD_CREDIT, ADD_USED, REVOKE_KEY, SET_ROOT, used_values}
 use Rattle.club_tables.proofs.Common.{whole, member_values, key_values, is_given, Rows, members_tree, keys_tree, is_true, nat_le, nat_tests, arith}
-use Rattle.club_tables.proofs.{Common.{value_cmp-Int, SET_QUOTA, Sub, TAKE_CREDIT, debited_member, ◌<◌, ◌-◌, ◌^◌}, changes.AddLemmas.{member_table, key_table}}
+use Rattle.club_tables.proofs.Common.{value_cmp-Int, SET_QUOTA, Sub, TAKE_CREDIT, debited_member, ◌<◌, ◌-◌, ◌^◌, member_with_quota, Le}
+use Rattle.club_tables.proofs.{changes.AddLemmas.{member_table, key_table}, queries.KeyLemmas.{both_tests, one_named}, statements.InsertLemmas.cast_int}
 use Rattle.club_tables.proofs.statements.{MeansLemmas.{on_members, on_keys, Steps, WhenRan}, UpdateLemmas.{FindsOne, finds_by, finds_row, one_changed}}
 use Rattle.club_tables.proofs.statements.SelectLemmas.{text_equal, shows, test, blob_equal, contains_counts, find_some, found, wider_is}
-use Rattle.club_tables.proofs.{queries.{KeyLemmas.{both_tests, one_named}, MemberLemmas.total}, statements.InsertLemmas.cast_int}
+use Rattle.club_tables.proofs.queries.MemberLemmas.{total}
 use Rattle.club_tables.proofs.statements.JoinLemmas.{is_counted, some_counted, counted_some, passes, shown, with_count, answered_counted, counts_elements}
-use Rattle.club_core.specs.After.{member_with_quota}
-use Rattle.sqlite_sql.specs.declared.ops.CompareOp.TheVariants.{Le}
 
 abbrev pub AreKeysOnce : List Key → Type 0
 AreKeysOnce = AllPairs (λ (a : Key) (b : Key). a.name ≢ b.name)

@@ -2,15 +2,13 @@
 use Rattle.club_tables.proofs.Common.{◌≡◌, ◌≤◌, ℕ, ℤ, Bool, true, ◌&&◌, List, [], ◌∷◌, length, map, refl, ap, ◌∙◌, filter, list_all, bytes_eq, and_parts}
 use Rattle.club_tables.proofs.Common.{and-true, everything, Int, Text, Binary, Arith, Compare, Add, Eq, binary, Row, Term, col, op2, holds, understood, Key}
 use Rattle.club_tables.proofs.Common.{MemberRow, whole, member_values, key_values, is_given, Rows, members_tree, keys_tree, is_true, nat_le, Slot, SlotRow}
-use Rattle.club_tables.proofs.Common.{Facility, ◌==◌, name_values, slot_values, facility_values, slots_tree, facilities_tree, flat_map, Has}
+use Rattle.club_tables.proofs.Common.{Facility, ◌==◌, name_values, slot_values, facility_values, slots_tree, facilities_tree, flat_map, Has, Le, CHARGE}
 use Rattle.club_tables.proofs.{changes.AddLemmas.member_table, statements.MeansLemmas.{on_members, Steps, WhenRan}}
 use Rattle.club_tables.proofs.statements.{SelectLemmas.{text_equal, whole_equal, as_many, found}, UpdateLemmas.{FindsOne, one_found, one_changed, finds_by}}
 use Rattle.club_tables.proofs.statements.JoinLemmas.{counted_some, counts_elements, count_in, with_counts, pairs_in, passes_both, shown_both}
 use Rattle.club_tables.proofs.statements.JoinLemmas.{answered_counted_both, as_many_pairs, pair_found, pair_counts, is_counted, some_counted}
 use Rattle.club_tables.proofs.changes.ChangeLemmas.{AreKeysOnce, StoresKey, name_of, AreNamedOnce, StoresMember, used_row, casts_member, owner_tests, owns}
 use Rattle.club_tables.proofs.{changes.ChangeLemmas.{used_terms, whole_to, is_named, key_owned, low_named, owned_key, has_owner}, queries.KeyLemmas.both_tests}
-use Rattle.sqlite_sql.specs.declared.ops.CompareOp.TheVariants.{Le}
-use Rattle.club_tables.specs.declared.texts.TheConstants.{CHARGE}
 
 abbrev place_tests : List Term
 place_tests =

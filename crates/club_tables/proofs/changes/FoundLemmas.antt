@@ -5,15 +5,12 @@ use Rattle.club_tables.proofs.Common.{Contains, ap, arith, All-contains, bytes_e
 use Rattle.club_tables.proofs.Common.{Int, Club, IsSound, taken_in, same_slot, IsBooking, Booking, Facility, Slot, whole, persons_taken, SlotRow, AllPairs, Has}
 use Rattle.club_tables.proofs.Common.{has_kept, slice_get, filter, all_has, has_found, Database, HoldsRows, Rows, subst, FitsClub, MarkClosed, is_closed}
 use Rattle.club_tables.proofs.Common.{AllByRecursion, false, list_any, row_of, contains_had, has_contained, ◌+◌, Binary, Compare, Member, member_named}
-use Rattle.club_tables.proofs.{Common.{MemberRow, is_true, member_row, used_by, nat_tests, IsMember, TakeCredit, debited_member}, changes.ChangeLemmas.whole_to}
-use Rattle.club_tables.proofs.{changes.{ObeyLemmas.slot_facilities, CancelLemmas.mapped_holds}, queries.MemberLemmas.total}
-use Rattle.club_tables.proofs.{lists.OwnerLemmas.apart_last, statements.SelectLemmas.{apart_from_pairs, find_first, only, contains_counts, find_some, found}}
+use Rattle.club_tables.proofs.Common.{MemberRow, is_true, member_row, used_by, nat_tests, IsMember, TakeCredit, debited_member, is_some, has_mapped}
+use Rattle.club_tables.proofs.{Common.{HasFacility, places_limit, Le}, changes.ObeyLemmas.slot_facilities, lists.OwnerLemmas.apart_last}
+use Rattle.club_tables.proofs.{changes.ChangeLemmas.whole_to, statements.SelectLemmas.{apart_from_pairs, find_first, only, contains_counts, find_some, found}}
+use Rattle.club_tables.proofs.{changes.CancelLemmas.mapped_holds, queries.MemberLemmas.total}
 use Rattle.club_tables.proofs.{lists.KeyedRows.{not_same, put_slot, changed, new_row, same_itself, by_put, same_row}, queries.KeyLemmas.{one_named, same_slots}}
-use Rattle.std.specs.Prelude.{is_some, Option}
-use Rattle.sqlite_rules.proofs.ProbeLemmas.{has_mapped}
-use Rattle.club_core.specs.Store.{HasFacility}
-use Rattle.club_rows.specs.Limits.{places_limit}
-use Rattle.sqlite_sql.specs.declared.ops.CompareOp.TheVariants.{Le}
+use Rattle.std.specs.Prelude.{Option}
 
 pub contains_mapped : {X Y : Type 0} (f : X → Y) (xs : List X) (y : Y) → Contains (map f xs) y → (x : X) × Contains xs x × (f x ≡ y)
 contains_mapped f xs y has = let it = has_mapped f xs y (has_contained (map f xs) y has) in (it.0, contains_had xs it.0 it.1, sym it.2)

@@ -3,14 +3,12 @@ use Rattle.club_tables.proofs.Common.{◌≡◌, ◌≢◌, ◌≤◌, ℕ, pos,
 use Rattle.club_tables.proofs.Common.{filter, list_all, bytes_eq, bytes_eq-Decides, and_parts, everything, Int, Binary, Compare, Eq, Row, Term, col, op2, holds}
 use Rattle.club_tables.proofs.Common.{understood, Club, is_true, facility_values, slot_values, is_given, Rows, IsStoredAs, facilities_tree, slots_tree}
 use Rattle.club_tables.proofs.Common.{nat_tests, arith, AllPairs, Has, Facility, Slot, SlotRow, taken_in, FitsClub, ReplaceNumbers, facility_with_numbers}
-use Rattle.club_tables.proofs.Common.{SET_NUMBERS, op1, unary, Not, nat_lt, cast_row, ℤ, Contains, contains_had, inl, inr, all_from, IsFacility, Gt}
+use Rattle.club_tables.proofs.Common.{SET_NUMBERS, op1, unary, Not, nat_lt, cast_row, ℤ, Contains, contains_had, inl, inr, all_from, IsFacility, Gt, are_limits}
+use Rattle.club_tables.proofs.{Common.numbers_values, changes.{CancelLemmas.mapped_holds, AddLemmas.facility_table}, queries.KeyLemmas.{both_tests, one_named}}
 use Rattle.club_tables.proofs.{lists.KeyedRows.{row_taken, slot_taken_by}, statements.{MeansLemmas.{WhenRan, on_facilities, Steps}, InsertLemmas.cast_int}}
 use Rattle.club_tables.proofs.statements.{SelectLemmas.{text_equal, none_pass, contains_counts, found}, UpdateLemmas.{FindsOne, one_changed, finds_by}}
-use Rattle.club_tables.proofs.{changes.{CancelLemmas.mapped_holds, AddLemmas.facility_table}, queries.KeyLemmas.{both_tests, one_named}}
 use Rattle.club_tables.proofs.queries.MemberLemmas.{whole_above}
 use Rattle.club_tables.proofs.statements.JoinLemmas.{is_counted, counted_some, passes, shown, with_count, answered_counted, counts_elements}
-use Rattle.club_core.specs.Office.{are_limits}
-use Rattle.club_tables.specs.ChangeStatements.{numbers_values}
 
 abbrev numbers_terms : List Term
 numbers_terms = col 1 0 ∷ col 1 0 ∷ col 1 1 ∷ col 1 2 ∷ col 0 1 ∷ col 0 2 ∷ col 0 3 ∷ col 0 4 ∷ []

@@ -4,11 +4,11 @@ use Rattle.club_tables.proofs.Common.{bytes_eq, bytes_eq-Decides, and_parts, and
 use Rattle.club_tables.proofs.Common.{Rows, MemberRow, Facility, Key, Booking, SlotRow, Less, binary, value_cmp, rowid, Has, all_has, ascending-map}
 use Rattle.club_tables.proofs.Common.{ascending_from_map, IsTable, club_schema, member_values, facility_values, key_values, slot_values, booking_values}
 use Rattle.club_tables.proofs.Common.{members_tree, facilities_tree, keys_tree, slots_tree, bookings_tree, IsRowOf, first_key, contains_had, value_cmp_total}
-use Rattle.club_tables.proofs.{Common.{all-map, all_from_map, all_weaker, false_from_ne_true, true≢false, arith}, statements.UpdateLemmas.Below}
+use Rattle.club_tables.proofs.Common.{all-map, all_from_map, all_weaker, false_from_ne_true, true≢false, arith, some_has, plain, joined}
+use Rattle.club_tables.proofs.statements.UpdateLemmas.{Below}
 use Rattle.club_tables.proofs.{statements.SelectLemmas.{any_filtered_is, as_many, Apart, paired, row_of, text_equal, whole_equal}, lists.OwnerLemmas.apart_last}
-use Rattle.sqlite_rules.proofs.{ListLemmas.{some_has, some_from}, ProbeLemmas.mapped_has}
+use Rattle.sqlite_rules.proofs.{ListLemmas.some_from, ProbeLemmas.mapped_has}
 use Rattle.sqlite_schema.specs.{Names.same_name, Rules.{Obeys, agree, differ}, declared.schema.Constraint.TheVariants.{Unique, ForeignKey}}
-use Rattle.sqlite_value.specs.Keys.{plain, joined}
 
 obeys : {db : Database} {rows : Rows} → HoldsRows db rows → Obeys club_schema db.trees
 obeys {db = db} holds_rows = subst (λ s. Obeys s db.trees) holds_rows.schema holds_rows.database.obeys

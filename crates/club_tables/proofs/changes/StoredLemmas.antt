@@ -5,11 +5,10 @@ use Rattle.club_tables.proofs.Common.{bytes_eq, map-append, list_any-append, byt
 use Rattle.club_tables.proofs.Common.{Key, OlderRoot, Member, SlotUse, InsertMember, InsertKey, MarkRevoked, ReplaceRoot, MarkClosed, InsertBooking, after}
 use Rattle.club_tables.proofs.Common.{revoked_key, good_until, rotated_key, same_slot, persons_of, Club, IsSound, key_named, is_key_of, is_closed, slot_use}
 use Rattle.club_tables.proofs.Common.{older_root_of, IsOwnedBy, HasRoot, is_in, taken_in, cost_of, MemberRow, Rows, OlderRow, IsStoredAs, older_by, member_row}
-use Rattle.club_tables.proofs.{Common.{used_by, persons_taken, map-map, MarkOpen}, lists.KeyedRows.{same_itself, put_slot, use_put, slot_once}}
+use Rattle.club_tables.proofs.{Common.{used_by, persons_taken, map-map, MarkOpen, closed_but}, lists.KeyedRows.{same_itself, put_slot, use_put, slot_once}}
 use Rattle.club_tables.proofs.changes.{AddLemmas.{new_row, close_use, open_use, take_use, put_older, older_put, put_once as olders_once}, ChangeLemmas.used_row}
 use Rattle.club_tables.proofs.{lists.OwnerLemmas.{map_agree, apart_last, not_among, unequal, sum_more, owner_is}, statements.UpdateLemmas.each_of}
 use Rattle.club_tables.proofs.{queries.KeyLemmas.same_slots, statements.SelectLemmas.{apart_from_pairs, none_pass, filter_same, none_of, found}}
-use Rattle.club_core.specs.After.{closed_but}
 
 -- Lemmas about the rows of members.
 

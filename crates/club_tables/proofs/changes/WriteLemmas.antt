@@ -3,13 +3,11 @@ use Rattle.club_tables.proofs.Common.{◌≡◌, ◌<◌, length, List, [], ◌�
 use Rattle.club_tables.proofs.Common.{IfErr-weaker, on_err_weaker, Trees, Ghosts, Database, HasCleanDisk, Survives, Held, state, after, IsSound, FitsClub, Club}
 use Rattle.club_tables.proofs.Common.{StoreFault, HoldsClub, IsLeftOf, Represents, ChangesClub, IsChangeFault, IsRunFault, InLimits, BoundStatement, Ran}
 use Rattle.club_tables.proofs.Common.{IsKept, transaction_start, Commits, FailsToRun, AreStatementsOf, statements_of, ℕ, ◌≤◌, Member, Booking, IsMember}
-use Rattle.club_tables.proofs.{Common.{IsBooking, MarkCancelled, cancelled_booking, ReplaceQuota, bytes_eq}, crashes.RepresentsLemmas.{represents_by, at_once}}
-use Rattle.club_tables.proofs.{changes.CancelLemmas.mapped_holds, opening.OpenLemmas.{IsSettled, settles}, queries.KeyLemmas.is_numbered}
+use Rattle.club_tables.proofs.Common.{IsBooking, MarkCancelled, cancelled_booking, ReplaceQuota, bytes_eq, quota_limit, member_with_quota, Storage, Change}
+use Rattle.club_tables.proofs.{Common.SuitingChangesKeepSound, changes.PlanLemmas.{plan, made}, queries.KeyLemmas.is_numbered, statements.SelectLemmas.found}
+use Rattle.club_tables.proofs.{crashes.RepresentsLemmas.{represents_by, at_once}, opening.OpenLemmas.{IsSettled, settles}, changes.CancelLemmas.mapped_holds}
 use Rattle.club_tables.proofs.crashes.SurviveLemmas.{less_in_turn, may_commit, kept_when_idle, commits_nothing, survives_itself}
-use Rattle.club_tables.proofs.{statements.SelectLemmas.found, changes.{PlanLemmas.{plan, made}, FitLemmas.fits_if_ran}}
-use Rattle.club_rows.specs.Limits.{quota_limit}
-use Rattle.club_core.specs.{After.member_with_quota, declared.{store.StoreFault.TheVariants.Storage, change.Change.Change}}
-use Rattle.club_laws.specs.SoundRuns.{SuitingChangesKeepSound}
+use Rattle.club_tables.proofs.changes.FitLemmas.{fits_if_ran}
 
 module _ {S : Type 0} (g : Ghosts S) (all : List BoundStatement) (some : 0 < length all) (old new : Held S)
     (survives : Survives (state g old) (state g new) (λ trees. (db : Database) × Ran g 1 all old db × (trees ≡ db.trees)))

@@ -1,13 +1,11 @@
 -- Lemmas about the states that a crash during a transaction may leave, and about statements that run
 -- one after another in a transaction.
 use Rattle.club_tables.proofs.Common.{◌≡◌, ℕ, List, refl, arith, Err, IsTrue, true, rules, Ghosts, Trees, Database, State, HasCleanDisk, Survives, IsRolledBack}
-use Rattle.club_tables.proofs.Common.{Shown, FailsToQuery, IsNotRun, IsTooLate, ExecutesInside, Held, state, survives_then, Row, Error, StoreFault}
+use Rattle.club_tables.proofs.Common.{Shown, FailsToQuery, IsNotRun, IsTooLate, ExecutesInside, Held, state, survives_then, Row, Error, StoreFault, Statement}
 use Rattle.club_tables.proofs.Common.{BoundStatement, Ran, IsUntouched, MayCommit, IsAfterReadings, IsOpeningFault, ◌+◌, ◌<◌, ◌≤◌, [], ◌∷◌, ◌++◌, length, map}
 use Rattle.club_tables.proofs.Common.{take, get_or, zero, suc, Ok, inl, inr, sym, subst, add-one, length-map, map-append, Executes, survives_begin}
-use Rattle.club_tables.proofs.Common.{bound_statement, RanInTurn, transaction_start, fault_by, StopsAt, FailsInTurn, Rows, HoldsRows}
-use Rattle.sqlite.specs.Steps.{FailsToCommit}
-use Rattle.std.proofs.Math.Seq.{take-suc, take_all}
-use Rattle.club_tables.specs.declared.transaction.Statement.{Statement}
+use Rattle.club_tables.proofs.Common.{bound_statement, RanInTurn, transaction_start, fault_by, StopsAt, FailsInTurn, Rows, HoldsRows, FailsToCommit, take-suc}
+use Rattle.std.proofs.Math.Seq.{take_all}
 
 pub was_clean : (old new : State) (P : Trees → Type 0) → Survives old new P → HasCleanDisk new → HasCleanDisk old
 was_clean old new P survives clean = omega (arith, survives.clean)

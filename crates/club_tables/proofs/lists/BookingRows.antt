@@ -4,11 +4,9 @@ use Rattle.club_tables.proofs.Common.{◌≡◌, ℕ, zero, suc, ◌+◌, ◌<�
 use Rattle.club_tables.proofs.Common.{All, slice_index_or, option_map, AllByRecursion, take_more, All-from_recursion, Row, truth, Booking, Club, IsBooking}
 use Rattle.club_tables.proofs.Common.{Slot, SlotUse, slot_use, booking_values, HasValues, key_values, older_root_values, member_values, facility_values}
 use Rattle.club_tables.proofs.Common.{ShowsDay, AreBookings, IsUse, IsFirst, IsBookingIn, IsBookingNamed, option_to_list, Facility, Key, OlderRoot, MemberRow}
-use Rattle.club_tables.proofs.Common.{ℤ, pos, ◌+ℤ◌, Less, ap, int_cmp_is, AllZip, fold, Int, value_cmp_total, value_cmp-Int, id_in, IsRowOf, Holds}
-use Rattle.club_core.specs.Sheet.{AreRowsOf}
-use Rattle.club_tables.specs.Use.{ShowsUse}
-use Rattle.std.proofs.lemmas.{Iterator.Adapters.option_map_id, Int.ints}
-use Rattle.club_rows.specs.{Key.{key_of_row, row_of_key}, declared.key.KeyRow.KeyRow}
+use Rattle.club_tables.proofs.Common.{ℤ, pos, ◌+ℤ◌, Less, ap, int_cmp_is, AllZip, fold, Int, value_cmp_total, value_cmp-Int, id_in, IsRowOf, Holds, AreRowsOf}
+use Rattle.club_tables.proofs.Common.{ShowsUse, option_map_id, ints, row_of_key}
+use Rattle.club_rows.specs.{Key.key_of_row, declared.key.KeyRow.KeyRow}
 use Rattle.sqlite_value.specs.Order.{Row, value_cmp}
 use Rattle.sqlite_trees.{specs.Tree.{rowid, put_row, IsTable}, proofs.TreeLemmas.IsTable-put_row}
 use Rattle.sqlite_rules.specs.Edit.{next_rowid}

@@ -3,10 +3,9 @@ use Rattle.club_tables.proofs.Common.{◌≡◌, ◌≢◌, Bool, true, false, c
 use Rattle.club_tables.proofs.Common.{true≢false, ℤ, find, option_map, AllPairs, unwrap_or, option_or, list_any, false_from_ne_true, slots_tree, find-append}
 use Rattle.club_tables.proofs.Common.{list_any_at, Value, Int, first_key, Table, conflicts, Slot, SlotUse, same_slot, slots_table, club_schema, name_values}
 use Rattle.club_tables.proofs.Common.{slot_values, SlotRow, no_slot_use, stored_slot_use, arith, bytes_eq-Decides, nat_tests, ◌⊎◌, inl, inr, filter, slice_get}
-use Rattle.club_tables.proofs.{Common.{Has, has_kept, has_contained, Club, taken_in, row_of, Rows, IsStoredAs}, statements.SelectLemmas.{any_counts, find_some}}
-use Rattle.club_tables.proofs.statements.SelectLemmas.{found, Apart, apart_from_pairs, text_equal, whole_equal, pairs_mapped, IsLone, find_first, only}
-use Rattle.club_tables.proofs.{statements.PutLemmas.put_among, queries.KeyLemmas.{same_slots, find_mapped, one_slot}}
-use Rattle.std.proofs.lemmas.List.Quantifiers.{all_pairs_push}
+use Rattle.club_tables.proofs.{Common.{Has, has_kept, has_contained, Club, taken_in, row_of, Rows, IsStoredAs, all_pairs_push}, statements.PutLemmas.put_among}
+use Rattle.club_tables.proofs.statements.SelectLemmas.{any_counts, find_some, found, Apart, apart_from_pairs, text_equal, whole_equal, pairs_mapped, IsLone}
+use Rattle.club_tables.proofs.{statements.SelectLemmas.{find_first, only}, queries.KeyLemmas.{same_slots, find_mapped, one_slot}}
 
 pub absent : {X : Type 0} (p : X → Bool) (xs : List X) → list_any p xs ≡ false → find p xs ≡ None
 absent p [] none = refl

@@ -9,11 +9,10 @@ use Rattle.club_tables.proofs.Common.{HoldsRowsWith, Represents, RepresentsVersi
 use Rattle.club_tables.proofs.Common.{false, true≢false, BoundStatement, Schema, created, members_table, facilities_table, keys_table, slots_table}
 use Rattle.club_tables.proofs.Common.{bookings_table, six_tables, old_roots_table, keys_by_member, first_schema, bookings_by_key, MAKE_DESK, MAKE_MEMBERS}
 use Rattle.club_tables.proofs.Common.{MAKE_FACILITIES, MAKE_KEYS, MAKE_SLOTS, MAKE_BOOKINGS, MAKE_KEYS_BY_MEMBER, MAKE_OLD_ROOTS, MAKE_BOOKINGS_BY_KEY}
-use Rattle.club_tables.proofs.{crashes.RepresentsLemmas.represents_on, statements.SelectLemmas.{answered, shows}, opening.VersionLemmas.desk_made}
+use Rattle.club_tables.proofs.{Common.{without_olders, all_both}, crashes.RepresentsLemmas.represents_on, statements.SelectLemmas.{answered, shows}}
+use Rattle.club_tables.proofs.opening.VersionLemmas.{desk_made}
 use Rattle.club_tables.proofs.{lists.BookingRows.{holds_more, holds_none}, statements.InsertLemmas.{creates, indexes, inserts, cast_null, cast_int}}
 use Rattle.club_tables.proofs.statements.{UpdateLemmas.{updates, FindsOne, one_changed}, MeansLemmas.{Means, but, others_kept, trees_kept, Makes, MakesIndex}}
-use Rattle.club_tables.specs.Tables.{without_olders}
-use Rattle.sqlite_trees.proofs.ListLemmas.{all_both}
 
 abbrev pub MakesEach : Schema → List (List ℕ × Table) → Type 0
 MakesEach schema [] = Unit {0}

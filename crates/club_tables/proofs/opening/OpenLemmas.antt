@@ -7,10 +7,10 @@ use Rattle.club_tables.proofs.Common.{club_schema, first_schema, unindexed_schem
 use Rattle.club_tables.proofs.Common.{Represents, RepresentsVersion1, RepresentsVersion2, IsFound, IsOpeningBatch, RunsBatch, table_batch, BoundStatement}
 use Rattle.club_tables.proofs.Common.{Asked, Ran, IsKept, Commits, Err, All, ◌+◌, ◌<◌, ◌≤◌, ◌++◌, length, map, take, get_or, zero, suc, Bor, add-one}
 use Rattle.club_tables.proofs.Common.{IfErr-weaker, map-append, All-push, Survives, IsAfterReadings, FailsToRun, IsOpeningFault, Opens, YieldsRows, FoundReady}
-use Rattle.club_tables.proofs.{Common.{OneOf, IsUntouched, IsIdle, IsUnderstood}, crashes.RepresentsLemmas.{represents_by, Asks, asked_open, asked_reads}}
-use Rattle.club_tables.proofs.{crashes.SurviveLemmas.{may_commit, was_clean, after_one, commits_after}, statements.SelectLemmas.{selected, short_permutation}}
-use Rattle.club_tables.proofs.opening.MakingLemmas.{never_ran, makes_again, made_tables}
-use Rattle.std.proofs.Math.Seq.{take-suc, take_all}
+use Rattle.club_tables.proofs.{Common.{OneOf, IsUntouched, IsIdle, IsUnderstood, take-suc}, opening.MakingLemmas.{never_ran, makes_again, made_tables}}
+use Rattle.club_tables.proofs.{crashes.RepresentsLemmas.{represents_by, Asks, asked_open, asked_reads}, statements.SelectLemmas.{selected, short_permutation}}
+use Rattle.club_tables.proofs.crashes.SurviveLemmas.{may_commit, was_clean, after_one, commits_after}
+use Rattle.std.proofs.Math.Seq.{take_all}
 
 abbrev pub IsSettled : State → Type 0
 IsSettled state = (trees : Trees) → IsTrue state.is_open → state.may_leave trees → trees ≡ state.committed.trees

@@ -2,15 +2,13 @@
 -- version.
 use Rattle.club_tables.proofs.Common.{◌≡◌, ℕ, List, [], false, Option, None, Ok, Err, refl, sym, subst, ◌∙◌, true≢false, ◌∷◌, Bool, true, codes, is_ok}
 use Rattle.club_tables.proofs.Common.{if◌then◌else◌, option_or, everything, Schema, Row, Reads, understood, reads_listing, listing_schema, if_select}
-use Rattle.club_tables.proofs.Common.{IsSourceOf, State, Shown, VERSION, MAKE_DESK, YieldsRows, HasNoDesk, arith}
+use Rattle.club_tables.proofs.Common.{IsSourceOf, State, Shown, VERSION, MAKE_DESK, YieldsRows, HasNoDesk, arith, Returning, Parsed}
 use Rattle.sqlite_schema.specs.{Names.{same_name, table_named, view_named, index_named}, declared.command.Command.{TheVariants.{CreateTable, Nothing}, Command}}
-use Rattle.sqlite_schema.specs.declared.command.Returning.{Returning}
 use Rattle.sqlite_resolve.specs.{Body.{table_in, bound, bounds, body}, Lowering.{Checked, and_then, take_slot}, declared.compiled.Compiled.Compiled}
 use Rattle.sqlite_resolve.specs.Compile.{first, returning, command, meaning, planned, with_command, compiled, is_reserved, creates, is_attached, read}
 use Rattle.sqlite_resolve.specs.Program.{source, sources, viewing, single, alone, whole, with as with_tables, level, query_to, query}
 use Rattle.sqlite_resolve.specs.{Select.{constant_or, parts, named, paging}, declared.error.CompileError.{TheVariants.{NoSuchTable, Unsupported}, CompileError}}
 use Rattle.sqlite_ast.specs.declared.{Core.out-Core, Select.{Select, out-Select}, Source.{Source, out-Source}, Statement.Statement}
-use Rattle.sqlite_syntax.specs.declared.statement.Parsed.{Parsed}
 use Rattle.sqlite_ast.specs.declared.Origin.TheVariants as origin
 use Rattle.sqlite_ast.specs.declared.Statement.TheVariants as written
 

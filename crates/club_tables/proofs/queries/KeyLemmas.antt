@@ -7,10 +7,9 @@ use Rattle.club_tables.proofs.Common.{Compare, Eq, Key, Facility, key_named, mem
 use Rattle.club_tables.proofs.Common.{is_under, booking_under, slot_use, MemberRow, KEY, MEMBER, FACILITY, OLDER_ROOT, SLOT, BOOKING, COSTS_UNDER_KEY}
 use Rattle.club_tables.proofs.Common.{club_schema, key_values, member_values, facility_values, older_values, older_root_values, whole, name_values, slot_values}
 use Rattle.club_tables.proofs.Common.{use_values, booking_values, cost_values, OlderRow, member_row, SlotRow, no_slot_use, row_of, Holds, keys_tree}
-use Rattle.club_tables.proofs.Common.{members_tree, facilities_tree, olders_tree, slots_tree, bookings_tree, select, is_given, nat_tests}
+use Rattle.club_tables.proofs.Common.{members_tree, facilities_tree, olders_tree, slots_tree, bookings_tree, select, is_given, nat_tests, ShowsUse}
 use Rattle.club_tables.proofs.crashes.RepresentsLemmas.{Asks, Shows, keys_held, bookings_held, shown_by}
 use Rattle.club_tables.proofs.statements.SelectLemmas.{pairs_mapped, text_equal, apart_from_pairs, one_passes, short_permutation, whole_equal, one_listed}
-use Rattle.club_tables.specs.Use.{ShowsUse}
 
 pub find_mapped : {X Y : Type 0} (p : Y → Bool) (f : X → Y) (xs : List X) → find p (map f xs) ≡ option_map f (find (λ x. p (f x)) xs)
 find_mapped p f [] = refl

@@ -7,14 +7,12 @@ use Rattle.club_tables.proofs.Common.{Compare, Eq, Gt, Ge, binary, is_true, Row,
 use Rattle.club_tables.proofs.Common.{Booking, IsBooking, is_to_come, count_to_come, Club, is_key_of, bookings_of, OPEN, club_schema, whole, key_values}
 use Rattle.club_tables.proofs.Common.{booking_values, keys_tree, bookings_tree, select, is_given, map-flat_map, subst, Ordering, Less, nat_cmp, ◌==◌, IsSorted}
 use Rattle.club_tables.proofs.Common.{on, then_cmp, is_gt, IsTotalOrder, ranked, nat_cmp_total, in_order, nat_list_cmp_total, on_total, then_total, ascending}
-use Rattle.club_tables.proofs.Common.{value_cmp-Text, then-Equal, value_cmp, key_cmp, DAY, ShowsDay}
+use Rattle.club_tables.proofs.Common.{value_cmp-Text, then-Equal, value_cmp, key_cmp, DAY, ShowsDay, start_of, is_on, Precedes}
 use Rattle.club_tables.proofs.crashes.RepresentsLemmas.{Asks, Shows, asked_tables, asked_reads, keys_held, bookings_held}
 use Rattle.club_tables.proofs.queries.KeyLemmas.{no_truth, booking_terms, booking_names, is_uncancelled}
 use Rattle.club_tables.proofs.statements.SelectLemmas.{apart_from_pairs, text_equal, whole_equal, filter_same, pairs_from_apart, selected_in_order}
 use Rattle.club_tables.proofs.statements.{SelectLemmas.{none_greater, apart-permutation}, JoinLemmas.{filter_filter, IsElsewhere, pairs_counted, selected_both}}
-use Rattle.club_values.specs.Slot.{start_of}
 use Rattle.std.{proofs.{Common.int_cmp, lemmas.{List.Kept.AllPairs-filter, Map.Lookups.{exact_bytes, exact_unsigned}}}, specs.Cmp.Lexicographic.slice_cmp}
-use Rattle.club_core.specs.Sheet.{is_on, Precedes}
 
 abbrev under_it : Term
 under_it = op2 (Compare Eq Binary) (col 1 1) (col 2 1)

@@ -5,9 +5,9 @@ use Rattle.club_tables.proofs.Common.{sum_by, bytes_eq, and_parts, inl, inr, ari
 use Rattle.club_tables.proofs.Common.{IsPermutation, All-get_or, Has, has_kept, has_filtered, has_contained, contains_had, club_schema, Ghosts, Held, Club}
 use Rattle.club_tables.proofs.Common.{Booking, Slot, SlotRow, persons_of, is_in, taken_in, is_at, most_taken_in, slot_values, slots_tree, whole, whole_in}
 use Rattle.club_tables.proofs.Common.{IsStoredAs, Rows, IsTakenRow, IsMostIn, most_in, TAKEN, and-true, understood, take_more, ◌-◌, sum_by-cons}
-use Rattle.club_tables.proofs.{Common.{sum_by-IsPermutation, cost_of, AreCosts, cost_values, cost_in, IsCostIn, IsCostRow}, statements.SelectLemmas.text_equal}
-use Rattle.club_tables.proofs.{queries.KeyLemmas.same_slots, crashes.RepresentsLemmas.{Asks, Shows, shown_by}, lists.KeyedRows.{row_taken, slot_taken_by}}
-use Rattle.club_rows.specs.Limits.{places_limit}
+use Rattle.club_tables.proofs.Common.{sum_by-IsPermutation, cost_of, AreCosts, cost_values, cost_in, IsCostIn, IsCostRow, places_limit}
+use Rattle.club_tables.proofs.{statements.SelectLemmas.text_equal, crashes.RepresentsLemmas.{Asks, Shows, shown_by}, lists.KeyedRows.{row_taken, slot_taken_by}}
+use Rattle.club_tables.proofs.queries.KeyLemmas.{same_slots}
 use Rattle.std.proofs.lemmas.List.{Folds.fold-map, Sorted.{Contains-permutation, IsPermutation-sym}, Sums.fold-append}
 use Rattle.sqlite_value.specs.Order.{Row}
 

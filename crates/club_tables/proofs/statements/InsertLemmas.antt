@@ -4,12 +4,10 @@ use Rattle.club_tables.proofs.Common.{slice_get, sym, ap, subst, subst₂, ◌�
 use Rattle.club_tables.proofs.Common.{Null, Int, Row, Trees, put_row, Term, Schema, Table, Values, Command, Insert, CreateTable, CreateIndex, created}
 use Rattle.club_tables.proofs.Common.{next_tree, is_used, KeepsRows, cast, cast_row, Chosen, Above, Edit, edit_of, edited, next_rowid, with_rowid, taken_by}
 use Rattle.club_tables.proofs.Common.{works, Enforced, Written, Task, stamped, count_of, rowids_for, Error, Database, IsDatabase, value_rows, understood, State}
-use Rattle.club_tables.proofs.Common.{mode_of, Runs, Writes, Executes, statement_of, runs_as, one_step}
+use Rattle.club_tables.proofs.Common.{mode_of, Runs, Writes, Executes, statement_of, runs_as, one_step, lacks_sequence, Integer, Index, indexed}
 use Rattle.club_tables.proofs.statements.MeansLemmas.{Makes, MakesIndex, Means, Wrote}
 use Rattle.sqlite_rules.{proofs.RowLemmas.length-numbered, specs.Action.Writes as ActionWrites}
-use Rattle.sqlite.specs.{Does.{Tally, Does, OnTable, OnRows, WritesRows, lacks_sequence}, Kind.TheVariants.Integer, Ops.unary}
-use Rattle.sqlite_schema.specs.declared.schema.Index.{Index}
-use Rattle.sqlite_catalog.specs.Change.{indexed}
+use Rattle.sqlite.specs.{Does.{Tally, Does, OnTable, OnRows, WritesRows}, Ops.unary}
 
 pub went : {B E R : Type 0} {b : B} {Stops : E → Type 0} → ((stop : E) × Stops stop × (Ok b ≡ Err stop)) ⊎ R → R
 went (inl stopped) = absurd (let e = stopped.2 in cc)

@@ -2,10 +2,9 @@
 use Rattle.club_tables.proofs.Common.{◌≡◌, ℕ, ℤ, Bool, true, false, cond, ◌||◌, ◌&&◌, List, [], ◌∷◌, map, refl, ap, subst, ◌∙◌, ◌≤◌, pos, min, length, arith}
 use Rattle.club_tables.proofs.Common.{filter, flat_map, IsPermutation, AllByRecursion, list_all, list_any, length-map, Int, Row, Term, Env, holds, eval_all}
 use Rattle.club_tables.proofs.Common.{inner, end, IsAnswer, output, counted, Select, Database, Reads, Answers, map-map, map-flat_map, flat_map-map}
-use Rattle.club_tables.proofs.Common.{flat_map_same_on, sym, ◌+◌, length-append, is_true, Holds, select, AllZip, Has, has_kept, IsRowOf, nat_tests}
+use Rattle.club_tables.proofs.Common.{flat_map_same_on, sym, ◌+◌, length-append, is_true, Holds, select, AllZip, Has, has_kept, IsRowOf, nat_tests, some_has}
 use Rattle.club_tables.proofs.statements.SelectLemmas.{as_many, Apart, pick_by_if, plain_answer, picked, none_of, shown_of, row_of, paired as with_rowids}
 use Rattle.club_tables.proofs.statements.SelectLemmas.{any_filtered_is}
-use Rattle.sqlite_rules.proofs.ListLemmas.{some_has}
 
 pub filter_filter : {X : Type 0} (p q : X → Bool) (xs : List X) → filter p (filter q xs) ≡ filter (λ x. q x && p x) xs
 filter_filter p q [] = refl

@@ -4,9 +4,7 @@ use Rattle.club_tables.proofs.Common.{AllByRecursion, Table, Database, IsDatabas
 use Rattle.club_tables.proofs.Common.{command_of, statement_of, Trees, State, Executes, Facility, Key, Booking, club_schema, version_values, member_values}
 use Rattle.club_tables.proofs.Common.{facility_values, key_values, slot_values, booking_values, older_values, MemberRow, Rows, SlotRow, OlderRow, Holds, rules}
 use Rattle.club_tables.proofs.Common.{HoldsTrees, HoldsRows, members_tree, facilities_tree, keys_tree, slots_tree, bookings_tree, olders_tree, BoundStatement}
-use Rattle.sqlite.specs.{Compile.table_defined_by, Does.lacks_sequence}
-use Rattle.sqlite_resolve.specs.Compile.{index_defined_by}
-use Rattle.sqlite_schema.specs.declared.schema.Index.{Index}
+use Rattle.club_tables.proofs.Common.{table_defined_by, lacks_sequence, index_defined_by, Index}
 
 -- SQLite compiles the SQL text into this command for a database with this schema.
 pub record Means (schema : Schema) (text : List ℕ) (command : Command) : Type 0 where

@@ -6,15 +6,13 @@ use Rattle.club_tables.proofs.Common.{one_permutation, IsPlain, command_of, list
 use Rattle.club_tables.proofs.Common.{col, op2, eval_all, inner, end, Values, Command, InsertOr, conflicts, AreConflicts, Table, cast_row, Edit, next_rowid}
 use Rattle.club_tables.proofs.Common.{with_rowid, Chosen, Enforced, Written, Task, nothing, shown, count_of, Upserts, Clears, Puts, Resolves, Tries, TriesEach}
 use Rattle.club_tables.proofs.Common.{Meets, value_rows, State, Executes, understood, table_of, club_schema, select, Holds, Equal-is, binary, is_true, Has}
-use Rattle.club_tables.proofs.Common.{list_all, holds, and_comm, ◌&&◌, find, length_permutation, option_to_list, subst₂, if◌then◌else◌}
+use Rattle.club_tables.proofs.Common.{list_all, holds, and_comm, ◌&&◌, find, length_permutation, option_to_list, subst₂, if◌then◌else◌, Column, list_all-append}
 use Rattle.club_tables.proofs.statements.SelectLemmas.{IsLone, no_pair, one_listed, Apart, one_passes, test, shows, answered, row_of, Paired, paired, only}
 use Rattle.club_tables.proofs.statements.{SelectLemmas.{from_truth_is, lone_pair, any_filtered_is}, JoinLemmas.filter_filter}
 use Rattle.club_tables.proofs.{statements.InsertLemmas.{Leaves, task_of, went, same_value, wrote_rows, edited_alone}, lists.BookingRows.holds_more}
 use Rattle.club_tables.proofs.statements.{UpdateLemmas.{Updates, update_leaves, no_works, replaced, Below}, MeansLemmas.{Means, Wrote}}
 use Rattle.sqlite_schema.specs.declared.{command.{Conflict.TheVariants.Abort, Upsert.Upsert}, schema.Reference.Reference, program.Program.Program}
-use Rattle.sqlite_schema.specs.declared.schema.Column.{Column}
 use Rattle.sqlite_rules.specs.Action.{Writes as ActionWrites}
-use Rattle.std.proofs.lemmas.List.Folds.{list_all-append}
 
 id_equal : (a b : ℤ) → is_true (binary (Compare Eq Binary) (Int a) (Int b)) ≡ is_eq (value_cmp (Int a) (Int b))
 unfolding binary

@@ -8,10 +8,9 @@ use Rattle.club_tables.proofs.Common.{Text, Blob, Null, Binary, value_cmp-Int, v
 use Rattle.club_tables.proofs.Common.{Trees, Term, Env, holds, eval_all, inner, end, IsAnswer, Output, output, Query, output_cmp, key_cmp, Select, Database}
 use Rattle.club_tables.proofs.Common.{Reads, Answers, one_permutation, IsRowOf, Holds, select, Has, map-map, filter-map, ascending-filter, ascending-map}
 use Rattle.club_tables.proofs.Common.{all_of, pull_back, all-permutation, along_permutation, is_gt, ordering_reverse, IsTotalOrder, length-map, get_or-map}
-use Rattle.club_tables.proofs.Common.{option_to_list, Contains, not, list_any, list_any_at, has_found, has_kept, contains_had, all_from}
-use Rattle.std.{proofs.{Math.Path.ap₂, lemmas.{List.Kept.AllPairs-cons, Map.Text.is_eq-slice_cmp}}, specs.declared.cmp.Ordering.Ordering}
-use Rattle.sqlite.specs.Program.{overlay}
-use Rattle.sqlite_trees.specs.Tree.{IsAscending}
+use Rattle.club_tables.proofs.Common.{option_to_list, Contains, not, list_any, list_any_at, has_found, has_kept, contains_had, all_from, ap₂, overlay}
+use Rattle.club_tables.proofs.Common.{IsAscending}
+use Rattle.std.{proofs.lemmas.{List.Kept.AllPairs-cons, Map.Text.is_eq-slice_cmp}, specs.declared.cmp.Ordering.Ordering}
 use Rattle.sqlite_value.specs.declared.keys.Key.{Key}
 pub use Rattle.sqlite_trees.proofs.ListLemmas.{filter_same}
 pub use Rattle.sqlite_trees.proofs.ListLemmas.{filter_none as none_pass}

@@ -5,14 +5,12 @@ use Rattle.club_tables.proofs.Common.{cast_row, AllByRecursion, AllZip, filter_m
 use Rattle.club_tables.proofs.Common.{edited, taken_by, works, work_by, pairs, deed_for, Enforced, Written, Answers, Database, State, Executes, club_schema}
 use Rattle.club_tables.proofs.Common.{select, Holds, IsRowOf, is_eq, ordering_reverse, tied_itself, Value, value_cmp_total, rowid, has_rowid, put_row}
 use Rattle.club_tables.proofs.Common.{without_rowid, IsTable, filter-map, filter_all, filter_same, all_weaker, all_from_map, ascending-map, ascending_from_map}
-use Rattle.club_tables.proofs.Common.{all_has, has_filtered, one_permutation, HoldsRows, Rows, option_to_list, Trees}
+use Rattle.club_tables.proofs.Common.{all_has, has_filtered, one_permutation, HoldsRows, Rows, option_to_list, Trees, parent_key, ap₂}
 use Rattle.club_tables.proofs.statements.{InsertLemmas.{Leaves, task_of, went, same_value, wrote_rows, edited_alone}, MeansLemmas.{Means, Wrote, WhenRan}}
 use Rattle.club_tables.proofs.statements.SelectLemmas.{answered, shows, test, row_of, paired, lone_pair, one_listed, as_many, find_some, Implies, agree}
 use Rattle.club_tables.proofs.statements.SelectLemmas.{contains_counts, found, wider_is}
 use Rattle.sqlite_rules.{proofs.RowLemmas.length-numbered, specs.Calls.ids_of}
-use Rattle.sqlite_schema.specs.Rules.{parent_key}
 use Rattle.sqlite.specs.Rows.{Updates as WritesUpdate}
-use Rattle.std.proofs.Math.Path.{ap₂}
 pub use Rattle.sqlite_trees.proofs.ListLemmas.{all_of as each_of}
 
 abbrev pub Below : Row → Row → Type 0

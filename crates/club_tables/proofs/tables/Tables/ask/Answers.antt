@@ -1,6 +1,5 @@
-use Rattle.club_tables.proofs.Common.{arith, inl, inr, refl, HasCleanDisk, state, FailsToQuery, transaction_start}
+use Rattle.club_tables.proofs.Common.{arith, inl, inr, refl, HasCleanDisk, state, FailsToQuery, transaction_start, bound}
 use Rattle.club_tables.proofs.crashes.SurviveLemmas.{Keeps, shown_keeps, fails_keeps, too_late_keeps, then_rolled}
-use Rattle.sqlite.specs.Values.{bound}
 use Rattle.club_tables.proofs.tables.Tables.ask.Goals as goal
 
 pub returns-in-Err-clause-kept : goal.returns-in-Err-clause-kept

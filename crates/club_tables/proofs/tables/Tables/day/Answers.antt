@@ -1,6 +1,5 @@
-use Rattle.club_tables.proofs.{Common.{rules, Vec, IfOk-weaker, Booking, OfDay, AreBookings}, lists.BookingRows.{day_of_rows, within_limits}}
+use Rattle.club_tables.proofs.{Common.{rules, Vec, IfOk-weaker, Booking, OfDay, AreBookings, Global}, lists.BookingRows.{day_of_rows, within_limits}}
 use Rattle.club_tables.proofs.{queries.MemberLemmas.day_shown, crashes.RepresentsLemmas.read_by}
-use Rattle.std.specs.declared.alloc.Global.{Global}
 use Rattle.club_tables.proofs.tables.Tables.day.Goals as goal
 
 pub returns-in-Err-clause-reads : goal.returns-in-Err-clause-reads

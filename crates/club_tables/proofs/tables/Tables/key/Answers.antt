@@ -1,6 +1,5 @@
-use Rattle.club_tables.proofs.{Common.{OfKey, IsKeyIn, key_named, key_values}, lists.BookingRows.{first_of, one_key}, crashes.RepresentsLemmas.read_answer}
-use Rattle.club_tables.proofs.queries.KeyLemmas.{key_shown}
-use Rattle.club_rows.specs.Key.{row_of_key}
+use Rattle.club_tables.proofs.{Common.{OfKey, IsKeyIn, key_named, key_values, row_of_key}, lists.BookingRows.{first_of, one_key}, queries.KeyLemmas.key_shown}
+use Rattle.club_tables.proofs.crashes.RepresentsLemmas.{read_answer}
 use Rattle.club_tables.proofs.tables.Tables.key.Goals as goal
 
 pub returns-clause-reads : goal.returns-clause-reads

@@ -1,9 +1,8 @@
 use Rattle.club_tables.proofs.Common.{rules, arith, map, inl, inr, refl, ◌∙◌, ℕ, ◌<◌, List, length, take, get_or, Err, StoreFault, Ghosts, HasCleanDisk}
 use Rattle.club_tables.proofs.Common.{Survives, IsRolledBack, Held, state, survives_then, survives_begin, RanInTurn, transaction_start, bound_statement}
-use Rattle.club_tables.proofs.{Common.{Commits, StopsAt}, crashes.{SurviveLemmas.{commit_survives, survives_as}, RepresentsLemmas.survives_none}}
-use Rattle.club_tables.proofs.crashes.SurviveLemmas.{was_clean, Keeps, commit_keeps, execute_keeps, then_rolled, turn_at, turn_all, fails_at, fails_last}
-use Rattle.club_core.specs.declared.store.StoreFault.TheVariants.{Storage}
-use Rattle.club_tables.specs.declared.transaction.Statement.{Statement}
+use Rattle.club_tables.proofs.{Common.{Commits, StopsAt, Storage, Statement}, crashes.SurviveLemmas.{execute_keeps, then_rolled, turn_at}}
+use Rattle.club_tables.proofs.crashes.SurviveLemmas.{turn_all, fails_at, fails_last, commit_survives, survives_as, was_clean, Keeps, commit_keeps}
+use Rattle.club_tables.proofs.crashes.RepresentsLemmas.{survives_none}
 use Rattle.club_tables.proofs.tables.Tables.run_on_rows.Goals as goal
 
 stopped : {S : Type 0} (g : Ghosts S) (fewest : ℕ) (statements : List Statement) (at : ℕ) (d : Statement) (old was mid new : Held S) (fault : StoreFault)
