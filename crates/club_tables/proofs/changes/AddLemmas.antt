@@ -21,14 +21,12 @@ use Rattle.std.proofs.Common.{unwrap_or}
 
 added : {X : Type 0} (values : X → Row) {text : List ℕ} (at width : ℕ) (terms : List Term) → Means club_schema text (Insert at (Values terms width))
     → (table : Table) → slice_get club_schema.tables at ≡ Some table → table.is_counted ≡ false
-    → table.stamps ≡ record { places = []; terms = []; formats = [] }
-    → ((row : Row) → works club_schema Enforced 0 table.tree [] (row ∷ []) ≡ [])
+    → table.stamps ≡ record { places = []; terms = []; formats = [] } → ((row : Row) → works club_schema Enforced 0 table.tree [] (row ∷ []) ≡ [])
     → (params : Row) (x : X) → value_rows params width (length terms / width) terms ≡ (Null ∷ values x) ∷ []
     → cast_row table (Null ∷ values x) ≡ Null ∷ values x → (rows next : Rows) (xs : List X)
     → ((old : Database) → HoldsRows old rows → Holds values (old.trees table.tree) xs)
     → ((old new : Database) → HoldsRows old rows → Wrote club_schema old new table.tree → Holds values (new.trees table.tree) (xs ++ x ∷ [])
-    → HoldsRows new next)
-    → Steps (text, params) rows next
+    → HoldsRows new next) → Steps (text, params) rows next
 added values at width terms means table listed uncounted unstamped still params x gives casts rows next xs held on old new count holds_rows ran =
     let put = inserts means table listed uncounted unstamped still old new holds_rows.schema params (values x) gives casts count ran in
     (on old.now new.now holds_rows put.0 (subst (λ rs. Holds values rs (xs ++ x ∷ [])) (sym put.1) (holds_more values _ xs x (held old.now holds_rows))), put.2)
@@ -109,8 +107,7 @@ module _ {text : List ℕ} {terms more sets : List Term} {at : ℕ} (puts : Puts
   sees there id = params ++ rowid there ∷ shown slot_table (Int id ∷ name_values slot ++ closed ∷ taken ∷ [])
 
   slot_put : (row_of slot rows.slots ≡ None → closed ∷ taken ∷ [] ≡ use_values (change no_slot_use))
-      → ((there : Row) (next : ℤ) → column (sees there next) at ≡ rowid there)
-      → ((x : SlotRow) → row_of slot rows.slots ≡ Some x → (id next : ℤ) (there : Row)
+      → ((there : Row) (next : ℤ) → column (sees there next) at ≡ rowid there) → ((x : SlotRow) → row_of slot rows.slots ≡ Some x → (id next : ℤ) (there : Row)
       → (list_all (holds (sees there next ∷ (Int id ∷ slot_values x) ∷ [])) more ≡ true)
       × (eval_all sets (sees there next ∷ (Int id ∷ slot_values x) ∷ []) ≡ Int id ∷ Int id ∷ name_values x.slot ++ use_values (change x.held)))
       → Steps (text, params) rows (record rows { slots = put_slot slot change rows.slots })
@@ -123,8 +120,7 @@ module _ {text : List ℕ} {terms more sets : List Term} {at : ℕ} (puts : Puts
       (λ id x. slots_conflict id next x slot closed taken) (λ id x. simp cast_int) rows.slots holds_rows.held.slots alone (λ there. ids there next)
       (λ none. ap (λ vs. name_values slot ++ vs) (fresh none)) (λ x is id there. let y = yields x is id next there in (
         y.0,
-        y.1 ∙ ap (λ b. Int id ∷ Int id ∷ name_values x.slot ++ use_values (if b then change x.held else x.held))
-            (sym (found is_of_slot rows.slots x is).1),
+        y.1 ∙ ap (λ b. Int id ∷ Int id ∷ name_values x.slot ++ use_values (if b then change x.held else x.held)) (sym (found is_of_slot rows.slots x is).1),
       )) count executed in
       (on_slots holds_rows left.0 left.1, left.2)
 
@@ -169,8 +165,7 @@ slot_closed rows once slot is_open =
 
 -- If the statement that closes a slot writes a row, the slot was open.
 pub slot_was_open : (rows : Rows) → AllPairs (λ (a : SlotRow) (b : SlotRow). a.slot ≢ b.slot) rows.slots → (slot : Slot) → (old new : State) (count : ℕ)
-    → HoldsRows old.now rows → Executes CLOSE_SLOT.now (name_values slot) old new (Ok count) → 1 ≤ count
-    → (stored_slot_use slot rows.slots).closed ≡ false
+    → HoldsRows old.now rows → Executes CLOSE_SLOT.now (name_values slot) old new (Ok count) → 1 ≤ count → (stored_slot_use slot rows.slots).closed ≡ false
 slot_was_open rows once slot old new count holds_rows executed some =
     by (row_of slot rows.slots) (slot_allowed close_puts rows once slot (name_values slot) (whole 1) (whole 0) refl (cast_int (pos 1)) (cast_int (pos 0))
     close_use (λ there next. refl) (λ row. not row.held.closed) (λ id next there row. open_is row.held) old new count holds_rows executed some)

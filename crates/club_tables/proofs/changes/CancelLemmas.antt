@@ -1,7 +1,7 @@
 -- Lemmas about the statement that cancels a booking.
-use Rattle.club_tables.proofs.Common.{slice_index_or, nat_tests, ◌≡◌, ℕ, ◌≤◌, pos, Some, Bool, true, false, ◌||◌, List, [], ◌∷◌, ◌++◌, map, refl, sym, ap}
+use Rattle.club_tables.proofs.Common.{slice_index_or, nat_tests, ◌≡◌, ℕ, ◌≤◌, pos, Some, Bool, true, false, List, [], ◌∷◌, ◌++◌, map, refl, sym, ap}
 use Rattle.club_tables.proofs.Common.{subst, ◌∙◌, All, arith, ◌+◌, ◌-◌, if◌then◌else◌, Contains, bytes_eq-Decides, or-true, or-false, bytes_eq, length-map}
-use Rattle.club_tables.proofs.Common.{get_or-map, everything, Int, Row, Term, lit, col, holds, understood, Booking, cancelled_booking, is_marked, booking_under}
+use Rattle.club_tables.proofs.Common.{get_or-map, everything, Int, Row, Term, lit, col, holds, understood, Booking, cancelled_booking, booking_under}
 use Rattle.club_tables.proofs.Common.{is_in, taken_in, cost_of, Slot, Member, same_slot, persons_of, Club, IsSound, is_key_of, IsBooking, IsOwnedBy, IsToCancel}
 use Rattle.club_tables.proofs.Common.{CANCEL_BOOKING, whole, booking_values, is_given, Rows, member_row, used_by, MemberRow, all_from, test_has}
 use Rattle.club_tables.proofs.{statements.MeansLemmas.{on_bookings, Steps, WhenRan}, changes.{AddLemmas.booking_table, ChangeLemmas.used_row}}
@@ -60,8 +60,7 @@ module _ (rows : Rows) (once : AreBookingsOnce rows.bookings) (booking : Booking
 
   -- If the booking is stored and isn't cancelled, the statement updates the booking's row.
   pub booking_cancelled : booking_under booking.key booking.number rows.bookings ≡ Some booking → booking.cancelled ≡ false
-      → Steps (CANCEL_BOOKING.now, params) rows
-      (record rows { bookings = map (cancelled_booking booking.key booking.number refund) rows.bookings })
+      → Steps (CANCEL_BOOKING.now, params) rows (record rows { bookings = map (cancelled_booking booking.key booking.number refund) rows.bookings })
   booking_cancelled on_record uncancelled old new count holds_rows ran =
       one_changed (cancel_finds old new count holds_rows ran) booking on_record (grind (arith, nat_tests, bytes_eq-Decides, text_equal, whole_equal))
       (cancelled_booking booking.key booking.number refund) (other_stays booking.key booking.number refund)
@@ -86,23 +85,19 @@ module _ (club : Club) (sound : IsSound club) (booking : Booking) (cancels : IsT
 
   alone : Apart (IsLone (is_numbered key number)) club.bookings
   alone = apart_from_pairs _ club.bookings (λ i j d less low both.
-      sound.unique.bookings i j d less low
-      (same_numbers key number (slice_index_or club.bookings i d) (slice_index_or club.bookings j d) both.0 both.1))
+      sound.unique.bookings i j d less low (same_numbers key number (slice_index_or club.bookings i d) (slice_index_or club.bookings j d) both.0 both.1))
 
   pub there : Contains club.bookings booking × (is_numbered key number booking ≡ true)
   there = found (is_numbered key number) club.bookings booking cancels.0
-
-  marked_there : is_marked key number booking ≡ true
-  marked_there = rw (there.1, cancels.1) refl
 
   nothing_back : booking.refund ≡ 0
   nothing_back = (subst IsBooking there.0.2 (sound.rows.bookings there.0.0 booking there.0.1)).kept cancels.1
 
   now_cancelled : (change booking).cancelled ≡ true
-  now_cancelled = ap (λ b. booking.cancelled || b) marked_there ∙ or-true booking.cancelled
+  now_cancelled = grind (arith, there.1, cancels.1, or-true)
 
   now_refund : (change booking).refund ≡ refund
-  now_refund = ap (λ b. if b then refund else booking.refund) marked_there
+  now_refund = grind (arith, there.1, cancels.1)
 
   at_most : refund ≤ booking.charge
   at_most = omega (arith, (mapped_holds IsBooking change club.bookings booking fits.rows.bookings there.0).refund, now_refund)

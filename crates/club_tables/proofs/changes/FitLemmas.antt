@@ -23,8 +23,7 @@ unnamed name n xs apart = All-from_recursion (λ x. name x ≢ n) xs (all_weaker
 
 module _ {S : Type 0} (g : Ghosts S) (old : Held S) (club : Club) (tables : HoldsClub (state g old).now club) where
   when_ran : {statement : BoundStatement} {more : List BoundStatement} {db : Database} {P : State → State → ℕ → Type 0}
-      → WhenRan statement tables.rows P → (ran : Ran g 1 (statement ∷ more) old db)
-      → P (state g (transaction_start old)) (state g ran.turns.0) ran.turns.1
+      → WhenRan statement tables.rows P → (ran : Ran g 1 (statement ∷ more) old db) → P (state g (transaction_start old)) (state g ran.turns.0) ran.turns.1
   when_ran each ran = each (state g (transaction_start old)) (state g ran.turns.0) ran.turns.1 tables.holds_rows ran.turns.2
 
   member_of : (p : MemberRow → Bool) (name : List ℕ) → (row : MemberRow) × StoresMember name tables.rows.members row × (p row ≡ true)
@@ -139,8 +138,7 @@ module _ {S : Type 0} (g : Ghosts S) (old : Held S) (club : Club) (tables : Hold
         (
           within.0,
           unnamed (λ (k : Key). k.name) key.name club.keys apart,
-          subst (λ names. Contains names key.member)
-              (ap (map (λ (row : MemberRow). row.member.name)) tables.storage.members
+          subst (λ names. Contains names key.member) (ap (map (λ (row : MemberRow). row.member.name)) tables.storage.members
               ∙ map-map (λ (row : MemberRow). row.member.name) (member_row club) club.members)
               known,
         ),
@@ -184,8 +182,7 @@ module _ {S : Type 0} (g : Ghosts S) (old : Held S) (club : Club) (tables : Hold
       let owner = owned_key next once member (neg_ℤ (pos refund)) booking.key (keys_once g old club tables) (and_parts _ _ (one_found finds t2.4).2).1 in
       (((on_record, given.1), (owner.0, subst (λ keys. StoresKey booking.key keys owner.0) tables.storage.keys owner.1, owner.2)), (on_record, within))
 
-  pub fits_if_ran : SuitingChangesKeepSound → (db : Database) (change : Change) → InLimits change → Ran g 1 (statements_of change) old db
-      → FitsClub change club
+  pub fits_if_ran : SuitingChangesKeepSound → (db : Database) (change : Change) → InLimits change → Ran g 1 (statements_of change) old db → FitsClub change club
   fits_if_ran law db change within ran =
       let it = fits db change within ran in
       record { carries = it.0; sound = law club change tables.sound it.1 }

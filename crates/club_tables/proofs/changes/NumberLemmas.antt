@@ -55,8 +55,7 @@ module _ (rows : Rows) (once : AllPairs (λ (a : Facility) (b : Facility). a.nam
       ap (λ n. list_all (holds (with_count params crowd_tests numbers_tests numbers_terms n (Int id ∷ facility_values f))) numbers_tests)
       (counts_elements params crowd_tests numbers_tests numbers_terms slot_values (crowds name places)
       (λ id row s. both_tests _ _ _ _ (text_equal s.slot.facility name) (whole_above s.held.taken places)) (db.trees slots_tree) rows.slots
-      holds_rows.held.slots (Int id ∷ facility_values f))
-      ∙ both_tests _ _ _ _ (text_equal f.name name) (none_counted (filter (crowds name places) rows.slots)))
+      holds_rows.held.slots (Int id ∷ facility_values f)) ∙ both_tests _ _ _ _ (text_equal f.name name) (none_counted (filter (crowds name places) rows.slots)))
       (answered_counted params crowd_tests numbers_tests numbers_terms facilities_tree slots_tree) (λ f passes. (and_parts (is_named f) _ passes).0)
       (one_named (λ (f : Facility). f.name) name rows.facilities once)
 

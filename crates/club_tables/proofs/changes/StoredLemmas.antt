@@ -41,8 +41,7 @@ pub members_stored : (club : Club) (rows : Rows) → IsStoredAs club rows → (c
 members_stored club rows stored change kept =
     let next : Club = record club { members = map change club.members } in
     let edit : MemberRow → MemberRow = λ row. record row { member = change row.member } in
-    let members = ap (map edit) stored.members ∙ map-map edit (member_row club) club.members
-    ∙ map_agree _ (λ m. member_row next (change m)) (λ m.
+    let members = ap (map edit) stored.members ∙ map-map edit (member_row club) club.members ∙ map_agree _ (λ m. member_row next (change m)) (λ m.
     ap (λ n. let row : MemberRow = record { member = change m; used = used_by club n } in row) (sym (kept m))) club.members
     ∙ sym (map-map (member_row next) change club.members) in
     search rules
@@ -54,8 +53,7 @@ facilities_stored club rows stored change = let facilities = ap change stored.fa
 keys_stored : (club : Club) (rows : Rows) → IsStoredAs club rows → (change : List Key → List Key) (olders : List OlderRow)
     → ((name : List ℕ) → AllByRecursion (λ (b : Booking).
     list_any (λ (key : Key). bytes_eq key.name b.key) (filter (λ (key : Key). bytes_eq key.member name) (change club.keys)) ≡ is_key_of name club b.key)
-    club.bookings)
-    → ((name : List ℕ) → older_by name olders ≡ older_root_of name (record club { keys = change club.keys }))
+    club.bookings) → ((name : List ℕ) → older_by name olders ≡ older_root_of name (record club { keys = change club.keys }))
     → AllPairs (λ (a : OlderRow) (b : OlderRow). a.key ≢ b.key) olders
     → IsStoredAs (record club { keys = change club.keys }) (record rows { keys = change rows.keys; olders = olders })
 keys_stored club rows stored change olders owned roots olders_once =

@@ -31,8 +31,7 @@ module _ {S : Type 0} (g : Ghosts S) (all : List BoundStatement) (some : 0 < len
   module _ (next : Club) (Fits : Type 0) (sound_if : IsSound next → (db : Database) → HoldsClub (state g old).now club → Ran g 1 all old db
       → HoldsClub db next) (fits : (db : Database) → HoldsClub (state g old).now club → Ran g 1 all old db → Fits × HoldsClub db next) where
     pub wrote : {E : Type 0} (r : Result (Unit {0}) E) → OnOk r (IsTrue (state g new).is_open × Ran g 1 all old (state g new).committed
-        × ((state g new).now ≡ (state g new).committed)) → OnErr r (IsKept (state g old) (state g new))
-        → IsSettled (state g new)
+        × ((state g new).now ≡ (state g new).committed)) → OnErr r (IsKept (state g old) (state g new)) → IsSettled (state g new)
         → MatchResult r (λ _. Fits × Represents (state g new) next [])
         (λ _. (IsSound next → Represents (state g new) club (next ∷ others)) × (¬ Fits → Represents (state g new) club others))
     wrote (Ok done) ok err settled =
@@ -50,8 +49,7 @@ some_statements : (change : Change) → 0 < length (statements_of change)
 some_statements change = grind arith
 
 pub changes : {S : Type 0} {g : Ghosts S} → SuitingChangesKeepSound → (change : Change) → InLimits change → {old new : Held S}
-    {result : Result (Unit {0}) StoreFault}
-    → Commits g 1 (statements_of change) old new result → IsSettled (state g new) → ChangesClub g change old new result
+    {result : Result (Unit {0}) StoreFault} → Commits g 1 (statements_of change) old new result → IsSettled (state g new) → ChangesClub g change old new result
 changes {g = g} law change within {old = old} {new = new} {result = r} commits settled =
     let all = statements_of change in
     let earlier = λ (clean : HasCleanDisk (state g new)). let e : HasCleanDisk (state g old) = omega (arith, commits.survives.clean) in e in
@@ -92,8 +90,7 @@ refuses {g = g} change out within_if_fits held = record {
   was_clean = λ clean. clean;
   effect = λ clean club others represents. (
     λ sound. represents_by HoldsClub (state g held) (state g held) (λ _ is_open. (is_open, represents.idle clean is_open, refl)) (λ c. c) club others
-        (after change club ∷ others) represents
-        (λ c trees may. elim (represents.left c trees may) [ inl here ↦ inl here | inr there ↦ inr (inr there) ]),
+        (after change club ∷ others) represents (λ c trees may. elim (represents.left c trees may) [ inl here ↦ inl here | inr there ↦ inr (inr there) ]),
     λ unfit. represents,
   );
   no_change = kept_when_idle (state g held);

@@ -77,13 +77,11 @@ fewer_read g statement P Q old new fault through (inr it) =
     inr (record { rows = it.rows; query = it.query; unread = λ q. it.unread (through it.rows q); fault_is = it.fault_is })
 
 pub read_by : {S A : Type 0} (g : Ghosts S) (reading : Reading) (IsAnswer : List Row → A → Type 0) (old new : Held S) (result : Result A StoreFault)
-    {IsShown : Club → List Row → Type 0} {IsReturned : Club → A → Type 0} → IsKept (state g old) (state g new)
-    → Survives (state g old) (state g new) (λ _. ⊥)
+    {IsShown : Club → List Row → Type 0} {IsReturned : Club → A → Type 0} → IsKept (state g old) (state g new) → Survives (state g old) (state g new) (λ _. ⊥)
     → (HasCleanDisk (state g new) → IfOk result (λ answer. (rows : List Row)
     × Asked g (reading_statement reading).0 (reading_statement reading).1 old rows × IsAnswer rows answer))
     → (HasCleanDisk (state g new) → IfErr result (FailsAtReading g reading old new)) → Shows g old (reading_statement reading) IsShown
-    → ((club : Club) (rows : List Row) (answer : A) → IsShown club rows → IsAnswer rows answer → IsReturned club answer)
-    → ReadsClub g old new result IsReturned
+    → ((club : Club) (rows : List Row) (answer : A) → IsShown club rows → IsAnswer rows answer → IsReturned club answer) → ReadsClub g old new result IsReturned
 read_by {A = A} g reading IsAnswer old new result {IsReturned = IsReturned} kept quiet gives fails shown returned =
     let earlier = λ (clean : HasCleanDisk (state g new)). let e : HasCleanDisk (state g old) = omega (arith, quiet.clean) in e in
     let Given = λ (answer : A). (rows : List Row) × Asked g (reading_statement reading).0 (reading_statement reading).1 old rows × IsAnswer rows answer in
@@ -101,8 +99,7 @@ pub read_answer : {S A : Type 0} {g : Ghosts S} (reading : Reading) {IsAnswer : 
     {IsShown : Club → List Row → Type 0} {IsReturned : Club → A → Type 0} → Answers g (reading_statement reading) IsAnswer old new result
     → IsKept (state g old) (state g new) → Survives (state g old) (state g new) (λ _. ⊥)
     → ((rows : List Row) → CanRead reading rows → (answer : A) × IsAnswer rows answer) → Shows g old (reading_statement reading) IsShown
-    → ((club : Club) (rows : List Row) (answer : A) → IsShown club rows → IsAnswer rows answer → IsReturned club answer)
-    → ReadsClub g old new result IsReturned
+    → ((club : Club) (rows : List Row) (answer : A) → IsShown club rows → IsAnswer rows answer → IsReturned club answer) → ReadsClub g old new result IsReturned
 read_answer {A = A} {g = g} reading {IsAnswer = IsAnswer} {old = old} {new = new} {result = result} answers kept quiet can shown returned =
     let Unanswered = λ (rows : List Row). (answer : A) × IsAnswer rows answer in
     read_by g reading IsAnswer old new result kept quiet answers.success (λ clean.

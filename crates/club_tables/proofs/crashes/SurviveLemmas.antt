@@ -28,8 +28,7 @@ module _ {S : Type 0} (g : Ghosts S) (fewest : ℕ) where
       → Survives (state g old) (state g new) (MayCommit g fewest AreStatements old)
   may_commit all AreStatements are old new survives =
       survives_as (state g old) (state g new) (λ trees. (db : Database) × Ran g fewest all old db × (trees ≡ db.trees))
-      (MayCommit g fewest AreStatements old) survives
-      (λ clean trees left.
+      (MayCommit g fewest AreStatements old) survives (λ clean trees left.
       let same = kept_when_idle (state g old) in
       let earlier = was_clean (state g old) (state g new) _ survives clean in
       search rules)
@@ -39,13 +38,11 @@ module _ {S : Type 0} (g : Ghosts S) (fewest : ℕ) where
   commits_nothing AreStatements old new survives = search rules
 
   pub commits_after : (AreStatements : List BoundStatement → Type 0) (a b c : Held S) → IsUntouched (state g a) (state g b)
-      → Survives (state g a) (state g b) (λ _. ⊥)
-      → Survives (state g b) (state g c) (MayCommit g fewest AreStatements b)
+      → Survives (state g a) (state g b) (λ _. ⊥) → Survives (state g b) (state g c) (MayCommit g fewest AreStatements b)
       → Survives (state g a) (state g c) (MayCommit g fewest AreStatements a)
   commits_after AreStatements a b c untouched first next =
       let P = MayCommit g fewest AreStatements a in
-      survives_then (state g a) (state g b) (state g c) (λ _. ⊥) (MayCommit g fewest AreStatements b) P (λ _ db none. absurd none)
-      (λ clean db may.
+      survives_then (state g a) (state g b) (state g c) (λ _. ⊥) (MayCommit g fewest AreStatements b) P (λ _ db none. absurd none) (λ clean db may.
       let earlier : HasCleanDisk (state g b) = omega (arith, next.clean) in
       let same = untouched_then (state g a) (state g b) (state g may.from) (λ _. earlier) untouched may.same in
       let p : P db = search rules in
@@ -140,8 +137,7 @@ module _ {S : Type 0} (g : Ghosts S) (fewest : ℕ) where
   pub commit_survives : (statements : List Statement) (at : ℕ) (old mid new : Held S) → length statements ≤ at
       → Survives (state g (transaction_start old)) (state g mid) (λ _. ⊥)
       → (HasCleanDisk (state g mid) → RanInTurn g fewest (map bound_statement (take at statements)) (transaction_start old) mid)
-      → (HasCleanDisk (state g mid) → 0 < at → IsTrue (state g old).is_open)
-      → Survives (state g mid) (state g new) (λ trees. trees ≡ (state g mid).now.trees)
+      → (HasCleanDisk (state g mid) → 0 < at → IsTrue (state g old).is_open) → Survives (state g mid) (state g new) (λ trees. trees ≡ (state g mid).now.trees)
       → Survives (state g old) (state g new) (λ trees. (db : Database) × Ran g fewest (map bound_statement statements) old db × (trees ≡ db.trees))
   commit_survives statements at old mid new past begun ran was_open commit =
       let all = map bound_statement statements in

@@ -84,8 +84,7 @@ abbrev IsOfRow : Row → Booking → Type 0
 IsOfRow row booking = IsBooking booking × HasValues row (booking_values booking)
 
 pub bookings_more : (rows : List Row) (k : ℕ) (row : Row) (bookings : List Booking) (b : Booking) → k < length rows → row ≡ slice_index_or rows k row
-    → AreBookings (take k rows) bookings → IsOfRow row b
-    → AreBookings (take (k + 1) rows) (bookings ++ b ∷ [])
+    → AreBookings (take k rows) bookings → IsOfRow row b → AreBookings (take (k + 1) rows) (bookings ++ b ∷ [])
 bookings_more rows k row bookings b low is are of =
     let next : take (k + 1) rows ≡ take k rows ++ row ∷ [] = take_more rows k row low ∙ (λ i. take k rows ++ (sym is) i ∷ []) in
     rw next (zip_more IsOfRow (take k rows) bookings row b are of)
@@ -115,8 +114,7 @@ pub first_held : {X : Type 0} (values : X → Row) (Fits : X → Type 0) → ((a
     → (held : Option X) (rows : List Row) (found : Option X) → rows ≡ map values (option_to_list held)
     → IsFirst (λ row x. Fits x × HasValues row (values x)) rows found → found ≡ held
 first_held {X} values Fits one held rows found is first =
-    first_of values (λ (x : X). x) (λ row x. Fits x × HasValues row (values x)) (λ a b yielded. one a b yielded.1) held rows found is first
-    ∙ option_map_id held
+    first_of values (λ (x : X). x) (λ row x. Fits x × HasValues row (values x)) (λ a b yielded. one a b yielded.1) held rows found is first ∙ option_map_id held
 
 pub one_key : (a : Key) (b : KeyRow) → HasValues (key_values a) (key_values (key_of_row b None)) → b ≡ row_of_key a
 one_key a b h = grind (arith, truths)

@@ -104,8 +104,7 @@ version_returned g old rows clean asked club others found =
       )
       | inr (inr blank) ↦
           let none : is_ok (understood (state g old).now.schema VERSION.now) ≡ false =
-          ap (λ s. is_ok (understood s VERSION.now)) (ap (λ (d : Database). d.schema) now ∙ blank.0)
-          ∙ no_version in
+          ap (λ s. is_ok (understood s VERSION.now)) (ap (λ (d : Database). d.schema) now ∙ blank.0) ∙ no_version in
           absurd (true≢false (sym (ap is_ok asked.shown.1.is) ∙ none))
     ]
 
@@ -129,8 +128,7 @@ module _ {S : Type 0} (g : Ghosts S) (old mid : Held S) (untouched : IsUntouched
   keeps_after IsHeld clean club others before = search rules
 
   pub opens_not : (IsHeld : Database → Club → Type 0) {Done : Held S → Held S → Type 0} {Fails : Held S → Held S → StoreFault → Type 0} {fault : StoreFault}
-      → (HasCleanDisk (state g mid) → Fails old mid fault)
-      → Opens g (λ held. RepresentsBy IsHeld (state g held)) Done Fails old mid (Err fault)
+      → (HasCleanDisk (state g mid) → Fails old mid fault) → Opens g (λ held. RepresentsBy IsHeld (state g held)) Done Fails old mid (Err fault)
   opens_not IsHeld failed = search rules
 
   pub opens_after : {Before Between : Held S → Club → List Club → Type 0} {Done Next : Held S → Held S → Type 0}
@@ -156,8 +154,7 @@ module _ {S : Type 0} (g : Ghosts S) (old mid : Held S) (untouched : IsUntouched
 module _ (old mid new : State) (earlier : HasCleanDisk mid) (clean : HasCleanDisk new) (is_open : IsTrue new.is_open) (rest : IsIdle old)
     (read : IsKept old mid) (prepared : IsIdle mid → IsKept mid new) where
   pub found_ready : (version : ℕ) (texts : List (List ℕ)) (rows : List Row) → (row : Row) × (rows ≡ row ∷ []) × HasValues row (version_values version)
-      → YieldsRows VERSION.now old.now rows
-      → (IsIdle mid → All (IsUnderstood new.committed.schema) texts) → FoundReady version texts old new
+      → YieldsRows VERSION.now old.now rows → (IsIdle mid → All (IsUnderstood new.committed.schema) texts) → FoundReady version texts old new
   found_ready version texts rows one answered known = search rules
 
 abbrev pub text_at : Bor (List ℕ) → List ℕ
@@ -179,8 +176,7 @@ one_more P (text ∷ texts) others (inr there) = inr (one_more P texts others th
 
 module _ (db : Database) (texts : List (Bor (List ℕ))) where
   pub one_understood : (at : ℕ) (d : Bor (List ℕ)) (was : Database) → was ≡ db → at < length texts → All (IsUnderstood db.schema) (map text_at (take at texts))
-      → IsUnderstood was.schema (get_or texts at d).now
-      → All (IsUnderstood db.schema) (map text_at (take (at + 1) texts))
+      → IsUnderstood was.schema (get_or texts at d).now → All (IsUnderstood db.schema) (map text_at (take (at + 1) texts))
   one_understood at d was same within before one =
       let more : map text_at (take (at + 1) texts) ≡ map text_at (take at texts) ++ (get_or texts at d).now ∷ [] =
       rw (add-one, take-suc texts at d within, map-append text_at (take at texts) (get_or texts at d ∷ [])) in

@@ -21,8 +21,7 @@ both_tests a a' b b' p q = let e = and-true b in cc
 pub first_returned : {X : Type 0} (show : X → Row) (p : X → Bool) (xs : List X) (rows : List Row) → length (filter p xs) ≤ 1
     → IsPermutation (map show (filter p xs)) rows → rows ≡ map show (option_to_list (find p xs))
 first_returned show p xs rows low same =
-    short_permutation (map show (filter p xs)) rows (omega (arith, length-map (filter p xs) show)) same
-    ∙ ap (map show) (one_listed p xs low)
+    short_permutation (map show (filter p xs)) rows (omega (arith, length-map (filter p xs) show)) same ∙ ap (map show) (one_listed p xs low)
 
 pub one_named : {X : Type 0} (name_of : X → List ℕ) (name : List ℕ) (xs : List X) → AllPairs (λ a b. name_of a ≢ name_of b) xs
     → length (filter (λ x. bytes_eq (name_of x) name) xs) ≤ 1
@@ -39,8 +38,7 @@ key_shown g old name =
     shown_by asks key_values (λ key. bytes_eq key.name name) key_values (λ id key. and-true _ ∙ text_equal key.name name) (λ id key. refl) (λ club tables. (
       club.keys,
       keys_held _ club tables,
-      λ rows. first_returned key_values _ club.keys rows
-          (one_named (λ (key : Key). key.name) name club.keys tables.sound.unique.keys),
+      λ rows. first_returned key_values _ club.keys rows (one_named (λ (key : Key). key.name) name club.keys tables.sound.unique.keys),
     ))
 
 shown_again : (found : Option OlderRow) → map (λ (row : OlderRow). older_root_values row.older) (option_to_list found)

@@ -83,8 +83,7 @@ owned_count member test show club rows unique h =
     let each = filter_agree _ (λ booking. among booking && test booking) (λ booking.
     any_owned (λ key. bytes_eq key.name booking.key) (λ key. bytes_eq key.member member) (test booking) club.keys) club.bookings in
     length_permutation _ rows h ∙ ap length (sym (map-flat_map show pairs club.keys)) ∙ length-map (flat_map pairs club.keys) show
-    ∙ pairs_counted (is_owned member test) club.keys club.bookings
-    (apart_from_pairs (IsElsewhere (is_owned member test)) club.keys (λ i j d less low.
+    ∙ pairs_counted (is_owned member test) club.keys club.bookings (apart_from_pairs (IsElsewhere (is_owned member test)) club.keys (λ i j d less low.
     other_key member test (slice_index_or club.keys i d) (slice_index_or club.keys j d) (unique i j d less low)))
     ∙ ap length (each ∙ sym (filter_filter test among club.bookings))
 
@@ -113,8 +112,7 @@ open_shown g old member moment rows clean asked club others represents =
       whole_equal (truth b.cancelled) 0,
       no_truth b.cancelled,
       and-true (is_true (binary (Compare Ge Binary) (whole b.slot.day) (whole (moment / 1440)))),
-    ) refl)
-    (λ i j k b. refl)
+    ) refl) (λ i j k b. refl)
     keys_tree bookings_tree (codes "number" ∷ []) (state g old).now club.keys club.bookings rows (keys_held _ club tables) (bookings_held _ club tables)
     reads in
     let own = bookings_of member club in
@@ -182,8 +180,7 @@ day_shown g old day rows clean asked club others represents =
       bookings,
       record {
         same = day_selection.same;
-        order = λ i j d less low. precedes (slice_index_or bookings i d) (slice_index_or bookings j d)
-            (none_after i j d less low) (differ i j d less low);
+        order = λ i j d less low. precedes (slice_index_or bookings i d) (slice_index_or bookings j d) (none_after i j d less low) (differ i j d less low);
       },
       day_selection.shown,
     )

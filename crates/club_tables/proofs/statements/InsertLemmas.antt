@@ -82,8 +82,7 @@ task_of schema table old params = record { limit = old.step_limit; keys = Enforc
 pub wrote_rows : {schema : Schema} {text : List ℕ} {command : Command} → Means schema text command → (at : ℕ) {table : Table}
     → slice_get schema.tables at ≡ Some table → (old new : State) (params : Row) (count : ℕ)
     → (Runs old new None command (statement_of text (understood schema text)) params count
-    → Writes old new None command (statement_of text (understood schema text)) params count)
-    → ((out : Result (Tally × Database) (Option Error))
+    → Writes old new None command (statement_of text (understood schema text)) params count) → ((out : Result (Tally × Database) (Option Error))
     → Does old.step_limit (mode_of old) params (record old.now { schema = schema }) (statement_of text (understood schema text)) None command out
     → OnTable old.step_limit (mode_of old) params (record old.now { schema = schema }) at (λ task. OnRows task (mode_of old) None command old.now.trees) out)
     → old.now.schema ≡ schema → Executes text params old new (Ok count)
@@ -126,8 +125,7 @@ pub inserts : {schema : Schema} {text : List ℕ} {at width : ℕ} {terms : List
     → slice_get schema.tables at ≡ Some table → table.is_counted ≡ false → table.stamps ≡ record { places = []; terms = []; formats = [] }
     → ((row : Row) → works schema Enforced 0 table.tree [] (row ∷ []) ≡ [])
     → (old new : State) → old.now.schema ≡ schema → (params values : Row) → value_rows params width (length terms / width) terms ≡ (Null ∷ values) ∷ []
-    → cast_row table (Null ∷ values) ≡ Null ∷ values → (count : ℕ) → Executes text params old new (Ok count)
-    → Wrote schema old.now new.now table.tree
+    → cast_row table (Null ∷ values) ≡ Null ∷ values → (count : ℕ) → Executes text params old new (Ok count) → Wrote schema old.now new.now table.tree
     × (new.now.trees table.tree ≡ put_row (Int (next_rowid (old.now.trees table.tree)) ∷ values) (old.now.trees table.tree)) × (1 ≤ count)
 inserts {schema = schema} {text = text} {at = at} {width = width} {terms = terms} means table listed uncounted unstamped still old new has params values gives
     casts count h =

@@ -118,8 +118,7 @@ module _ (params : Row) (inside_tests tests project : List Term) where
 
   pub counts_elements : {X : Type 0} (values : X → Row) (p : X → Bool) → ((id : ℤ) (row : Row) (x : X) → passes_inside row (Int id ∷ values x) ≡ p x)
       → (others : List Row) (xs : List X) → Holds values others xs → (row : Row) → count_in others row ≡ length (filter p xs)
-  counts_elements values p tested others xs held row =
-      as_many values (passes_inside row) p (λ id x. tested id row x) others xs held.same
+  counts_elements values p tested others xs held row = as_many values (passes_inside row) p (λ id x. tested id row x) others xs held.same
 
 has_some : {X : Type 0} (xs : List X) (x : X) → Has xs x → 1 ≤ length xs
 has_some [] x has = absurd has
@@ -150,8 +149,7 @@ pair_counts p (z ∷ xs) ys x y has there passes =
 
 pub as_many_pairs : {X Y : Type 0} (values : X → Row) (hit : Row → Row → Bool) (p : X → Y → Bool) (others : List Row) (ys : List Y)
     → ((id : ℤ) (x : X) → length (filter (hit (Int id ∷ values x)) others) ≡ length (filter (p x) ys)) → (rows : List Row) (xs : List X)
-    → AllZip (λ row x. IsRowOf (values x) row) rows xs
-    → length (flat_map (λ row. filter (hit row) others) rows) ≡ length (flat_map (λ x. filter (p x) ys) xs)
+    → AllZip (λ row x. IsRowOf (values x) row) rows xs → length (flat_map (λ row. filter (hit row) others) rows) ≡ length (flat_map (λ x. filter (p x) ys) xs)
 as_many_pairs values hit p others ys each rows xs same =
     let it = with_rowids values rows xs same in
     ap (λ rs. length (flat_map (λ row. filter (hit row) others) rs)) it.rows_are ∙ simp flat_map-map (lengths_alike _ _ (λ q. each q.0 q.1) it.pairs)
@@ -179,13 +177,11 @@ module _ (params : Row) (inside_tests pair_tests tests project : List Term) wher
   abbrev pub shown_both : List Row → List Row → List Row → Row → Row
   shown_both others ones twos row = eval_all project (with_counts (count_of others row) (pairs_in ones twos (count_of others row) row) row)
 
-  pub answered_counted_both : (outer inside one two : ℕ) (db : Database) (rows : List Row)
-      → Answers db (record {
-        lets = [];
-        body = select (inner outer (counted 1 (inner inside end) inside_tests (counted 1 (inner one (inner two end))
-            pair_tests end))) tests project;
-      }) params rows
-      → IsPermutation (map (shown_both (db.trees inside) (db.trees one) (db.trees two))
+  pub answered_counted_both : (outer inside one two : ℕ) (db : Database) (rows : List Row) → Answers db (record {
+    lets = [];
+    body = select (inner outer (counted 1 (inner inside end) inside_tests (counted 1 (inner one (inner two end))
+        pair_tests end))) tests project;
+  }) params rows → IsPermutation (map (shown_both (db.trees inside) (db.trees one) (db.trees two))
       (filter (passes_both (db.trees inside) (db.trees one) (db.trees two)) (db.trees outer))) rows
   answered_counted_both outer inside one two db rows h =
       let query = select (inner outer (counted 1 (inner inside end) inside_tests (counted 1 (inner one (inner two end)) pair_tests end))) tests project in
@@ -208,8 +204,7 @@ module _ (params : Row) (inside_tests pair_tests tests project : List Term) wher
       ap length (pick_by_if (joins_inside n row x) (pair_env n row x) twos) ∙ length-map (filter (joins_inside n row x) twos) (pair_env n row x)) ones in
       let last : Row → Env = λ row. with_counts (count_of others row) (pairs_in ones twos (count_of others row) row) row in
       let staged : a.staged ≡ map last (filter (passes_both others ones twos) (db.trees outer)) =
-      a.grouped
-      ∙ flat_map_same_on (λ row. each (found row) (met (found row) row) row)
+      a.grouped ∙ flat_map_same_on (λ row. each (found row) (met (found row) row) row)
       (λ row. each (count_of others row) (pairs_in ones twos (count_of others row) row) row)
       (λ row. ap (λ n. each n (met n row) row) (founds row) ∙ ap (λ m. each (count_of others row) m row) (mets (count_of others row) row)) (db.trees outer)
       ∙ pick_by_if (passes_both others ones twos) last (db.trees outer) in

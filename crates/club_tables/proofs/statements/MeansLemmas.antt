@@ -35,8 +35,7 @@ pub record Wrote (tables : Schema) (old new : Database) (tree : ℕ) : Type 0 wh
 
 -- The relation `P` holds after the statement has run on tables that contain these rows.
 abbrev pub WhenRan : BoundStatement → Rows → (State → State → ℕ → Type 0) → Type 1
-WhenRan statement rows P =
-    (old new : State) (count : ℕ) → HoldsRows old.now rows → Executes statement.0 statement.1 old new (Ok count) → P old new count
+WhenRan statement rows P = (old new : State) (count : ℕ) → HoldsRows old.now rows → Executes statement.0 statement.1 old new (Ok count) → P old new count
 
 abbrev pub Steps : BoundStatement → Rows → Rows → Type 1
 Steps statement rows next = WhenRan statement rows (λ old new count. HoldsRows new.now next × (1 ≤ count))

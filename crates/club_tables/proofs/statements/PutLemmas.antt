@@ -188,8 +188,7 @@ module _ (name : List ℕ) (columns : List Column) (keys : List (List ℕ)) (che
             ap (filter (test (env there) tests sets)) with_ids.rows_are ∙ filter-map _ (row_of values) with_ids.pairs
             ∙ ap (map (row_of values)) (filter_agree _ (λ q. has_rowid one.0 (row_of values q) && allowed (row_of values q)) each with_ids.pairs)
             ∙ sym (ap (filter (λ row. has_rowid one.0 row && allowed row)) with_ids.rows_are
-            ∙ filter-map (λ row. has_rowid one.0 row && allowed row) (row_of values) with_ids.pairs)
-            ∙ sym (filter_filter allowed (has_rowid one.0) (db tree))
+            ∙ filter-map (λ row. has_rowid one.0 row && allowed row) (row_of values) with_ids.pairs) ∙ sym (filter_filter allowed (has_rowid one.0) (db tree))
             ∙ ap (filter allowed) (one_at one.0 (db tree) (row_of values one) held.rising has (ap is_eq (tied_itself value_cmp_total (Int one.0))))
 
         -- The statement updates the row of this element, if the row meets the conditions of the clause.
@@ -244,8 +243,7 @@ module _ (name : List ℕ) (columns : List Column) (keys : List (List ℕ)) (che
                   omega (arith, it.put.counted, ap length row),
                 )
 
-        pub row_allowed : (allows : X → Bool)
-            → ((id : ℤ) (there : Row) (x : X) → list_all (holds (env there ∷ (Int id ∷ values x) ∷ [])) more ≡ allows x)
+        pub row_allowed : (allows : X → Bool) → ((id : ℤ) (there : Row) (x : X) → list_all (holds (env there ∷ (Int id ∷ values x) ∷ [])) more ≡ allows x)
             → (count : ℕ) → Executes text params old new (Ok count) → 1 ≤ count → (x : X) → find p xs ≡ Some x → allows x ≡ true
         row_allowed allows allowed count executed some x is = by (allows x) refl
           where

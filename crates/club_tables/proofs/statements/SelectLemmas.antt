@@ -113,8 +113,7 @@ module _ {X : Type 0} (values : X → Row) (params : Row) (tests : List Term) (p
       → Reads (Select (record { lets = []; body = select (inner tree end) tests project }) names) db params rows → IsPermutation (map show (filter p xs)) rows
   selected tree names db xs rows held h =
       subst (λ ys. IsPermutation ys rows) (picked values p show (test params tests project) (shows params tests project) tested shown (db.trees tree) xs
-      held.same)
-      (answered params tests project tree db rows h)
+      held.same) (answered params tests project tree db rows h)
 
 abbrev pub Apart : {X : Type 0} → (X → X → Type 0) → List X → Type 0
 Apart = IsAscending

@@ -88,8 +88,7 @@ pub record Updates (old new : State) (table : Table) (query : Query) (params : R
   pub counted : count ≡ length rows
 
 pub update_leaves : (old : State) {new : State} {count : ℕ} {one : Written} {query : Query} (params : Row) {given : Row} (table : Table)
-    → Leaves club_schema new count one
-    → WritesUpdate (task_of club_schema table old params) (record { lets = []; body = query }) given old.now.trees (Ok one)
+    → Leaves club_schema new count one → WritesUpdate (task_of club_schema table old params) (record { lets = []; body = query }) given old.now.trees (Ok one)
     → Updates old new table query given count
 update_leaves old params table left h =
     let asked = went h in
@@ -149,8 +148,7 @@ finds_by {table = table} {query = query} {params = params} at shown hit means li
     }
 
 pub finds_row : {X : Type 0} {values : X → Row} {p q : X → Bool} {rows : Rows} {xs : List X} {text : List ℕ} {table : Table} (at : ℕ) (params : Row)
-    (tests project : List Term)
-    → Means club_schema text (Update at (record { lets = []; body = select (inner table.tree end) tests project }))
+    (tests project : List Term) → Means club_schema text (Update at (record { lets = []; body = select (inner table.tree end) tests project }))
     → slice_get club_schema.tables at ≡ Some table → ((db : Database) → HoldsRows db rows → Holds values (db.trees table.tree) xs)
     → ((id : ℤ) (x : X) → test params tests project (Int id ∷ values x) ≡ p x) → Implies p q → length (filter q xs) ≤ 1
     → WhenRan (text, params) rows (λ old new count. FindsOne values p q xs (shows params tests project) old new table count)
@@ -185,8 +183,7 @@ module _ {X : Type 0} {values : X → Row} {p q : X → Bool} {xs : List X} {sho
       let hits = all_weaker (λ (r : ℤ × X). p r.1 ≡ q r.1) (λ r. it.hit (row_of values r) ≡ q r.1) (λ r e. it.hits r.0 r.1 ∙ e) ps
       (all_from_map (λ y. p y ≡ q y) (λ (r : ℤ × X). r.1) ps (subst (AllByRecursion (λ y. p y ≡ q y)) with_ids.xs_are same)) in
       let hit : filter it.hit (old.now.trees table.tree) ≡ row_of values (lone.0, x) ∷ [] =
-      ap (filter it.hit) with_ids.rows_are ∙ filter-map it.hit (row_of values) ps
-      ∙ ap (map (row_of values)) (filter_same _ (λ r. q r.1) ps hits ∙ lone.1) in
+      ap (filter it.hit) with_ids.rows_are ∙ filter-map it.hit (row_of values) ps ∙ ap (map (row_of values)) (filter_same _ (λ r. q r.1) ps hits ∙ lone.1) in
       let row = one_permutation (shown (Int lone.0 ∷ values x)) it.put.rows (subst (λ rs. IsPermutation (map shown rs) it.put.rows) hit it.answer)
       ∙ ap (λ r. r ∷ []) (sets lone.0 here.1) in
       let left = replaced values q change kept table (record { schema = club_schema; trees = old.now.trees }) it.put.rows ps with_ids.rows_are

@@ -25,9 +25,7 @@ returns-in-Err-clause-reads g c =
     read_booking g.S.Store c.args.key.now c.args.number (returns-in-Err-clause-gives g c) c.answer.ensures.kept c.answer.ensures.survives
 
 pub returns-then-is_named-clause-reads : goal.returns-then-is_named-clause-reads
-returns-then-is_named-clause-reads g c =
-    read_booking g.S.Store c.args.key.now c.args.number (search rules) c.answer.ensures.kept c.answer.ensures.survives
+returns-then-is_named-clause-reads g c = read_booking g.S.Store c.args.key.now c.args.number (search rules) c.answer.ensures.kept c.answer.ensures.survives
 
 pub returns-else-is_named-clause-reads : goal.returns-else-is_named-clause-reads
-returns-else-is_named-clause-reads g c =
-    read_booking g.S.Store c.args.key.now c.args.number (search rules) c.answer.ensures.kept c.answer.ensures.survives
+returns-else-is_named-clause-reads g c = read_booking g.S.Store c.args.key.now c.args.number (search rules) c.answer.ensures.kept c.answer.ensures.survives

@@ -4,9 +4,7 @@ use Rattle.club_tables.proofs.{crashes.SurviveLemmas.opened_after, opening.OpenL
 use Rattle.club_tables.proofs.tables.Tables.complete.Goals as goal
 
 ensured_after : {S : Type 0} (g : Ghosts S) (old mid new : Held S) → HasCleanDisk (state g mid) → HasCleanDisk (state g new) → IsTrue (state g new).is_open
-    → IsKept (state g old) (state g mid)
-    → (IsTrue (state g mid).is_open → Understands g texts_by_key mid)
-    → HasOrGetsIndex g mid new → EnsuresIndex g old new
+    → IsKept (state g old) (state g mid) → (IsTrue (state g mid).is_open → Understands g texts_by_key mid) → HasOrGetsIndex g mid new → EnsuresIndex g old new
 ensured_after g old mid new earlier clean is_open kept known (inl it) =
     let after = it.1 clean is_open in
     let before = kept earlier after.0 in
@@ -34,8 +32,7 @@ returns-in-Ok-clause-opens g c =
     opens_after g.S.Store old mid kept quiet c.ensure_index.ensures.opens
     (keeps_after g.S.Store old mid kept quiet HoldsClubVersion2) (λ club others second. second)
     (λ earlier clean ensured is_open rest. ensured_after g.S.Store old mid new earlier clean is_open (kept rest) (λ opened.
-    c.in-Ok.ensures.understood earlier opened rest) ensured)
-    (opened_after g.S.Store old mid new)
+    c.in-Ok.ensures.understood earlier opened rest) ensured) (opened_after g.S.Store old mid new)
 
 pub returns-in-Err-clause-opens : goal.returns-in-Err-clause-opens
 returns-in-Err-clause-opens g c =

@@ -15,5 +15,4 @@ returns-clause-reads g c =
     (day_shown g.S.Store c.args.self.now c.args.day) (λ club rows bookings shown are. day_of_rows club c.args.day rows bookings.items shown are)
 
 pub returns-clause-limits : goal.returns-clause-limits
-returns-clause-limits g c =
-    IfOk-weaker c.bookings_in.result _ _ (λ rows are. within_limits c.deref.result.now rows.items are) c.bookings_in.ensures.are
+returns-clause-limits g c = IfOk-weaker c.bookings_in.result _ _ (λ rows are. within_limits c.deref.result.now rows.items are) c.bookings_in.ensures.are

@@ -9,8 +9,7 @@ returns-in-Ok-clause-opens g c =
     let kept = c.prepare_all.ensures.kept in
     let quiet = c.prepare_all.ensures.survives in
     opens_after g.S.Store old mid kept quiet c.add_old_roots.ensures.opens
-    (keeps_after g.S.Store old mid kept quiet HoldsClubVersion1) (λ club others first. first)
-    (λ earlier clean ran rest.
+    (keeps_after g.S.Store old mid kept quiet HoldsClubVersion1) (λ club others first. first) (λ earlier clean ran rest.
     let is_open = ran.was_open (omega arith) in
     let same = kept rest earlier is_open in
     let known = c.in-Ok.ensures.understood earlier is_open rest in

@@ -61,8 +61,7 @@ returns-in-Err-Storage-clause-opens g c =
     (λ earlier clean ran is_open rest.
     let same = (c.version.ensures.kept earlier (ran.was_open (omega arith))).1 in
     let no_desk_table = subst (λ (db : Database). HasNoDesk db.schema) same (makes_free g.S.Store mid (state g.S.Store new).committed ran) in
-    inr (inr (inr (record { from = mid; same = same; no_desk_table = no_desk_table; ran = ran }))))
-    (batch_failed g.S.Store table_batch (inl refl) old mid new)
+    inr (inr (inr (record { from = mid; same = same; no_desk_table = no_desk_table; ran = ran })))) (batch_failed g.S.Store table_batch (inl refl) old mid new)
 
 pub returns-then-is_version-clause-opens : goal.returns-then-is_version-clause-opens
 returns-then-is_version-clause-opens g c =
@@ -75,8 +74,7 @@ returns-then-is_version-clause-opens g c =
     opens_after g.S.Store old mid (λ rest. c.version.ensures.kept) c.version.ensures.survives c.complete.ensures.opens
     (λ earlier club others found. (by_version rows ((read earlier).version_of_club club others found)).0 one) (second_found (state g.S.Store new))
     (λ earlier clean it is_open rest. ensured g.S.Store old mid new rows earlier rest c.version.ensures.kept
-    (read earlier).version_rows clean is_open one (it is_open (rests g.S.Store old mid earlier c.version.ensures.kept)))
-    (opened_after g.S.Store old mid new)
+    (read earlier).version_rows clean is_open one (it is_open (rests g.S.Store old mid earlier c.version.ensures.kept))) (opened_after g.S.Store old mid new)
 
 pub returns-then-is_version-2-clause-opens : goal.returns-then-is_version-2-clause-opens
 returns-then-is_version-2-clause-opens g c =

@@ -3,8 +3,7 @@ use Rattle.club_tables.proofs.tables.Tables.replace_numbers.Goals as goal
 
 pub returns-clause-makes : goal.returns-clause-makes
 returns-clause-makes g c =
-    changes c.suiting_changes_keep_sound.ensures
-    (ReplaceNumbers c.args.facility.now c.args.places c.args.price c.args.opens c.args.shuts) (grind arith)
+    changes c.suiting_changes_keep_sound.ensures (ReplaceNumbers c.args.facility.now c.args.places c.args.price c.args.opens c.args.shuts) (grind arith)
     (rw c.of_numbers-numbers.ensures at c.write_one.ensures.commits) (g.met.S.Store.settled c.write_one.new.self.store)
 
 pub returns-then-not-are_numbers-clause-makes : goal.returns-then-not-are_numbers-clause-makes

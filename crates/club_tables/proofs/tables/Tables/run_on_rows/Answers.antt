@@ -44,8 +44,7 @@ loop-statement-preserved g c =
       survives = survives_then (state g.S.Store (transaction_start c.args.self.now)) (state g.S.Store was) (state g.S.Store now) _ _ (λ _. ⊥) (λ _ db none.
           none) (λ _ db none. none) c.loop-statement.invariant.survives quiet;
       ran = λ clean. turn_at g.S.Store c.args.fewest c.args.statements.now c.loop-statement.statement-index _ _ was now _ c.loop-statement-test.true
-          (c.loop-statement.invariant.ran (omega (arith, quiet.clean))) (one clean).0 (omega arith)
-          (one clean).1.was_open;
+          (c.loop-statement.invariant.ran (omega (arith, quiet.clean))) (one clean).0 (omega arith) (one clean).1.was_open;
       inside = λ clean. let before = inside (omega (arith, quiet.clean)) in
           ((one clean).1.mode, (one clean).1.committed_is ∙ before.1, λ is_open. before.2 (one clean).1.was_open);
       opened = λ clean some. (one clean).1.is_open;
