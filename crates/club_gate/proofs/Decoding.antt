@@ -1,8 +1,8 @@
 -- Lemmas for the proof that `decoded_pass` and `machine_event` compute the decoded values.
-use Rattle.club_gate.proofs.Common.{◌≡◌, ◌↔◌, ℕ, Bool, true, false, IsTrue, List, [], ◌∷◌, map, Option, Some, None, Result, Ok, Err, All, refl, sym, ap, ◌∙◌}
-use Rattle.club_gate.proofs.Common.{subst, All-head, All-tail, IsBytes, Caveat, caveat_of, ReadsWhatIsUnderstood, FormFault, Form, Plain, IsSigned}
-use Rattle.club_gate.proofs.Common.{DecidesSigned, is_signed, IsAnyReading, ReadsAnyFormExactly, reading, Request, Pass, Words, AreWordsOf, IsDecoded, IsSeenAs}
-use Rattle.club_gate.proofs.Common.{AreEventsOf, IsEventOfBytes, IsEventOf, FindsNames, key_name_in, Decodes, SeenAlike, SeesEvents, identifier_of}
+use Rattle.club_gate.proofs.Common.{All, Bool, Err, IsTrue, List, None, Ok, Option, Result, Some, [], ap, arith, map, refl, sym, ℕ, ◌↔◌, ◌∷◌, ◌≡◌}
+use Rattle.club_gate.proofs.Common.{All-head, All-tail, Caveat, Form, FormFault, IsBytes, IsSigned, Plain, ReadsWhatIsUnderstood, caveat_of, subst, ◌∙◌}
+use Rattle.club_gate.proofs.Common.{AreWordsOf, DecidesSigned, IsAnyReading, IsDecoded, IsSeenAs, Pass, ReadsAnyFormExactly, Request, Words, is_signed, reading}
+use Rattle.club_gate.proofs.Common.{AreEventsOf, Decodes, FindsNames, IsEventOf, IsEventOfBytes, SeenAlike, SeesEvents, identifier_of, key_name_in}
 use Rattle.club_gate.proofs.Common.{decoded_or_fault, decoded_pass, decoded_words, machine_event, machine_events, machine_pass, without_form}
 use Rattle.std.specs.List.{AllZip}
 use Rattle.std.proofs.Math.Path.{fun_ext}
@@ -11,7 +11,6 @@ use Rattle.club_values.specs.Name.{IsName}
 use Rattle.club_core.specs.declared.pass_fault.PassFault.{PassFault}
 use Rattle.club_core.specs.Run as machine
 use Rattle.club_gate.specs.declared.event.Event.{Event}
-use Rattle.club_gate.specs.declared.event.Event.TheVariants as events
 
 same_found : {A : Type 0} (a b : Option A) (P : A → Type 0) → ((x : A) → (a ≡ Some x) ↔ P x) → ((x : A) → (b ≡ Some x) ↔ P x) → a ≡ b
 same_found None None P h k = refl
@@ -28,8 +27,7 @@ seen_caveats : ReadsWhatIsUnderstood → (texts : List (List ℕ)) → AllZip Is
 seen_caveats reads [] = tt
 seen_caveats reads (text ∷ texts) = (seen_caveat reads text, seen_caveats reads texts)
 
-same_caveats : ReadsWhatIsUnderstood → (texts : List (List ℕ)) (seen : List (Option Caveat)) → AllZip IsSeenCaveat texts seen
-    → map caveat_of texts ≡ seen
+same_caveats : ReadsWhatIsUnderstood → (texts : List (List ℕ)) (seen : List (Option Caveat)) → AllZip IsSeenCaveat texts seen → map caveat_of texts ≡ seen
 same_caveats reads [] [] h = refl
 same_caveats reads [] (one ∷ seen) h = absurd h
 same_caveats reads (text ∷ texts) [] h = absurd h
@@ -37,9 +35,7 @@ same_caveats reads (text ∷ texts) (one ∷ seen) h =
     rw (same_found (caveat_of text) one (Understood text) (seen_caveat reads text) h.0, same_caveats reads texts seen h.1) refl
 
 same_test : (a b : Bool) (P : Type 0) → IsTrue a ↔ P → IsTrue b ↔ P → a ≡ b
-same_test true b P h k = sym (k.1 (h.0 refl))
-same_test false true P h k = h.1 (k.0 refl)
-same_test false false P h k = refl
+same_test a b P h k = grind arith
 
 module _ (finds : FindsNames) (understood : ReadsWhatIsUnderstood) (signed : DecidesSigned) where
   pub machine_seen : (pass : Plain) → IsSeenAs pass (machine_pass pass)
@@ -67,8 +63,7 @@ pub decodes_as : ReadsAnyFormExactly → (text : List ℕ) (form : Form) (pass :
 decodes_as reads text form pass bytes h =
     ap (λ (r : Result (Form × Plain) FormFault). decoded_or_fault (without_form r)) ((reads text (Ok (form, pass)) bytes).0 h)
 
-decoded_is : ReadsAnyFormExactly → SeenAlike → (text : List ℕ) (seen : Result Pass PassFault) → IsBytes text → IsDecoded text seen
-    → decoded_pass text ≡ seen
+decoded_is : ReadsAnyFormExactly → SeenAlike → (text : List ℕ) (seen : Result Pass PassFault) → IsBytes text → IsDecoded text seen → decoded_pass text ≡ seen
 decoded_is reads alike text (Ok seen) bytes h =
     decodes_as reads text h.0 h.1 bytes h.2 ∙ ap (λ (p : Pass). let read : Result Pass PassFault = Ok p in read) ((alike h.1 seen).0 h.3)
 decoded_is reads alike text (Err fault) bytes h =
@@ -77,33 +72,24 @@ decoded_is reads alike text (Err fault) bytes h =
 
 decoded_by : ReadsAnyFormExactly → SeenAlike → (text : List ℕ) (read : Result (Form × Plain) FormFault) → IsBytes text → reading text ≡ read
     → IsDecoded text (decoded_or_fault (without_form read))
-decoded_by reads alike text (Ok found) bytes e =
-    (found.0, found.1, (reads text (Ok found) bytes).1 e, (alike found.1 (machine_pass found.1)).1 refl)
+decoded_by reads alike text (Ok found) bytes e = (found.0, found.1, (reads text (Ok found) bytes).1 e, (alike found.1 (machine_pass found.1)).1 refl)
 decoded_by reads alike text (Err reason) bytes e = (reason, (reads text (Err reason) bytes).1 e, refl)
 
 pub decodes : ReadsAnyFormExactly → SeenAlike → Decodes
-decodes reads alike text seen bytes = (
-  decoded_is reads alike text seen bytes,
-  λ e. subst (λ (r : Result Pass PassFault). IsDecoded text r) e (decoded_by reads alike text (reading text) bytes refl),
-)
+decodes reads alike text seen bytes = grind (arith, decoded_is, decoded_by)
 
 pub words_are : Decodes → (text : List ℕ) (request : Request) (words : Words) → IsBytes text → AreWordsOf text request words
     → decoded_words text request ≡ words
-words_are law text request words bytes are =
-    rw ((law text words.pass bytes).0 are.0, ← are.1) refl
+words_are law text request words bytes are = grind arith
 
 pub decoded_text : Decodes → (text : List ℕ) → IsBytes text → IsDecoded text (decoded_pass text)
 decoded_text law text bytes = (law text (decoded_pass text) bytes).1 refl
 
 pub event_is : Decodes → (event : Event) (seen : machine.Event) → IsEventOfBytes event → IsEventOf event seen → machine_event event ≡ seen
-event_is law (events.Asked words moment) seen bytes h =
-    ap (λ (w : Words). machine.Asked w moment) (words_are law words.pass.now words.request h.0 bytes h.1) ∙ sym h.2
-event_is law (events.Commanded command) seen bytes h = sym h
+event_is law event seen bytes h = grind arith
 
 event_by : Decodes → (event : Event) → IsEventOfBytes event → IsEventOf event (machine_event event)
-event_by law (events.Asked words moment) bytes =
-    (decoded_words words.pass.now words.request, (decoded_text law words.pass.now bytes, refl), refl)
-event_by law (events.Commanded command) bytes = refl
+event_by law event bytes = grind arith
 
 events_are : Decodes → (all : List Event) (seen : List machine.Event) → All IsEventOfBytes all → AreEventsOf all seen → machine_events all ≡ seen
 events_are law [] [] bytes h = refl
@@ -114,11 +100,7 @@ events_are law (event ∷ all) (one ∷ seen) bytes h =
 
 events_by : Decodes → (all : List Event) → All IsEventOfBytes all → AreEventsOf all (machine_events all)
 events_by law [] bytes = tt
-events_by law (event ∷ all) bytes =
-    (event_by law event (All-head IsEventOfBytes event all bytes), events_by law all (All-tail IsEventOfBytes event all bytes))
+events_by law (event ∷ all) bytes = grind (arith, event_by, All-head, All-tail, events_by law all (All-tail IsEventOfBytes event all bytes))
 
 pub sees_events : Decodes → SeesEvents
-sees_events law all seen bytes = (
-  events_are law all seen bytes,
-  λ e. subst (λ (es : List machine.Event). AreEventsOf all es) e (events_by law all bytes),
-)
+sees_events law all seen bytes = grind (arith, events_are, events_by)

@@ -1,19 +1,18 @@
 -- Lemmas for the proof that each reply of the desk satisfies the law of the desk.
-use Rattle.club_gate.proofs.Common.{◌≡◌, ◌≢◌, ◌⊎◌, inl, inr, ℕ, List, [], ◌∷◌, ◌++◌, map, Option, Some, None, Result, Ok, Err, All, refl, sym, ap, ◌∙◌, subst}
-use Rattle.club_gate.proofs.Common.{map-append, All-nil, All-cons, All-head, All-tail, IsBytes, Ask, Caveat, caveat_of, Allowed, Allows, ReadsWhatIsUnderstood}
-use Rattle.club_gate.proofs.Common.{FormFault, Form, Plain, DecidesSigned, IsAnyReading, ReadsAnyFormExactly, reading, Key, Unavailable, Reply, Request}
-use Rattle.club_gate.proofs.Common.{Verdict, ask_of, verdict_in, basis_of, basis_under, key_of, view_of, Club, key_named, Pass, Words, IsSignedUnder}
-use Rattle.club_gate.proofs.Common.{DependsOnTheBasisAlone, MoreCaveatsNeverOpenMore, RefusesWithoutABasis, ServesOnlyTheEntitled, words_with, HasFailed}
-use Rattle.club_gate.proofs.Common.{IsDecidedBy, FindsNames, key_name_in, identifier_of, machine_pass, decoded_pass, decoded_or_fault, without_form}
-use Rattle.club_gate.proofs.{Common.{decoded_words, AreWordsOf, Decodes, NamesItsRows, unavailable}, Decoding.{decoded_text, decodes_as, words_are}}
+use Rattle.club_gate.proofs.Common.{All, List, None, Ok, Option, Result, Some, [], ap, arith, map, refl, sym, ℕ, ◌++◌, ◌∙◌, ◌∷◌, ◌≡◌, ◌≢◌, ◌⊎◌}
+use Rattle.club_gate.proofs.Common.{All-cons, All-head, All-nil, All-tail, Allowed, Allows, Ask, Caveat, IsBytes, caveat_of, map-append, subst}
+use Rattle.club_gate.proofs.Common.{DecidesSigned, Form, FormFault, IsAnyReading, Key, Plain, ReadsAnyFormExactly, ReadsWhatIsUnderstood, Unavailable, reading}
+use Rattle.club_gate.proofs.Common.{Club, Pass, Reply, Request, Verdict, Words, ask_of, basis_of, basis_under, key_named, key_of, verdict_in, view_of}
+use Rattle.club_gate.proofs.Common.{DependsOnTheBasisAlone, IsSignedUnder, MoreCaveatsNeverOpenMore, RefusesWithoutABasis, ServesOnlyTheEntitled, words_with}
+use Rattle.club_gate.proofs.Common.{FindsNames, HasFailed, IsDecidedBy, decoded_or_fault, decoded_pass, identifier_of, key_name_in, machine_pass, without_form}
+use Rattle.club_gate.proofs.{Common.{AreWordsOf, Decodes, NamesItsRows, decoded_words, unavailable}, Decoding.{decoded_text, decodes_as, words_are}}
 use Rattle.club_core.specs.{Acceptance.{IsAllowedBy, IsServed}, declared.pass_fault.PassFault.PassFault}
 use Rattle.club_gate.specs.Served.{EntitlesTo, IsLawful, IsNarrowedText}
 
 pub reply_or_failure : {S : Type 0} (Represents : S → Club → List Club → Type 0) (new : S) (club : Club) (others : List Club) (verdict : Verdict)
     (reply : Reply) → IsDecidedBy Represents new club others verdict reply ⊎ HasFailed Represents new club others verdict reply
     → reply ≢ unavailable → reply ≡ verdict.reply
-reply_or_failure Represents new club others verdict reply (inl decided) some = decided.reply_is
-reply_or_failure Represents new club others verdict reply (inr failed) some = absurd (some failed.unavailable)
+reply_or_failure Represents new club others verdict reply outcome some = grind arith
 
 -- The reply of the machine to a request with this text as its pass.
 abbrev pub reply_in : Club → List ℕ → Request → ℕ → Reply
@@ -21,8 +20,7 @@ reply_in club text request moment = (verdict_in club (decoded_words text request
 
 decoded_read : (read : Result (Form × Plain) FormFault) (pass : Pass) → decoded_or_fault (without_form read) ≡ Ok pass
     → (found : Form × Plain) × (read ≡ Ok found) × (machine_pass found.1 ≡ pass)
-decoded_read (Ok found) pass e = let same : machine_pass found.1 ≡ pass = cc in (found, refl, same)
-decoded_read (Err fault) pass e = absurd (cc)
+decoded_read read pass e = grind arith
 
 basis_by_name : (club : Club) (words : Words) (key : Key) → key_of words.pass ≡ Some key.name → key_named key.name club ≡ Some key
     → basis_of club words ≡ basis_under club words.request key
@@ -38,18 +36,15 @@ module _ (serves : ServesOnlyTheEntitled) (alone : DependsOnTheBasisAlone) (refu
     (text : List ℕ) (request : Request) (moment : ℕ) (bytes : IsBytes text) where
   replies_as : (other : List ℕ) (reply : Reply) → IsBytes other → reply ≡ reply_in club other request moment → (words : Words)
       → AreWordsOf other request words → reply ≡ (verdict_in club words moment).reply
-  replies_as other reply its e words are =
-      e ∙ ap (λ (w : Words). (verdict_in club w moment).reply) (words_are law other request words its are)
+  replies_as other reply its e words are = grind (arith, words_are)
 
-  allowed_text : (ask : Ask) (caveat_text : List ℕ) (caveat : Option Caveat) → caveat_of caveat_text ≡ caveat → IsAllowedBy ask caveat
-      → Allows caveat_text ask
+  allowed_text : (ask : Ask) (caveat_text : List ℕ) (caveat : Option Caveat) → caveat_of caveat_text ≡ caveat → IsAllowedBy ask caveat → Allows caveat_text ask
   allowed_text ask caveat_text None e h = absurd h
   allowed_text ask caveat_text (Some caveat) e h = (caveat, (understood caveat_text caveat).1 e, h)
 
   allowed_texts : (ask : Ask) (texts : List (List ℕ)) → All (IsAllowedBy ask) (map caveat_of texts) → Allowed texts ask
   allowed_texts ask [] h = All-nil (λ (it : List ℕ). Allows it ask)
-  allowed_texts ask (one ∷ texts) h =
-      All-cons (λ (it : List ℕ). Allows it ask) one texts
+  allowed_texts ask (one ∷ texts) h = All-cons (λ (it : List ℕ). Allows it ask) one texts
       (allowed_text ask one (caveat_of one) refl (All-head (IsAllowedBy ask) (caveat_of one) (map caveat_of texts) h))
       (allowed_texts ask texts (All-tail (IsAllowedBy ask) (caveat_of one) (map caveat_of texts) h))
 
@@ -86,8 +81,7 @@ module _ (serves : ServesOnlyTheEntitled) (alone : DependsOnTheBasisAlone) (refu
       let same : decoded_pass text ≡ decoded_pass other = decodes_as reads text form plain bytes h ∙ sym (decodes_as reads other other_form plain its k) in
       ap (λ (s : Result Pass PassFault). (verdict_in club (record { pass = s; request = request }) moment).reply) same
 
-  named_by : (identifier name other : List ℕ) → key_name_in identifier ≡ Some name → identifier ≡ identifier_of other
-      → key_name_in identifier ≡ Some other
+  named_by : (identifier name other : List ℕ) → key_name_in identifier ≡ Some name → identifier ≡ identifier_of other → key_name_in identifier ≡ Some other
   named_by identifier name other e f =
       let spelled = sym ((finds identifier name).0 e).1 ∙ f in
       let same : name ≡ other = cc in
@@ -121,17 +115,14 @@ module _ (serves : ServesOnlyTheEntitled) (alone : DependsOnTheBasisAlone) (refu
   pub lawful : (reply : Reply) → (reply ≢ unavailable → reply ≡ reply_in club text request moment) → IsLawful club text request moment reply
   lawful reply returned =
       let same : IsServed reply → reply ≡ reply_in club text request moment = λ served. returned (λ e. served Unavailable e) in
-      let also_served : IsServed reply → IsServed (reply_in club text request moment) =
-      λ served. subst (λ (r : Reply). IsServed r) (same served) served
+      let also_served : IsServed reply → IsServed (reply_in club text request moment) = λ served. subst (λ (r : Reply). IsServed r) (same served) served
       in
       record {
         entitles = λ served. served_text (also_served served);
         depends = λ words other are basis some.
             replies_as text reply bytes (returned some) words are ∙ ap (λ (v : Verdict). v.reply) (alone words moment club other (sym basis));
-        blind = λ words are none some.
-            replies_as text reply bytes (returned some) words are ∙ ap (λ (v : Verdict). v.reply) (refuses words moment club none);
+        blind = λ words are none some. replies_as text reply bytes (returned some) words are ∙ ap (λ (v : Verdict). v.reply) (refuses words moment club none);
         forms = λ other words form other_form plain its h k are some.
             replies_as other reply its (returned some ∙ forms_alike other form other_form plain its h k) words are;
-        less = λ wide words its narrowed are served.
-            replies_as wide reply its (same served ∙ opens_no_more wide its narrowed (also_served served)) words are;
+        less = λ wide words its narrowed are served. replies_as wide reply its (same served ∙ opens_no_more wide its narrowed (also_served served)) words are;
       }

@@ -1,18 +1,11 @@
 -- Lemmas on adding one event to a list of events that the desk has handled.
-use Rattle.club_gate.proofs.Common.{◌≡◌, ◌∙◌, inl, inr, Bool, true, false, cond, List, [], ◌∷◌, ◌++◌, length, All, Contains, Option, Some, None, Result, Ok}
-use Rattle.club_gate.proofs.Common.{Err, refl, sym, ap, subst, arith, append_assoc, length-append, All-nil, All-cons, All-append, All-weaker}
-use Rattle.club_gate.proofs.Common.{All-contains_itself, Change, Club, office_verdict, Event, Asked, Commanded, after_change, command_outcome, step, has_failed}
-use Rattle.club_gate.proofs.Common.{IsStep, IsRun, IsAnsweredBy, IsRefusedBy, Steps, change_by, change_of, others_after, FailedLast, IsFollowed, MakesNoChange}
-use Rattle.club_gate.proofs.Common.{MayBeLeft, DeskResponse, events_answered, desk_presentation}
-use Rattle.club_core.specs.declared.command.OfficeFault.{OfficeFault}
+use Rattle.club_gate.proofs.Common.{All, Bool, List, None, Option, Some, [], arith, cond, false, inl, inr, length, refl, subst, sym, true, ◌++◌, ◌∷◌, ◌≡◌}
+use Rattle.club_gate.proofs.Common.{All-append, All-cons, All-contains_itself, All-nil, All-weaker, Change, Club, Event, append_assoc, length-append, step}
+use Rattle.club_gate.proofs.Common.{FailedLast, IsAnsweredBy, IsFollowed, IsRefusedBy, IsRun, IsStep, MakesNoChange, Steps, change_of, has_failed, others_after}
+use Rattle.club_gate.proofs.Common.{DeskResponse, MayBeLeft, desk_presentation, events_answered}
 
 kept_by : (club : Club) (event : Event) → change_of club event ≡ None → (step club event).club ≡ club
-kept_by club (Asked words moment) h = ap (λ (change : Option Change). after_change change club) h
-kept_by club (Commanded command) h = go (office_verdict club command) h
-  where
-    go : (verdict : Result (Option Change) OfficeFault) → change_by verdict ≡ None → (command_outcome club command verdict).club ≡ club
-    go (Ok change) e = ap (λ (made : Option Change). after_change made club) e
-    go (Err fault) e = refl
+kept_by club event h = grind arith
 
 ran_more : (club last next : Club) (events : List Event) (responses : List DeskResponse) (event : Event) (one : DeskResponse)
     → IsRun desk_presentation club events responses last
@@ -24,17 +17,14 @@ ran_more club last next (other ∷ events) (first ∷ responses) event one h s =
 
 one_before : (is_failed : Bool) (event : Event) (front rest : List Event)
     → cond is_failed (front ++ rest) (event ∷ front ++ rest) ≡ cond is_failed front (event ∷ front) ++ rest
-one_before true event front rest = refl
-one_before false event front rest = refl
+one_before is_failed event front rest = grind arith
 
 answered_and_one : (events : List Event) (responses : List DeskResponse) (event : Event) (one : DeskResponse) → length responses ≡ length events
     → events_answered (events ++ event ∷ []) (responses ++ one ∷ []) ≡ events_answered events responses ++ events_answered (event ∷ []) (one ∷ [])
 answered_and_one [] [] event one e = refl
 answered_and_one [] (other ∷ responses) event one e = absurd (omega arith)
 answered_and_one (other ∷ events) [] event one e = absurd (omega arith)
-answered_and_one (other ∷ events) (first ∷ responses) event one e =
-    rw (answered_and_one events responses event one (omega arith))
-    (one_before (has_failed desk_presentation other first) other (events_answered events responses) (events_answered (event ∷ []) (one ∷ [])))
+answered_and_one (other ∷ events) (first ∷ responses) event one e = grind (arith, one_before, answered_and_one events responses event one (omega arith))
 
 abbrev Keeps : Club → Event → Type 0
 Keeps last event = change_of last event ≡ None
@@ -47,30 +37,19 @@ none_by_answer : (last : Club) (event : Event) (one : DeskResponse) → has_fail
     → MakesNoChange last (event ∷ []) (one ∷ [])
 none_by_answer last event one h e = rw h (All-cons (Keeps last) event [] e (All-nil (Keeps last)))
 
-no_change_more : (last : Club) (events : List Event) (responses : List DeskResponse) (event : Event) (one : DeskResponse)
-    → length responses ≡ length events → MakesNoChange last events responses → MakesNoChange last (event ∷ []) (one ∷ [])
-    → MakesNoChange last (events ++ event ∷ []) (responses ++ one ∷ [])
-no_change_more last events responses event one e before more =
-    rw (answered_and_one events responses event one e)
+no_change_more : (last : Club) (events : List Event) (responses : List DeskResponse) (event : Event) (one : DeskResponse) → length responses ≡ length events
+    → MakesNoChange last events responses → MakesNoChange last (event ∷ []) (one ∷ []) → MakesNoChange last (events ++ event ∷ []) (responses ++ one ∷ [])
+no_change_more last events responses event one e before more = rw (answered_and_one events responses event one e)
     (All-append (Keeps last) (events_answered events responses) (events_answered (event ∷ []) (one ∷ [])) before more)
 
 rest_beside : (events front rest : List Event) (event : Event) (responses before since : List DeskResponse) (response : DeskResponse)
     → events ≡ front ++ event ∷ rest → responses ≡ before ++ response ∷ since → length before ≡ length front → length responses ≡ length events
     → length since ≡ length rest
-rest_beside events front rest event responses before since response place among beside e =
-    omega (arith, simp length-append at (ap length place), simp length-append at (ap length among), beside, e)
+rest_beside events front rest event responses before since response place among beside e = grind (arith, length-append)
 
 module _ {S : Type 0} (Represents : S → Club → List Club → Type 0) where
   pub followed_none : (now : S) (club : Club) (others : List Club) → Represents now club others → IsFollowed Represents now club others [] []
-  followed_none now club others h = record {
-    last = club;
-    ran = refl;
-    left = others;
-    represents = h;
-    each =
-        All-weaker (Contains others) (MayBeLeft club others club [] []) (λ left among. inl (refl, All-nil (Keeps club), among)) others
-        (All-contains_itself others);
-  }
+  followed_none now club others h = grind (arith, All-weaker, All-nil, All-contains_itself)
 
   -- The next lemmas add one event to a list of handled events.
   module _ (now new : S) (club : Club) (others : List Club) (events : List Event) (responses : List DeskResponse) (event : Event) (one : DeskResponse)
@@ -83,33 +62,17 @@ module _ {S : Type 0} (Represents : S → Club → List Club → Type 0) where
 
     failed_before : MakesNoChange f.last (event ∷ []) (one ∷ []) → (other : Event) → FailedLast club f.last events responses other
         → FailedLast club f.last all returned other
-    failed_before none other h = record {
-      front = h.front;
-      rest = h.rest ++ event ∷ [];
-      before = h.before;
-      response = h.response;
-      since = h.since ++ one ∷ [];
-      place = ap (λ (es : List Event). es ++ event ∷ []) h.place ∙ append_assoc h.front (other ∷ h.rest) (event ∷ []);
-      response_place = ap (λ (rs : List DeskResponse). rs ++ one ∷ []) h.response_place ∙ append_assoc h.before (h.response ∷ h.since) (one ∷ []);
-      beside = h.beside;
-      ran = h.ran;
-      failure = h.failure;
-      no_change =
-          no_change_more f.last h.rest h.since event one
-          (rest_beside events h.front h.rest other responses h.before h.since h.response h.place h.response_place h.beside e) h.no_change none;
-    }
+    failed_before none other h = grind (arith, append_assoc, no_change_more, rest_beside)
 
     all_with_more : MakesNoChange f.last (event ∷ []) (one ∷ []) → All (MayBeLeft club others f.last all returned) f.left
-    all_with_more none =
-        All-weaker (MayBeLeft club others f.last events responses) (MayBeLeft club others f.last all returned) (λ left may. elim may [
-          | inl h ↦ inl (h.0, no_change_more f.last events responses event one e h.1 none, h.2)
-          | inr h ↦ inr (h.0, failed_before none h.0 h.1, h.2)
-        ]) f.left f.each
+    all_with_more none = All-weaker (MayBeLeft club others f.last events responses) (MayBeLeft club others f.last all returned) (λ left may. elim may [
+      | inl h ↦ inl (h.0, no_change_more f.last events responses event one e h.1 none, h.2)
+      | inr h ↦ inr (h.0, failed_before none h.0 h.1, h.2)
+    ]) f.left f.each
 
     left_by_answer : has_failed desk_presentation event one ≡ false → (change : Option Change) → change_of f.last event ≡ change
         → All (MayBeLeft club others (step f.last event).club all returned) (others_after change f.left)
-    left_by_answer success None is =
-        subst (λ (c : Club). All (MayBeLeft club others c all returned) f.left) (sym (kept_by f.last event is))
+    left_by_answer success None is = subst (λ (c : Club). All (MayBeLeft club others c all returned) f.left) (sym (kept_by f.last event is))
         (all_with_more (none_by_answer f.last event one success is))
     left_by_answer success (Some change) is = All-nil (MayBeLeft club others (step f.last event).club all returned)
 

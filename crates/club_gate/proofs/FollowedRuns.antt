@@ -10,20 +10,16 @@ use Rattle.club_gate.specs.{Runs.ReturnsTheRecord, declared.event.{Event.Event a
 
 pub for_seen : {S T E : Type 0} (Represents : S → Club → List Club
     → Type 0) (new : S) (club : Club) (others : List Club) (events : List DeskEvent) (r : Result T E)
-    (responses : T → List DeskResponse) (P : List Event → List DeskResponse → Type 0) → SeesEvents
-    → OnOk r (All IsEventOfBytes events)
-    → OnOk r (All IsEvent (machine_events events))
-    → IfOk r (λ x. IsFollowed Represents new club others (machine_events events) (responses x))
+    (responses : T → List DeskResponse) (P : List Event → List DeskResponse → Type 0) → SeesEvents → OnOk r (All IsEventOfBytes events)
+    → OnOk r (All IsEvent (machine_events events)) → IfOk r (λ x. IsFollowed Represents new club others (machine_events events) (responses x))
     → ((ts : List DeskResponse) → All IsEvent (machine_events events) → IsFollowed Represents new club others (machine_events events) ts
-    → P (machine_events events) ts)
-    → IfOk r (λ x. (seen : List Event) → AreEventsOf events seen → P seen (responses x))
+    → P (machine_events events) ts) → IfOk r (λ x. (seen : List Event) → AreEventsOf events seen → P seen (responses x))
 for_seen Represents new club others events (Ok x) responses P sees bytes within f rule = λ seen are.
     subst (λ (es : List Event). P es (responses x)) ((sees events seen bytes).0 are) (rule (responses x) within f)
 for_seen Represents new club others events (Err e) responses P sees bytes within f rule = tt
 
-module _ {S : Type 0} (Represents : S → Club → List Club
-    → Type 0) (new : S) (club : Club) (others : List Club) (events : List Event) (responses : List DeskResponse)
-    (leaves : LeavesOutFailed OfficeReply) (f : IsFollowed Represents new club others events responses) where
+module _ {S : Type 0} (Represents : S → Club → List Club → Type 0) (new : S) (club : Club) (others : List Club) (events : List Event)
+    (responses : List DeskResponse) (leaves : LeavesOutFailed OfficeReply) (f : IsFollowed Represents new club others events responses) where
   left_by : f.last ≡ club_left club events responses
   left_by = (leaves desk_presentation club f.last events responses f.ran).left
 
@@ -53,9 +49,7 @@ module _ {S : Type 0} (Represents : S → Club → List Club
 
   conserved_by : ConservesWithFailures OfficeReply → All IsEvent events → Conserves club events responses
   conserved_by law within = λ name member empty named.
-      let From : Club → Type 0 =
-      λ c.
-      IsRun desk_presentation c events responses (club_left c events responses)
+      let From : Club → Type 0 = λ c. IsRun desk_presentation c events responses (club_left c events responses)
       → member_named name (club_left c events responses) ≡ Some member
       → IsConserved (club_left c events responses) (events_answered events responses) (replies_of c (events_answered events responses)) member
       in

@@ -1,8 +1,6 @@
 pub mod Common
 pub mod Walking
-pub mod SigningLemmas
 pub mod Signers
-pub mod Identifiers
 pub mod Verifying
 pub mod Stepping
 pub mod Decoding
@@ -10,6 +8,4 @@ pub mod DeskLaws
 pub mod FollowedEvents
 pub mod FollowedRuns
 pub mod Reading
-pub mod Spending
-pub mod KindScans
 pub mod StoreReads

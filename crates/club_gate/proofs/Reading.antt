@@ -1,12 +1,12 @@
 -- Lemmas for the proof that the desk reads enough rows to answer a request with a signed pass.
-use Rattle.club_gate.proofs.Common.{◌≡◌, inl, inr, ℕ, true, List, Ok, map, refl, sym, ap, ◌∙◌, Option, Some, None, is_some, option_map, option_and_then}
-use Rattle.club_gate.proofs.Common.{if◌then◌else◌, same_Some, caveat_of, first_fault_of, after_spending, Plain, Key, KeyRow, row_of_key, Request, View}
-use Rattle.club_gate.proofs.Common.{answer_by_view, ask_of, owed_at, verdict_in, Basis, account_named, slot_use, state_of, view_in, view_of, Club, IsSound}
-use Rattle.club_gate.proofs.Common.{bookings_of, key_named, is_signed_under, booking_under, count_to_come, spent_under, words_with, key_in, AgreesOnRecord}
-use Rattle.club_gate.proofs.{Common.{IsOnRecord, signer_of, machine_pass}, Signers.{IsOwned, is_signer, key_there, owner}}
-use Rattle.pass_caveats.specs.declared.fault.CaveatFault.{CaveatFault, TheVariants.{Denied, NotUnderstood}}
+use Rattle.club_gate.proofs.Common.{List, None, Ok, Option, Some, arith, inl, inr, is_some, map, option_and_then, option_map, refl, true, ℕ, ◌∙◌, ◌≡◌}
+use Rattle.club_gate.proofs.Common.{Key, KeyRow, Plain, Request, View, after_spending, caveat_of, first_fault_of, if◌then◌else◌, row_of_key}
+use Rattle.club_gate.proofs.Common.{Basis, Club, IsSound, account_named, answer_by_view, ask_of, owed_at, slot_use, state_of, verdict_in, view_in, view_of}
+use Rattle.club_gate.proofs.Common.{AgreesOnRecord, booking_under, bookings_of, count_to_come, is_signed_under, key_in, key_named, spent_under, words_with}
+use Rattle.club_gate.proofs.{Common.{IsOnRecord, machine_pass, signer_of}, Signers.{IsOwned, is_signer, key_there, owner}}
+use Rattle.pass_caveats.specs.declared.fault.CaveatFault.{CaveatFault}
 use Rattle.club_values.specs.declared.slot.Slot.{Slot}
-use Rattle.club_rows.specs.declared.{booking.Booking.Booking, facility.Facility.Facility}
+use Rattle.club_rows.specs.declared.{facility.Facility.Facility}
 use Rattle.club_core.specs.{Laws.OwnBookings, Looks.{bare_view, books_anew}, Request.{request_number, request_slot}}
 use Rattle.club_core.specs.declared.account.MemberAccount.{MemberAccount}
 use Rattle.club_core.specs.declared.request.Request.TheVariants as asked
@@ -36,12 +36,6 @@ with_all club moment view account = record (with_account club moment view accoun
 abbrev pub with_sums : Club → ℕ → View → Option View
 with_sums club moment view = option_map (with_all club moment view) (account_named view.key.member club)
 
-pub sums_read : (club : Club) (moment : ℕ) (view shown : View) (spent : ℕ) (account : Option MemberAccount)
-    → spent ≡ spent_under shown.key.name club.bookings → Some shown ≡ option_map (with_account club moment view) account
-    → Some (let all : View = record shown { spent = spent } in all) ≡ option_map (with_all club moment view) account
-sums_read club moment view shown spent None is e = absurd (cc)
-sums_read club moment view shown spent (Some account) is e = rw (is, same_Some shown (with_account club moment view account) e) refl
-
 -- The view after adding the rows and sums that the decision depends on:
 -- - A request to view a slot needs the slot's values (`with_slot`).
 -- - A new booking needs the slot's values and the member's values (`with_account`).
@@ -49,20 +43,16 @@ sums_read club moment view shown spent (Some account) is e = rw (is, same_Some s
 -- - Other requests need no more rows or sums.
 abbrev pub last_view : Club → Request → ℕ → View → Option View
 last_view club (asked.View slot) moment view = Some (with_slot club slot view)
-last_view club (asked.Book slot number guests) moment view =
-    if books_anew view then with_member club moment (with_slot club slot view) else Some view
+last_view club (asked.Book slot number guests) moment view = if books_anew view then with_member club moment (with_slot club slot view) else Some view
 last_view club (asked.Cancel slot number) moment view = Some view
 last_view club asked.Account moment view = with_sums club moment view
 
 nothing_owed : (request : Request) (facility : Option Facility) → owed_at request true facility ≡ 0
-nothing_owed (asked.Book slot number guests) facility = refl
-nothing_owed request facility = refl
+nothing_owed request facility = grind arith
 
 refused_by_fault : (view other : View) (request : Request) (moment : ℕ) → view.key ≡ other.key → (fault : Option CaveatFault) → is_some fault ≡ true
     → answer_by_view (Some view) true fault request moment ≡ answer_by_view (Some other) true fault request moment
-refused_by_fault view other request moment e None some = absurd (cc)
-refused_by_fault view other request moment e (Some (NotUnderstood n)) some = rw e refl
-refused_by_fault view other request moment e (Some (Denied n)) some = rw e refl
+refused_by_fault view other request moment e fault some = grind arith
 
 module _ (club : Club) (key : Key) (moment : ℕ) (its : IsOwned club key) where
   -- The view of a request under the key, with all rows and sums.
@@ -78,48 +68,20 @@ module _ (club : Club) (key : Key) (moment : ℕ) (its : IsOwned club key) where
   abbrev its_fault : Plain → Request → Option CaveatFault
   its_fault pass request = first_fault_of (map caveat_of pass.caveats) (ask_of (whole request) request moment)
 
-  answered : (pass : Plain) (request : Request) → key_in club pass.identifier ≡ Some key
-      → verdict_in club (words_with (machine_pass pass) request) moment
+  answered : (pass : Plain) (request : Request) → key_in club pass.identifier ≡ Some key → verdict_in club (words_with (machine_pass pass) request) moment
       ≡ answer_by_view (Some (whole request)) (is_signed_under (machine_pass pass) key moment) (its_fault pass request) request moment
   answered pass request is = rw (is, its.is) refl
 
-  decided : (request : Request) (facility : Option Facility) (booking : Option Booking)
-      → answer_by_view (last_view club request moment (record (bare_view (row_of_key key)) { facility = facility; booking = booking })) true None request moment
-      ≡ answer_by_view (Some (record (whole request) { facility = facility; booking = booking })) true None request moment
-  decided (asked.View slot) None booking = refl
-  decided (asked.View slot) (Some facility) booking = refl
-  decided (asked.Book slot number guests) None None = refl
-  decided (asked.Book slot number guests) (Some facility) None = rw its.is refl
-  decided (asked.Book slot number guests) facility (Some booking) = refl
-  decided (asked.Cancel slot number) facility booking = refl
-  decided asked.Account facility booking = rw (its.is, its.spent) refl
-
-  of_booking : (request : Request) (facility other : Option Facility) (booking : Option Booking) → booking ≡ (whole request).booking
-      → is_some booking ≡ true
-      → answer_by_view (Some (record (whole request) { facility = facility; booking = booking })) true None request moment
-      ≡ answer_by_view (Some (record (whole request) { facility = other; booking = booking })) true None request moment
-  of_booking request facility other None e some = absurd (cc)
-  of_booking (asked.View slot) facility other (Some booking) e some = absurd (cc)
-  of_booking request facility other (Some booking) e some = refl
-
   at_number : (number : Option ℕ) → option_and_then (λ (n : ℕ). booking_under key.name n club.bookings) number
       ≡ option_and_then (λ (n : ℕ). booking_under key.name n (bookings_of its.member.name club)) number
-  at_number None = refl
-  at_number (Some number) = sym (its.booking number)
+  at_number number = grind arith
 
   module _ (pass : Plain) (request : Request) (view : View) (agrees : AgreesOnRecord club (row_of_key key) pass request view) where
     booked : view.booking ≡ (whole request).booking
     booked = agrees.booking_is ∙ at_number (request_number request)
 
-    decides : answer_by_view (last_view club request moment view) true None request moment
-        ≡ answer_by_view (Some (whole request)) true None request moment
-    decides =
-        let shown : KeyRow → View = λ k. record (bare_view k) { facility = view.facility; booking = view.booking } in
-        rw (agrees.no_more ∙ ap shown agrees.key_is) (decided request view.facility view.booking
-        ∙ elim agrees.facility_is [
-          | inl same ↦ rw (same, booked) refl
-          | inr short ↦ of_booking request view.facility (whole request).facility view.booking booked short.1 ∙ rw booked refl
-        ])
+    decides : answer_by_view (last_view club request moment view) true None request moment ≡ answer_by_view (Some (whole request)) true None request moment
+    decides = grind arith
 
     same_fault : first_fault_of (map caveat_of pass.caveats) (after_spending (spent_under key.name club.bookings) (ask_of view request moment))
         ≡ its_fault pass request
@@ -134,9 +96,8 @@ module _ (club : Club) (key : Key) (moment : ℕ) (its : IsOwned club key) where
     ]
 
 pub last_reads : OwnBookings → (club : Club) (request : Request) (moment : ℕ) (view : View) (found : Option View) → IsSound club
-    → found ≡ last_view club request moment view → (pass : Plain) (row : KeyRow) → IsOnRecord club row
-    → AgreesOnRecord club row pass request view → answer_by_view found true None request moment
-    ≡ answer_by_view (view_in club row.name request moment) true None request moment
+    → found ≡ last_view club request moment view → (pass : Plain) (row : KeyRow) → IsOnRecord club row → AgreesOnRecord club row pass request view
+    → answer_by_view found true None request moment ≡ answer_by_view (view_in club row.name request moment) true None request moment
 last_reads own club request moment view found sound e pass row (key, named, is) agrees =
     let its = owner own club key.name key sound named in
     rw (e, is, seen club key moment its request key.name named) (decides club key moment its pass request view (rw is at agrees))
@@ -152,8 +113,7 @@ verdict_read own club row moment pass request view fault sound signer agrees f =
     let named = key_there club pass.identifier is.key is.is in
     let its = owner own club is.key.name is.key sound named in
     let there = rw is.row_is at agrees in
-    let fault_is : fault ≡ its_fault club is.key moment its pass request =
-    rw is.row_is at f ∙ same_fault club is.key moment its pass request view there
+    let fault_is : fault ≡ its_fault club is.key moment its pass request = rw is.row_is at f ∙ same_fault club is.key moment its pass request view there
     in
     rw (is.row_is, seen club is.key moment its request is.key.name named) (
       answered club is.key moment its pass request is.is ∙ rw (is.signed, fault_is) refl,

@@ -1,12 +1,14 @@
--- Lemmas on the key under which a pass is signed, and on the key's member.
-use Rattle.club_gate.proofs.Common.{◌≡◌, ℕ, zero, suc, Bool, true, false, cond, not, List, [], ◌∷◌, map, refl, sym, ap, ◌∙◌, arith, Option, Some, None, Result}
-use Rattle.club_gate.proofs.Common.{Ok, Err, option_map, option_and_then, Contains, find, bytes_eq, All-contains, option_and_then_some, Plain, Key, KeyRow}
-use Rattle.club_gate.proofs.Common.{row_of_key, KeyRevoked, NotVerified, Request, Verdict, answer_to, verdict_in, basis_under, Club, IsSound, bookings_of}
-use Rattle.club_gate.proofs.Common.{key_named, member_named, is_signed_under, booking_under, spent_under, words_with, key_in, key_name_in, machine_pass}
-use Rattle.club_gate.proofs.Common.{signer_of}
+-- Lemmas on the key under which a pass is signed, on the key's member, and on the points that the
+-- key has spent.
+use Rattle.club_gate.proofs.Common.{All-contains, Bool, List, Option, Some, [], ap, arith, cond, false, map, not, refl, suc, sym, true, zero, ℕ, ◌∙◌, ◌∷◌, ◌≡◌}
+use Rattle.club_gate.proofs.Common.{Club, Contains, Err, IsSound, Key, KeyRevoked, KeyRow, NotVerified, Ok, Plain, Request, bytes_eq, find, option_map}
+use Rattle.club_gate.proofs.Common.{booking_under, bookings_of, is_signed_under, key_in, key_named, machine_pass, member_named, row_of_key, verdict_in}
+use Rattle.club_gate.proofs.Common.{IsOnRecord, account_named, cost_of, signer_of, spent_under, subst, sum_by, words_with, ◌-◌, ◌≤◌}
 use Rattle.std.proofs.lemmas.Slice.Eq.{bytes_eq-Decides}
 use Rattle.club_rows.specs.declared.member.Member.{Member}
-use Rattle.club_core.specs.{Laws.OwnBookings, Lines.{line_if, first_of}, Verdict.refusal_verdict, declared.refusal.Refusal.Refusal}
+use Rattle.club_core.specs.{Laws.OwnBookings, Lines.{first_of, line_if}, Verdict.refusal_verdict, declared.account.MemberAccount.MemberAccount}
+use Rattle.club_core.specs.declared.refusal.Refusal.{Refusal}
+use Rattle.club_laws.specs.Spending.{AccountsShowWhatIsUsed, SpendsWithinItsMember}
 
 pub found : {X : Type 0} (p : X → Bool) (xs : List X) (x : X) → find p xs ≡ Some x → Contains xs x × (p x ≡ true)
 found p [] x h = absurd (cc)
@@ -28,8 +30,7 @@ member_there : (members : List Member) (name : List ℕ) → Contains (map (λ (
     → (found : Member) × (find (λ (m : Member). bytes_eq m.name name) members ≡ Some found)
 member_there [] name h = absurd (omega (arith, h.1))
 member_there (member ∷ members) name (zero, short, same) = (member, rw ((bytes_eq-Decides member.name name).1 same) refl)
-member_there (member ∷ members) name (suc k, short, same) =
-    or_first (bytes_eq member.name name) member _ (member_there members name (k, omega arith, same))
+member_there (member ∷ members) name (suc k, short, same) = grind (arith, or_first, member_there members name (k, omega arith, same))
 
 among : (club : Club) (name : List ℕ) (key : Key) → key_named name club ≡ Some key → Contains club.keys key
 among club name key row = (found (λ (k : Key). bytes_eq k.name name) club.keys key row).0
@@ -56,13 +57,7 @@ owner own club name key sound row =
     record { member = has.0; is = has.1; spent = rw same its.spent; booking = rw same its.booking }
 
 pub key_there : (club : Club) (identifier : List ℕ) (key : Key) → key_in club identifier ≡ Some key → key_named key.name club ≡ Some key
-key_there club identifier key e =
-    option_and_then_some (λ (n : List ℕ). key_named n club) (key_name_in identifier) key e (λ name is row.
-    ap (λ (n : List ℕ). key_named n club) (named club name key row) ∙ row)
-
-of_row : (key : Option Key) (row : KeyRow) → Some row ≡ option_map row_of_key key → (found : Key) × (key ≡ Some found) × (row ≡ row_of_key found)
-of_row None row e = absurd (cc)
-of_row (Some key) row e = (key, refl, cc)
+key_there club identifier key e = grind (arith, named)
 
 -- The row belongs to the key that the pass names, and the pass is signed under this key.
 pub record IsSigner (club : Club) (pass : Plain) (moment : ℕ) (row : KeyRow) : Type 0 where
@@ -80,42 +75,29 @@ pub signer_by_tests : (club : Club) (pass : Plain) (moment : ℕ) (row : KeyRow)
     → Some row ≡ option_map row_of_key (key_in club pass.identifier)
     → ((key : Key) → key_named key.name club ≡ Some key → row ≡ row_of_key key → is_signed ≡ is_signed_under (machine_pass pass) key moment)
     → signer_of pass moment (key_in club pass.identifier) ≡ by_tests is_signed row.revoked (Err NotVerified) (Err KeyRevoked) (Ok row)
-signer_by_tests club pass moment row is_signed e signed =
-    let its = of_row (key_in club pass.identifier) row e in
-    let tests : KeyRow → Result KeyRow Refusal = λ r. by_tests is_signed r.revoked (Err NotVerified) (Err KeyRevoked) (Ok r) in
-    rw (its.1, ← signed its.0 (key_there club pass.identifier its.0 its.1) its.2) (ap tests (sym its.2))
-
-passed : (is_signed revoked : Bool) (row other : KeyRow) → by_tests is_signed revoked (Err NotVerified) (Err KeyRevoked) (Ok row) ≡ Ok other
-    → (is_signed ≡ true) × (other ≡ row)
-passed false revoked row other e = absurd (cc)
-passed true true row other e = absurd (cc)
-passed true false row other e = (refl, cc)
+signer_by_tests club pass moment row is_signed e signed = grind (arith, key_there)
 
 pub is_signer : (club : Club) (pass : Plain) (moment : ℕ) (row : KeyRow) → signer_of pass moment (key_in club pass.identifier) ≡ Ok row
     → IsSigner club pass moment row
-is_signer club pass moment row e = go (key_in club pass.identifier) refl e
-  where
-    go : (key : Option Key) → key_in club pass.identifier ≡ key → signer_of pass moment key ≡ Ok row → IsSigner club pass moment row
-    go None is h = absurd (cc)
-    go (Some key) is h =
-        let its = passed (is_signed_under (machine_pass pass) key moment) key.revoked (row_of_key key) row h in
-        record { key = key; is = is; signed = its.0; row_is = its.1 }
-
-refused_alike : (is_signed revoked : Bool) (row : KeyRow) (last : Verdict) (refusal : Refusal)
-    → by_tests is_signed revoked (Err NotVerified) (Err KeyRevoked) (Ok row) ≡ Err refusal
-    → by_tests is_signed revoked (refusal_verdict NotVerified) (refusal_verdict KeyRevoked) last ≡ refusal_verdict refusal
-refused_alike false revoked row last refusal e = cc
-refused_alike true true row last refusal e = cc
-refused_alike true false row last refusal e = absurd (cc)
+is_signer club pass moment row e = grind arith
 
 pub refused_by_row : (club : Club) (pass : Plain) (request : Request) (moment : ℕ) → IsSound club → (refusal : Refusal)
     → signer_of pass moment (key_in club pass.identifier) ≡ Err refusal
     → refusal_verdict refusal ≡ verdict_in club (words_with (machine_pass pass) request) moment
-refused_by_row club pass request moment sound refusal e = go (key_in club pass.identifier) refl e
-  where
-    go : (key : Option Key) → key_in club pass.identifier ≡ key → signer_of pass moment key ≡ Err refusal
-        → refusal_verdict refusal ≡ answer_to (Ok (machine_pass pass)) request moment (option_and_then (basis_under club request) key)
-    go None is h = cc
-    go (Some key) is h =
-        let its = member_of club key.name key sound (key_there club pass.identifier key is) in
-        rw its.1 (sym (refused_alike (is_signed_under (machine_pass pass) key moment) key.revoked (row_of_key key) _ refusal h))
+refused_by_row club pass request moment sound refusal e = grind (arith, member_of, key_there)
+
+pub on_record : (club : Club) (pass : Plain) (moment : ℕ) (row : KeyRow) → signer_of pass moment (key_in club pass.identifier) ≡ Ok row → IsOnRecord club row
+on_record club pass moment row e =
+    let its = is_signer club pass moment row e in
+    (its.key, key_there club pass.identifier its.key its.is, its.row_is)
+
+pub spent_within : SpendsWithinItsMember → AccountsShowWhatIsUsed → (club : Club) (row : KeyRow) (account : MemberAccount) (used most : ℕ) → IsSound club
+    → IsOnRecord club row → account_named row.member club ≡ Some account → used ≡ account.member.credited - account.balance → used ≤ most
+    → spent_under row.name club.bookings ≤ most
+spent_within spends shows club row account used most sound on e u less =
+    let key = on.0 in
+    let there = (found (λ (k : Key). bytes_eq k.name key.name) club.keys key on.1).0 in
+    let P : KeyRow → Type 0 = λ r. spent_under r.name club.bookings ≤ sum_by cost_of (bookings_of r.member club) in
+    let some : P row = subst P (sym on.2) (spends club key there) in
+    let all = shows club row.member account sound e in
+    omega (arith, some, all, u, less)

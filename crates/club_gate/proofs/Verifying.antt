@@ -1,8 +1,7 @@
 -- Lemmas for the proof that `Desk::verdict` returns the verdict on a text.
-use Rattle.club_gate.proofs.Common.{◌≡◌, ◌≢◌, inl, inr, ℕ, ◌≤◌, length, List, Option, Result, Ok, Err, refl, ap, ◌∙◌, subst, IfOk, IsBytes, FormFault, Form}
-use Rattle.club_gate.proofs.Common.{PassField, pass_fields, ReadsExactly, Plain, IsReadingInForm, SpellsForm, ReadsAnyFormExactly, ReadsWhatIsWrapped, reading}
-use Rattle.club_gate.proofs.Common.{reading_in_form, Change, Request, StoreFault, Verdict, verdict_in, Club, words_with, machine_pass, without_form}
-use Rattle.club_gate.proofs.Common.{decoded_words, words_in_form, OfItsPass, ReadsOrLacksMemory}
+use Rattle.club_gate.proofs.Common.{Err, Form, FormFault, IfOk, IsBytes, IsReadingInForm, List, Ok, Result, arith, length, refl, subst, ℕ, ◌≡◌, ◌≢◌, ◌≤◌}
+use Rattle.club_gate.proofs.Common.{Club, PassField, Plain, ReadsAnyFormExactly, ReadsExactly, ReadsWhatIsWrapped, Request, SpellsForm, StoreFault, pass_fields}
+use Rattle.club_gate.proofs.Common.{OfItsPass, Verdict, machine_pass, reading, reading_in_form, verdict_in, words_in_form, words_with}
 use Rattle.pass_forms.specs.{Envelope.IsUnwrapped, Reading.{IsReadAs, max_caveats, max_text_len}, V1.SpellsV1, V2.SpellsV2, computed.Text.in_form}
 use Rattle.pass_forms.specs.{computed.{V1Reading.reading_v1, V2Reading.reading_v2}, declared.form.Form.TheVariants.{V1, V2, Json}}
 use Rattle.pass_json.specs.{Json.SpellsJson, computed.JsonReading.reading_json}
@@ -15,30 +14,15 @@ pub verdict_by_bytes : {fields : List PassField} (club : Club) (request : Reques
     (result : Result Verdict StoreFault) → reading_in_form form bytes ≡ Ok pass → fields ≡ pass_fields pass → length pass.caveats ≤ max_caveats
     → IfOk result (λ found. OfItsPass fields (λ it. found ≡ verdict_in club (words_with (machine_pass it) request) moment))
     → IsVerdict result (verdict_in club (words_in_form form bytes request) moment)
-verdict_by_bytes club request moment form bytes pass (Ok verdict) read are short h = rw read (h pass are short)
-verdict_by_bytes club request moment form bytes pass (Err fault) read are short h = tt
-
-formless : (form : Form) (read : Result Plain FormFault) → without_form (in_form form read) ≡ read
-formless form (Ok pass) = refl
-formless form (Err fault) = refl
-
-pub verdict_by_text : (club : Club) (request : Request) (moment : ℕ) (text : List ℕ) (form : Form) (bytes : List ℕ)
-    (result : Result Verdict StoreFault) → reading text ≡ in_form form (reading_in_form form bytes)
-    → IsVerdict result (verdict_in club (words_in_form form bytes request) moment)
-    → IsVerdict result (verdict_in club (decoded_words text request) moment)
-verdict_by_text club request moment text form bytes result wrapped h =
-    let same : without_form (reading text) ≡ reading_in_form form bytes = ap without_form wrapped ∙ formless form (reading_in_form form bytes) in
-    rw same h
+verdict_by_bytes club request moment form bytes pass result read are short h = grind arith
 
 pub fault_in : (form : Form) (read : Result Plain FormFault) (text : List ℕ) (fault : FormFault)
     → reading text ≡ in_form form read → reading text ≡ Err fault → read ≡ Err fault
-fault_in form (Ok pass) text fault wrapped e = absurd (cc)
-fault_in form (Err other) text fault wrapped e = let same : other ≡ fault = cc in ap (λ (f : FormFault). Err f) same
+fault_in form read text fault wrapped e = grind arith
 
 with_its_form : (form : Form) (bytes : List ℕ) (read : Result Plain FormFault) → IsReadAs (length bytes) (SpellsForm form bytes) read
     → IsReadingInForm form bytes (in_form form read)
-with_its_form form bytes (Ok pass) h = (refl, h)
-with_its_form form bytes (Err fault) h = h
+with_its_form form bytes read h = grind arith
 
 module _ (packets : ReadsExactly SpellsV1 reading_v1) (sections : ReadsExactly SpellsV2 reading_v2) (json : ReadsExactly SpellsJson reading_json) where
   reads_in : (form : Form) (bytes : List ℕ) → IsReadAs (length bytes) (SpellsForm form bytes) (reading_in_form form bytes)
@@ -47,8 +31,7 @@ module _ (packets : ReadsExactly SpellsV1 reading_v1) (sections : ReadsExactly S
   reads_in Json bytes = (json bytes (reading_json bytes)).1 refl
 
   pub read_wrapped : ReadsAnyFormExactly → ReadsWhatIsWrapped → (text : List ℕ) (form : Form) (bytes : List ℕ) → IsBytes text
-      → IsUnwrapped text (Ok (form, bytes)) → length bytes ≤ max_text_len
-      → reading text ≡ in_form form (reading_in_form form bytes)
+      → IsUnwrapped text (Ok (form, bytes)) → length bytes ≤ max_text_len → reading text ≡ in_form form (reading_in_form form bytes)
   read_wrapped texts wrapped text form bytes are content short =
       let answer = in_form form (reading_in_form form bytes) in
       let read = with_its_form form bytes (reading_in_form form bytes) (reads_in form bytes) in
@@ -59,10 +42,3 @@ json_in text form bytes h json = subst (λ (f : Form). IsUnwrapped text (Ok (f, 
 
 pub other_form : (text : List ℕ) (form : Form) (bytes : List ℕ) → IsUnwrapped text (Ok (form, bytes)) → ¬ IsJson text → form ≢ Json
 other_form text form bytes h in_place json = in_place (bytes, json_in text form bytes h json)
-
-pub lacks_memory : {S : Type 0} (Fails : Option Change → S → StoreFault → S → Type 0) (text : List ℕ) (form : Form) (bytes : List ℕ) (old new : S)
-    (result : Result Verdict StoreFault) → IsUnwrapped text (Ok (form, bytes)) → ReadsOrLacksMemory Fails (form ≡ Json) old new result
-    → ReadsOrLacksMemory Fails (IsJson text) old new result
-lacks_memory Fails text form bytes old new (Ok verdict) h r = r
-lacks_memory Fails text form bytes old new (Err fault) h (inl failed) = inl failed
-lacks_memory Fails text form bytes old new (Err fault) h (inr json) = inr ((bytes, json_in text form bytes h json.0), json.1)

@@ -1,5 +1,5 @@
 -- The loop invariant of `has_kind`, which scans the fields of a pass.
-use Rattle.club_gate.proofs.{Common.length, KindScans.AreBlind}
+use Rattle.club_gate.proofs.{Common.length, Walking.AreBlind}
 use Rattle.club_gate.proofs.walk.has_kind.Given as goal
 
 abbrev pub invariant-loop-field : goal.invariant-loop-field

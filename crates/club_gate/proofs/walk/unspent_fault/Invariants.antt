@@ -3,9 +3,7 @@ use Rattle.club_gate.proofs.{Common.{◌≡◌, ℕ, length, IsWithin, after_spe
 use Rattle.club_gate.proofs.walk.unspent_fault.Given as goal
 
 abbrev pub invariant-loop-field : goal.invariant-loop-field
-invariant-loop-field g l =
-    (spent : ℕ) → IsWithin l.slack spent
-    → fault_in (after_spending spent l.ask) l.number (g.F.FieldSource.left l.source)
+invariant-loop-field g l = (spent : ℕ) → IsWithin l.slack spent → fault_in (after_spending spent l.ask) l.number (g.F.FieldSource.left l.source)
     ≡ fault_in (after_spending spent l.ask) l.initial.number (g.F.FieldSource.left l.initial.source)
 
 abbrev pub decreases-loop-field : goal.decreases-loop-field

@@ -1,12 +1,11 @@
-use Rattle.club_gate.proofs.Common.{◌≡◌, List, Ok, inl, inr, sym, All-head, Club, IsSound, office_verdict, FitsIfAny}
-use Rattle.club_gate.proofs.{Stepping.{command_done, command_failed, command_fits}, desk.Desk.answer_to.Goals.After-settle}
+use Rattle.club_gate.proofs.{Common.{All-head, Club, FitsIfAny, IsSound, List, Ok, arith, office_verdict, sym, ◌≡◌}, Stepping.command_done}
+use Rattle.club_gate.proofs.{Stepping.{command_failed, command_fits}, desk.Desk.answer_to.Goals.After-settle}
 use Rattle.club_gate.proofs.desk.Desk.answer_to.Given as given
 use Rattle.club_gate.proofs.desk.Desk.answer_to.Goals as goal
 
 decided : (g : given.Over) (c : After-settle g) → g.S.ClubStore.disk_is_clean c.settle.new.self → (club : Club) (others : List Club)
-    → g.S.ClubStore.represents c.args.self.now club others
-    → (office_verdict club c.args.command.now ≡ Ok c.in-Ok.change) × g.S.ClubStore.represents c.command_view.new.self club others
-    × FitsIfAny c.in-Ok.change club
+    → g.S.ClubStore.represents c.args.self.now club others → (office_verdict club c.args.command.now ≡ Ok c.in-Ok.change)
+    × g.S.ClubStore.represents c.command_view.new.self club others × FitsIfAny c.in-Ok.change club
 decided g c was_clean club others represents =
     let before = c.settle.ensures.was_clean was_clean in
     let is = sym (rw (c.in_ok-view.ensures.returned before club others represents) at c.in-Ok.ensures) in
@@ -17,14 +16,7 @@ decided g c was_clean club others represents =
     )
 
 pub returns-in_err-settle-in-Ok-clause-steps : goal.returns-in_err-settle-in-Ok-clause-steps
-returns-in_err-settle-in-Ok-clause-steps g c = λ was_clean club others represents.
-    let is = decided g (goal.at.returns-in_err-settle-in-Ok-clause-steps g c).After-settle was_clean club others represents in
-    inr (command_failed g.S.ClubStore.represents c.settle.new.self club others c.args.command.now c.in-Ok.change
-    c.from_residual-in_err-settle-in-Ok.result c.from_residual-in_err-settle-in-Ok.ensures.0 is.0
-    (c.in_err-settle-in-Ok.ensures.settled was_clean club others is.1 is.2))
+returns-in_err-settle-in-Ok-clause-steps g c = grind (arith, decided, command_failed)
 
 pub returns-in_ok-settle-in-Ok-clause-steps : goal.returns-in_ok-settle-in-Ok-clause-steps
-returns-in_ok-settle-in-Ok-clause-steps g c = λ was_clean club others represents.
-    let is = decided g (goal.at.returns-in_ok-settle-in-Ok-clause-steps g c).After-settle was_clean club others represents in
-    inl (rw c.done.ensures (command_done g.S.ClubStore.represents c.settle.new.self club others c.args.command.now c.in-Ok.change is.0
-    (c.in_ok-settle-in-Ok.ensures.settled was_clean club others is.1 is.2)))
+returns-in_ok-settle-in-Ok-clause-steps g c = grind (arith, decided, command_done)

@@ -1,11 +1,10 @@
-use Rattle.club_gate.proofs.Common.{◌≡◌, Result, Ok, Err, refl, ◌∙◌, Reply, StoreFault, verdict_in, decoded_words, reply_or_unavailable, unavailable}
-use Rattle.club_gate.proofs.{Decoding.decoded_text, DeskLaws.{reply_or_failure, lawful}}
+use Rattle.club_gate.proofs.Common.{Err, Reply, Result, StoreFault, arith, decoded_words, refl, reply_or_unavailable, unavailable, verdict_in, ◌∙◌, ◌≡◌}
+use Rattle.club_gate.proofs.{Decoding.decoded_text, DeskLaws.{lawful, reply_or_failure}}
 use Rattle.std.specs.Result.{result_unwrap_or}
 use Rattle.club_gate.proofs.desk.Desk.ask.Goals as goal
 
 reply_is : (result : Result Reply StoreFault) → result_unwrap_or result unavailable ≡ reply_or_unavailable result
-reply_is (Ok reply) = refl
-reply_is (Err fault) = refl
+reply_is result = grind arith
 
 pub returns-clause-lawful : goal.returns-clause-lawful
 returns-clause-lawful g c = λ was_clean club others represents.
@@ -21,9 +20,6 @@ pub returns-clause-steps : goal.returns-clause-steps
 returns-clause-steps g c = λ was_clean.
     let steps = c.reply_to.ensures.steps was_clean in
     (_, (decoded_text c.decodes.ensures c.args.words.now.pass.now c.are_bytes.ensures, refl), rw (c.unwrap_or.ensures ∙ reply_is c.reply_to.result) steps)
-
-pub returns-clause-failed : goal.returns-clause-failed
-returns-clause-failed g c = rw (c.unwrap_or.ensures ∙ reply_is c.reply_to.result) c.reply_to.ensures.failed
 
 pub returns-clause-untouched : goal.returns-clause-untouched
 returns-clause-untouched g c = λ fault read.

@@ -10,10 +10,7 @@ invariant-loop-event g l = record {
   each : length l.replies.items ≡ l.event-index;
   within : All IsEvent (machine_events (take l.event-index l.events));
   bytes : All IsEventOfBytes (take l.event-index l.events);
-  handled :
-      AreHandled g.S.ClubStore.disk_is_clean g.S.ClubStore.represents g.S.ClubStore.fails l.fn.self (take l.event-index l.events) l.replies.items l.self;
-  followed :
-      g.S.ClubStore.disk_is_clean l.self → (club : Club) (others : List Club)
-      → g.S.ClubStore.represents l.fn.self club others
+  handled : AreHandled g.S.ClubStore.disk_is_clean g.S.ClubStore.represents g.S.ClubStore.fails l.fn.self (take l.event-index l.events) l.replies.items l.self;
+  followed : g.S.ClubStore.disk_is_clean l.self → (club : Club) (others : List Club) → g.S.ClubStore.represents l.fn.self club others
       → IsFollowed g.S.ClubStore.represents l.self club others (machine_events (take l.event-index l.events)) (responses_of l.replies.items);
 }

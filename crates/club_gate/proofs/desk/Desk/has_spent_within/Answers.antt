@@ -1,4 +1,4 @@
-use Rattle.club_gate.proofs.{Common.{◌≤◌, sym, ◌∙◌, arith, rules}, Spending.spent_within, StoreReads.reads}
+use Rattle.club_gate.proofs.{Common.{arith, rules, sym, ◌∙◌, ◌≤◌}, Signers.spent_within, StoreReads.reads}
 use Rattle.std.proofs.lemmas.Bool.Decides.{nat_tests}
 use Rattle.club_gate.proofs.desk.Desk.has_spent_within.Goals as goal
 

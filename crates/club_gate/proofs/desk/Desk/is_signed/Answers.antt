@@ -1,12 +1,30 @@
-use Rattle.club_gate.proofs.{Common.{◌≡◌, refl, sym, ap, ◌∙◌, drop, rules, pass_fields, Plain, is_signed, Key, row_of_key}, SigningLemmas.{older_of, signed_by}}
+use Rattle.club_gate.proofs.Common.{Bool, Key, List, Plain, [], ap, arith, drop, is_signed, pass_fields, refl, row_of_key, rules, sym, ℕ, ◌++◌, ◌∙◌, ◌∷◌, ◌≡◌}
+use Rattle.club_gate.proofs.Common.{Club, KeyRow, Option, PassField, Some, bytes_eq, caveat_field, key_named, key_of_row, map, older_root_at, signature_field}
 use Rattle.club_gate.proofs.{StoreReads.reads, desk.Desk.is_signed.Goals.After-is_signed_by}
-use Rattle.pass_mac.specs.Chain.{derived_key}
+use Rattle.pass_mac.specs.Chain.{chain, derived_key, extended_signature}
+use Rattle.club_rows.specs.declared.key.OlderRoot.{OlderRoot}
+use Rattle.club_core.specs.KeyParts.{older_root_of}
 use Rattle.club_gate.proofs.desk.Desk.is_signed.Given as given
 use Rattle.club_gate.proofs.desk.Desk.is_signed.Goals as goal
 
+-- The Boolean `answer` is true if and only if the signature of the pass is the last signature of
+-- the chain. The chain starts from the signature `start` and has one signature for each caveat.
+abbrev EndsIn : List ℕ → List PassField → Bool → Type 0
+EndsIn start fields answer = (caveats : List (List ℕ)) (signature : List ℕ) → fields ≡ map caveat_field caveats ++ signature_field signature ∷ []
+    → answer ≡ bytes_eq (extended_signature start caveats) signature
+
+module _ (pass : Plain) (identifier : List ℕ) (fields : List PassField) (named : identifier ≡ pass.identifier) (left : fields ≡ drop 2 (pass_fields pass)) where
+  signed_by : (root derived start : List ℕ) (answer : Bool) → derived ≡ derived_key root → start ≡ chain derived identifier []
+      → EndsIn start fields answer → answer ≡ is_signed root pass
+  unfolding is_signed
+  signed_by root derived start answer d s ends = grind arith
+
+older_of : (club : Club) (key : Key) (row : KeyRow) (older : Option OlderRoot) (whole : Key) (moment : ℕ) → key_named key.name club ≡ Some key → row
+    ≡ row_of_key key → older ≡ older_root_of row.name club → whole ≡ key_of_row row older → older_root_at whole.older moment ≡ older_root_at key.older moment
+older_of club key row older whole moment held same found is = rw (is, found, same, held) refl
+
 by_current : (g : given.Over) (c : After-is_signed_by g) (pass : Plain) (key : Key) → c.args.identifier.now ≡ pass.identifier
-    → g.F.FieldSource.left c.args.source.now ≡ drop 2 (pass_fields pass) → c.args.row.now ≡ row_of_key key
-    → is_signed key.root pass ≡ c.is_signed_by.result
+    → g.F.FieldSource.left c.args.source.now ≡ drop 2 (pass_fields pass) → c.args.row.now ≡ row_of_key key → is_signed key.root pass ≡ c.is_signed_by.result
 by_current g c pass key named left same = rw same at (sym (signed_by pass _ _ named (c.again-fields.ensures ∙ left) c.args.row.now.root _ _ _
     (c.bytes.ensures ∙ ap derived_key c.derived-current.ensures) c.from_key.ensures c.is_signed_by.ensures.of_pass))
 

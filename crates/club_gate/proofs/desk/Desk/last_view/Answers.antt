@@ -18,9 +18,7 @@ returns-in_ok-view-in-Book g c = reads g.met.S.ClubStore.sound (search rules) (�
     let books : books_anew c.args.view ≡ true = cc in
     let between = c.with_member.ensures.was_clean clean in
     let slot = c.in_ok-view-in-Book.ensures.returned between club others represents in
-    IfOk-weaker c.with_member.result _ _
-    (λ found e.
-    last_reads c.own_bookings_suffice.ensures club c.args.request.now c.args.moment c.args.view found sound
+    IfOk-weaker c.with_member.result _ _ (λ found e. last_reads c.own_bookings_suffice.ensures club c.args.request.now c.args.moment c.args.view found sound
     (e ∙ (ap (λ (v : View). with_member club c.args.moment v) slot ∙ rw (c.in-Book.is, books) refl)))
     (c.with_member.ensures.returned clean club others (c.with_slot-in-Book.ensures.kept between club others represents)))
 
@@ -29,8 +27,6 @@ returns-in-Cancel g c = reads g.met.S.ClubStore.sound (search rules) (λ clean c
     last_reads c.own_bookings_suffice.ensures club c.args.request.now c.args.moment c.args.view (Some c.args.view) sound (rw c.in-Cancel.is refl))
 
 pub returns-in-Account : goal.returns-in-Account
-returns-in-Account g c = reads g.met.S.ClubStore.sound (search rules) (λ clean club others represents sound.
-    IfOk-weaker c.with_sums.result _ _
-    (λ found e.
+returns-in-Account g c = reads g.met.S.ClubStore.sound (search rules) (λ clean club others represents sound. IfOk-weaker c.with_sums.result _ _ (λ found e.
     last_reads c.own_bookings_suffice.ensures club c.args.request.now c.args.moment c.args.view found sound (rw c.in-Account.is e))
     (c.with_sums.ensures.returned clean club others represents))

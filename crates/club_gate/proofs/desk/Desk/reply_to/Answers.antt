@@ -1,6 +1,5 @@
-use Rattle.club_gate.proofs.Common.{◌≡◌, List, inl, inr, ◌∙◌, All-head, verdict_in, Club, IsSound, FitsIfAny, decoded_words}
-use Rattle.club_gate.proofs.Stepping.{always_decided, ask_done, ask_failed, ask_fits, changed_fault, fails_at_its_words}
-use Rattle.club_gate.proofs.desk.Desk.reply_to.Goals.{After-settle}
+use Rattle.club_gate.proofs.{Common.{All-head, Club, FitsIfAny, IsSound, List, arith, decoded_words, inl, inr, verdict_in, ◌∙◌, ◌≡◌}, Stepping.always_decided}
+use Rattle.club_gate.proofs.{Stepping.{ask_done, ask_failed, ask_fits, changed_fault, fails_at_its_words}, desk.Desk.reply_to.Goals.After-settle}
 use Rattle.club_gate.proofs.desk.Desk.reply_to.Given as given
 use Rattle.club_gate.proofs.desk.Desk.reply_to.Goals as goal
 
@@ -19,10 +18,7 @@ decided g c was_clean club others represents =
     )
 
 pub returns-in_err-settle-clause-steps : goal.returns-in_err-settle-clause-steps
-returns-in_err-settle-clause-steps g c = λ was_clean club others represents.
-    let is = decided g (goal.at.returns-in_err-settle-clause-steps g c).After-settle was_clean club others represents in
-    inr (ask_failed g.S.ClubStore.represents c.settle.new.self club others _ c.args.moment c.in_ok-verdict.verdict c.from_residual-in_err-settle.result
-    c.from_residual-in_err-settle.ensures.0 is.0 (c.in_err-settle.ensures.settled was_clean club others is.1 is.2))
+returns-in_err-settle-clause-steps g c = grind (arith, decided, ask_failed)
 
 pub returns-clause-steps : goal.returns-clause-steps
 returns-clause-steps g c = λ was_clean club others represents.

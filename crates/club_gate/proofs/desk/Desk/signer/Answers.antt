@@ -1,4 +1,4 @@
-use Rattle.club_gate.proofs.Common.{◌≡◌, List, true, false, Ok, Err, refl, ◌∙◌, sym, rules, pass_fields, Plain, KeyRevoked, NotVerified, Club, key_in}
+use Rattle.club_gate.proofs.Common.{Club, Err, KeyRevoked, List, NotVerified, Ok, Plain, arith, false, key_in, pass_fields, refl, rules, sym, ◌∙◌, ◌≡◌}
 use Rattle.club_gate.proofs.{Common.signer_of, Signers.{by_tests, signer_by_tests}, StoreReads.reads, desk.Desk.signer.Goals.In_ok-is_signed}
 use Rattle.club_gate.proofs.desk.Desk.signer.Given as given
 use Rattle.club_gate.proofs.desk.Desk.signer.Goals as goal
@@ -21,11 +21,7 @@ returns-then-not-branch g c = reads g.met.S.ClubStore.sound (search rules) (λ c
     rw (by_row g (goal.at.returns-then-not-branch g c).In_ok-is_signed clean club others represents pass fields, fails) refl)
 
 pub returns-then-row : goal.returns-then-row
-returns-then-row g c = reads g.met.S.ClubStore.sound (search rules) (λ clean club others represents sound pass fields.
-    let passes : c.in_ok-is_signed.field-0 ≡ true = cc in
-    rw (by_row g (goal.at.returns-then-row g c).In_ok-is_signed clean club others represents pass fields, passes, c.if-row.true) refl)
+returns-then-row g c = grind (arith, reads, by_row)
 
 pub returns : goal.returns
-returns g c = reads g.met.S.ClubStore.sound (search rules) (λ clean club others represents sound pass fields.
-    let passes : c.in_ok-is_signed.field-0 ≡ true = cc in
-    rw (by_row g (goal.at.returns g c).In_ok-is_signed clean club others represents pass fields, passes, c.if-row.false) refl)
+returns g c = grind (arith, reads, by_row)

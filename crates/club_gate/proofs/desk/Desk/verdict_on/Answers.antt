@@ -14,10 +14,3 @@ returns-in-Ok-open-clause-returned g c = λ was_clean club others represents.
     let found = ap (λ (f : Form). reading_in_form f c.args.bytes.now) c.in-V2.is ∙ (c.reads_v2_exactly.ensures c.args.bytes.now (Ok read.0)).0 read.1 in
     verdict_by_bytes club c.args.request.now c.args.moment c.args.form c.args.bytes.now read.0 c.verdict_of-in-Ok-open.result found read.2 read.1.2
     (c.verdict_of-in-Ok-open.ensures.returned was_clean club others represents)
-
-pub returns-in-Ok-read_json-clause-returned : goal.returns-in-Ok-read_json-clause-returned
-returns-in-Ok-read_json-clause-returned g c = λ was_clean club others represents.
-    let json = c.in-Ok-read_json in
-    let found = ap (λ (f : Form). reading_in_form f c.args.bytes.now) c.in-Json.is ∙ json.ensures.computed in
-    verdict_by_bytes club c.args.request.now c.args.moment c.args.form c.args.bytes.now json.pass c.verdict_of-in-Ok-read_json.result found c.over.ensures
-    json.ensures.spelling.2 (c.verdict_of-in-Ok-read_json.ensures.returned was_clean club others represents)

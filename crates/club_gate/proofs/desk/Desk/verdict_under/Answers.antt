@@ -1,4 +1,4 @@
-use Rattle.club_gate.proofs.{Common.{◌≡◌, None, sym, ◌∙◌, arith, rules}, Reading.verdict_read, Spending.on_record, StoreReads.reads}
+use Rattle.club_gate.proofs.{Common.{None, arith, rules, sym, ◌∙◌, ◌≡◌}, Reading.verdict_read, Signers.on_record, StoreReads.reads}
 use Rattle.std.proofs.lemmas.Grind.{common_steps}
 use Rattle.club_gate.proofs.desk.Desk.verdict_under.Goals as goal
 
@@ -22,8 +22,7 @@ returns g c = reads g.met.S.ClubStore.sound (search rules) (λ clean club others
     let seen = c.in_ok-view.ensures.returned before club others represents pass fields short in
     let after = c.first_view.ensures.kept before club others represents in
     let fault = c.in_ok-fault.ensures.returned between club others after row pass fields short in
-    let last = c.in_ok-view-2.ensures.returned clean club others (c.caveat_fault.ensures.kept between club others after)
-    pass key row seen in
+    let last = c.in_ok-view-2.ensures.returned clean club others (c.caveat_fault.ensures.kept between club others after) pass key row seen in
     let read = verdict_read c.own_bookings_suffice.ensures club key c.args.moment pass c.args.request.now c.in_ok-view.view c.in_ok-fault.fault sound
     signer seen (rw c.ask.ensures at fault) in
     let none : c.in_ok-fault.fault ≡ None = grind (arith, common_steps, c.if-is_some.false, c.is_some.ensures) in
