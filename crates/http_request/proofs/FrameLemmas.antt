@@ -30,8 +30,7 @@ pub asks_at : {bytes : List ℕ} {fields : List HeaderSpan} {found : Head} (at :
     → Asks bytes at.head found.body_len (drop found.len bytes)
 asks_at {bytes} {found} at = record { piece = take found.len bytes; cut = cut_at bytes found.len at.cut; asks = at.asks }
 
-pub whole_frame : {bytes : List ℕ} {fields : List HeaderSpan} {found : Head} (at : IsHeadAt bytes fields found)
-    → found.body_len ≤ length (drop found.len bytes)
+pub whole_frame : {bytes : List ℕ} {fields : List HeaderSpan} {found : Head} (at : IsHeadAt bytes fields found) → found.body_len ≤ length (drop found.len bytes)
     → IsFramed bytes at.head (take found.body_len (drop found.len bytes))
 whole_frame {bytes} {found} at long = record {
   piece = take found.len bytes;
@@ -44,8 +43,7 @@ whole_frame {bytes} {found} at long = record {
 not_shorter : {bytes p q r s : List ℕ} → IsCut bytes p r → IsCut bytes q s → ¬ (length p < length q)
 not_shorter {p} {q} {r} {s} is other h =
     let le : length p ≤ length q = omega arith in
-    let front : take (length p) q ≡ p =
-    sym (take-append-le (length p) q s le) ∙ ap (take (length p)) (sym other.parts ∙ is.parts) ∙ take-append_seam p r
+    let front : take (length p) q ≡ p = sym (take-append-le (length p) q s le) ∙ ap (take (length p)) (sym other.parts ∙ is.parts) ∙ take-append_seam p r
     in
     let no : ends_with nat_eq p empty_line ≡ false = rw front at (other.cut.shortest (length p) h) in
     let yes = is.cut.ends in
@@ -67,8 +65,7 @@ one_piece {p} {q} {r} {s} is other = elim (cases_order (length p) (length q)) [
 pub no_piece : {bytes piece rest : List ℕ} → IsCut bytes piece rest → ¬ (HasNoPiece bytes)
 no_piece {piece} {rest} is none =
     let front : take (length piece) (piece ++ rest) ≡ piece = take-append_seam piece rest in
-    let no : ends_with nat_eq piece empty_line ≡ false =
-    rw front at ((rw is.parts at none) (length piece) (simp length-append (omega arith)) is.cut.short) in
+    let no : ends_with nat_eq piece empty_line ≡ false = rw front at ((rw is.parts at none) (length piece) (simp length-append (omega arith)) is.cut.short) in
     let yes = is.cut.ends in
     cc
 
@@ -80,8 +77,7 @@ not_refused {head} {n} is refused =
 pub one_head : {piece : List ℕ} {head other : RequestHead} → IsHeadOf piece head → IsHeadOf piece other → other ≡ head
 one_head {piece} {head} {other} is again = (request_unique piece other head [] [] again.reads is.reads).0
 
-pub same_asked : {bytes r s : List ℕ} {head other : RequestHead} {n m : ℕ} → Asks bytes head n r → Asks bytes other m s
-    → (other ≡ head) × (n ≡ m) × (r ≡ s)
+pub same_asked : {bytes r s : List ℕ} {head other : RequestHead} {n m : ℕ} → Asks bytes head n r → Asks bytes other m s → (other ≡ head) × (n ≡ m) × (r ≡ s)
 same_asked {head} {other} {n} {m} is again =
     let same = one_piece is.cut again.cut in
     let asks = rw same.0 at is.asks in

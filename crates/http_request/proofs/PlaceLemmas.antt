@@ -5,23 +5,19 @@ use Rattle.http_request.proofs.Common.{ReadsPlaces}
 use Rattle.std.specs.Fmt.{decimal}
 use Rattle.std.proofs.lemmas.{Option.IfSome_then, Slice.Eq.bytes_eq-Decides}
 use Rattle.club_values.specs.{Day.day_text, Digits.two_digits, Laws.{IsTextOfDay, ReadsDays, ReadsHours, ReadsNames, ReadsNumbers}}
-use Rattle.club_values.specs.{computed.TextOf.{name_of_text, day_of_text, hour_of_text, decimal_of_text}, declared.slot.Slot.Slot}
+use Rattle.club_values.specs.{computed.TextOf.{name_of_text, day_of_text, hour_of_text}, declared.slot.Slot.Slot}
 use Rattle.club_rows.specs.{Limits.{IsBookingNumber, booking_number_limit}, Rows.IsSlot}
 use Rattle.http_request.specs.{Path.{HasRealValues, IsPlace, place_parts}, computed.Parts.{number_of_text, slot_of_parts, within_limits, ◌>>=◌}}
-use Rattle.http_request.specs.declared.path.Place.{Place, TheVariants.{SlotPlace, BookingPlace, AccountPlace}}
+use Rattle.http_request.specs.declared.path.Place.{Place}
 
 if_all : {A : Type 0} (P : A → Type 0) (test : Bool) (found : Option A) → (test ≡ true → IfSome found P) → IfSome (cond test found None) P
-if_all P true found is = is refl
-if_all P false found is = tt
+if_all P test found is = grind arith
 
-then_all : {A B : Type 0} (P : B → Type 0) (found : Option A) (then : A → Option B) → ((a : A) → found ≡ Some a → IfSome (then a) P)
-    → IfSome (found >>= then) P
-then_all P None then is = tt
-then_all P (Some a) then is = is a refl
+then_all : {A B : Type 0} (P : B → Type 0) (found : Option A) (then : A → Option B) → ((a : A) → found ≡ Some a → IfSome (then a) P) → IfSome (found >>= then) P
+then_all P found then is = grind arith
 
 map_all : {A B : Type 0} (P : B → Type 0) (found : Option A) (f : A → B) → ((a : A) → found ≡ Some a → P (f a)) → IfSome (option_map f found) P
-map_all P None f is = tt
-map_all P (Some a) f is = is a refl
+map_all P found f is = grind arith
 
 same : (text other : List ℕ) → bytes_eq text other ≡ true → text ≡ other
 same text other e = (bytes_eq-Decides text other).0 e
@@ -36,15 +32,12 @@ Spells parts place = (parts ≡ place_parts place) × HasRealValues place
 
 -- The three texts are a slot's facility, day and hour, and these values are within their limits.
 abbrev SpellsSlot : List ℕ → List ℕ → List ℕ → Slot → Type 0
-SpellsSlot facility day hour slot =
-    IsSlot slot × (facility ≡ slot.facility) × (day ≡ day_text slot.day) × (hour ≡ two_digits slot.hour)
+SpellsSlot facility day hour slot = IsSlot slot × (facility ≡ slot.facility) × (day ≡ day_text slot.day) × (hour ≡ two_digits slot.hour)
 
 module _ (names : ReadsNames) (days : ReadsDays) (texts : IsTextOfDay) (hours : ReadsHours) (numbers : ReadsNumbers) where
   number_found : (n : ℕ) → IsBookingNumber n → number_of_text (decimal n) ≡ Some n
   unfolding number_of_text
-  number_found n h =
-      let found : decimal_of_text (decimal n) ≡ Some n = (numbers (decimal n) n).1 (record { spelling = refl; within = h.1 }) in
-      rw (found, within n h) refl
+  number_found n h = grind arith
 
   slot_found : (slot : Slot) → IsSlot slot → slot_of_parts slot.facility (day_text slot.day) (two_digits slot.hour) ≡ Some slot
   unfolding slot_of_parts
@@ -54,24 +47,17 @@ module _ (names : ReadsNames) (days : ReadsDays) (texts : IsTextOfDay) (hours : 
       rw ((names slot.facility slot.facility).1 (h.facility, refl), day, hour) refl
 
   place_found : (place : Place) → HasRealValues place → under_root (place_parts place) ≡ Some place
-  place_found (SlotPlace slot) h = rw (slot_found slot h) refl
-  place_found (BookingPlace slot n) h = rw (slot_found slot h.0, number_found n h.1) refl
-  place_found AccountPlace h = refl
+  place_found place h = grind (arith, slot_found, number_found)
 
   number_spelled : (text : List ℕ) → IfSome (number_of_text text) (λ n. IsBookingNumber n × (text ≡ decimal n))
   unfolding number_of_text
-  number_spelled text =
-      let Q : ℕ → Type 0 = λ n. IsBookingNumber n × (text ≡ decimal n) in
-      then_all Q (decimal_of_text text) within_limits (λ n e.
-      if_all Q (nat_le 1 n && nat_le n booking_number_limit) (Some n) (λ test.
-      ((grind (arith, nat_tests), grind (arith, nat_tests)), ((numbers text n).0 e).spelling)))
+  number_spelled text = grind arith
 
   slot_spelled : (facility day hour : List ℕ) → IfSome (slot_of_parts facility day hour) (SpellsSlot facility day hour)
   unfolding slot_of_parts
   slot_spelled facility day hour =
       let Q : Slot → Type 0 = SpellsSlot facility day hour in
-      then_all Q (name_of_text facility) _ (λ f named.
-      then_all Q (day_of_text day) _ (λ d dated.
+      then_all Q (name_of_text facility) _ (λ f named. then_all Q (day_of_text day) _ (λ d dated.
       then_all Q (hour_of_text hour) (λ h. Some (record { facility = f; day = d; hour = h })) (λ h timed.
       let name = (names facility f).0 named in
       let date = (texts day d).0 ((days day d).0 dated) in
@@ -85,16 +71,14 @@ module _ (names : ReadsNames) (days : ReadsDays) (texts : IsTextOfDay) (hours : 
   slots_spelled (facility ∷ day ∷ hour ∷ word ∷ []) = then_all _ (slot_of_parts facility day hour) _ (λ slot e. tt)
   slots_spelled (facility ∷ day ∷ hour ∷ word ∷ number ∷ []) = then_all _ (slot_of_parts facility day hour) _ (λ slot e.
       let is = rw e at (slot_spelled facility day hour) in
-      if_all _ (bytes_eq word (codes "bookings")) _ (λ test.
-      map_all _ (number_of_text number) _ (λ n spelled.
+      if_all _ (bytes_eq word (codes "bookings")) _ (λ test. map_all _ (number_of_text number) _ (λ n spelled.
       let booked = rw spelled at (number_spelled number) in
       (cc (is.1, is.2, is.3, same word (codes "bookings") test, booked.1), (is.0, booked.0)))))
   slots_spelled (facility ∷ day ∷ hour ∷ word ∷ number ∷ other ∷ parts) = then_all _ (slot_of_parts facility day hour) _ (λ slot e. tt)
   slots_spelled parts = tt
 
   account_spelled : (word : List ℕ) (parts : List (List ℕ)) → IfSome (account_at word parts) (Spells (word ∷ parts))
-  account_spelled word [] =
-      if_all _ (bytes_eq word (codes "account")) _ (λ test. (ap (λ (w : List ℕ). w ∷ []) (same word (codes "account") test), tt))
+  account_spelled word [] = if_all _ (bytes_eq word (codes "account")) _ (λ test. (ap (λ (w : List ℕ). w ∷ []) (same word (codes "account") test), tt))
   account_spelled word (part ∷ parts) = tt
 
   root_spelled : (parts : List (List ℕ)) → IfSome (under_root parts) (Spells parts)

@@ -21,8 +21,7 @@ AreParts [] = Unit {0}
 AreParts (part ∷ parts) = (has_slash part ≡ false) × AreParts parts
 
 glued_more : (b : ℕ) (part : List ℕ) (parts : List (List ℕ)) → glued ((b ∷ part) ∷ parts) ≡ b ∷ glued (part ∷ parts)
-glued_more b part [] = refl
-glued_more b part (other ∷ parts) = refl
+glued_more b part parts = grind arith
 
 parted : (path : List ℕ) → (path ≡ glued (segments path)) × AreParts (segments path)
 parted [] = (refl, (refl, tt))
@@ -38,15 +37,12 @@ parted (byte ∷ path) =
 
 -- The routes of the desk's three places: the account, a booking, and a slot.
 abbrev pub routes : {K : Type 0} → K → K → K → RowsOf K
-routes account booking slot =
-    (codes "/account", account)
+routes account booking slot = (codes "/account", account)
     ∷ (codes "/slots/" ++ param_token ∷ 47 ∷ param_token ∷ 47 ∷ param_token ∷ codes "/bookings/" ++ param_token ∷ [], booking)
-    ∷ (codes "/slots/" ++ param_token ∷ 47 ∷ param_token ∷ 47 ∷ param_token ∷ [], slot)
-    ∷ []
+    ∷ (codes "/slots/" ++ param_token ∷ 47 ∷ param_token ∷ 47 ∷ param_token ∷ [], slot) ∷ []
 
-over_last : {K : Type 0} (rs ts kept : RowsOf K) (part : List ℕ) → 0 < length part → step param_token rs ≡ ts
-    → param_step ts part ≡ (length part, kept) → IsSome (own kept)
-    → IsSome (seek 0 rs part)
+over_last : {K : Type 0} (rs ts kept : RowsOf K) (part : List ℕ) → 0 < length part → step param_token rs ≡ ts → param_step ts part ≡ (length part, kept)
+    → IsSome (own kept) → IsSome (seek 0 rs part)
 unfolding seek
 over_last rs ts kept part some from takes is =
     let at : part ++ [] ≡ part = append-nil part in
@@ -71,15 +67,12 @@ IsPart part = (0 < length part) × (has_slash part ≡ false)
 hour_routes : {K : Type 0} → K → K → RowsOf K
 hour_routes booking slot = (param_token ∷ codes "/bookings/" ++ param_token ∷ [], booking) ∷ (param_token ∷ [], slot) ∷ []
 
-at_hour : {K : Type 0} (account booking slot : K) (facility day rest : List ℕ) → IsPart facility → IsPart day
-    → IsSome (seek 0 (hour_routes booking slot) rest)
+at_hour : {K : Type 0} (account booking slot : K) (facility day rest : List ℕ) → IsPart facility → IsPart day → IsSome (seek 0 (hour_routes booking slot) rest)
     → IsSome (first (routes account booking slot) (codes "/slots/" ++ (facility ++ (47 ∷ (day ++ (47 ∷ rest))))))
 unfolding hour_routes
-at_hour account booking slot facility day rest f d is =
-    over_bytes (codes "/slots/") (routes account booking slot) (facility ++ (47 ∷ (day ++ (47 ∷ rest))))
+at_hour account booking slot facility day rest f d is = over_bytes (codes "/slots/") (routes account booking slot) (facility ++ (47 ∷ (day ++ (47 ∷ rest))))
     (over_part _ _ _ facility (47 ∷ (day ++ (47 ∷ rest))) f.0 refl (takes_two _ _ _ _ facility (day ++ (47 ∷ rest)) f.0 f.1)
-    (over_bytes (codes "/") _ (day ++ (47 ∷ rest))
-    (over_part _ _ _ day (47 ∷ rest) d.0 refl (takes_two _ _ _ _ day rest d.0 d.1)
+    (over_bytes (codes "/") _ (day ++ (47 ∷ rest)) (over_part _ _ _ day (47 ∷ rest) d.0 refl (takes_two _ _ _ _ day rest d.0 d.1)
     (over_bytes (codes "/") _ rest is))))
 
 placed : {K : Type 0} (a b s : K) (place : Place) → HasRealValues place → AreParts (place_parts place)

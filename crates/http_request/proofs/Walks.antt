@@ -1,8 +1,8 @@
 -- Lemmas about matchit's search for the route of a path.
-use Rattle.http_request.proofs.Common.{◌≡◌, ℕ, zero, suc, ◌-◌, ◌<◌, List, [], ◌∷◌, ◌++◌, length, drop, Option, Some, None, true, false, cond, ◌==◌, ltb, nat_eq}
-use Rattle.http_request.proofs.Common.{refl, ap, ◌∙◌, arith, length-append, IsSome, and_right, nat_tests}
+use Rattle.std.proofs.{lemmas.Grind.common_steps}
+use Rattle.http_request.proofs.Common.{◌≡◌, ℕ, zero, suc, ◌-◌, ◌<◌, List, [], ◌∷◌, ◌++◌, length, drop, Option, true, false, ◌==◌, nat_eq}
+use Rattle.http_request.proofs.Common.{refl, ap, ◌∙◌, arith, length-append, IsSome, and_right}
 use Rattle.std.specs.Cmp.Lexicographic.{pointwise}
-use Rattle.std.proofs.Math.Seq.{drop-append_seam}
 use Rattle.matchit.specs.{Rows.{RowsOf, param_token}, Seek.{segment, has_slash, cuts, step, or_else, param_step, seek}}
 
 -- The rows of the router that still match after the given bytes of a path. Each of these rows has
@@ -12,12 +12,10 @@ steps [] rs = rs
 steps (b ∷ word) rs = steps word (step b rs)
 
 some_first : {K : Type 0} (a b : Option K) → IsSome a → IsSome (or_else a b)
-some_first None b is = cc
-some_first (Some k) b is = refl
+some_first a b is = grind arith
 
 some_second : {K : Type 0} (a b : Option K) → IsSome b → IsSome (or_else a b)
-some_second None b is = is
-some_second (Some k) b is = refl
+some_second a b is = grind arith
 
 pub over_bytes : {K : Type 0} (word : List ℕ) (rs : RowsOf K) (rest : List ℕ) → IsSome (seek 0 (steps word rs) rest) → IsSome (seek 0 rs (word ++ rest))
 unfolding seek
@@ -36,19 +34,14 @@ past gone b part rest kept e is =
     rw (e, less, skipped part kept rest) is
 
 pub over_part : {K : Type 0} (rs ts kept : RowsOf K) (part rest : List ℕ) → 0 < length part → step param_token rs ≡ ts
-    → param_step ts (part ++ rest) ≡ (length part, kept)
-    → IsSome (seek 0 kept rest) → IsSome (seek 0 rs (part ++ rest))
+    → param_step ts (part ++ rest) ≡ (length part, kept) → IsSome (seek 0 kept rest) → IsSome (seek 0 rs (part ++ rest))
 unfolding seek
 over_part rs ts kept [] rest some from takes is = let no : ⊥ = omega arith in absurd no
 over_part rs ts kept (b ∷ part) rest some from takes is =
     some_second _ _ (some_first _ _ (past _ b part rest kept (ap (λ (r : _). param_step r (b ∷ part ++ rest)) from ∙ takes) is))
 
 no_slash : (b : ℕ) (part : List ℕ) → has_slash (b ∷ part) ≡ false → ((b == 47) ≡ false) × (has_slash part ≡ false)
-no_slash b part none =
-    elim (b == 47) as (λ v. cond v true (has_slash part) ≡ false → (v ≡ false) × (has_slash part ≡ false)) [
-      | true ↦ λ no. absurd cc
-      | false ↦ λ no. (refl, no)
-    ] none
+no_slash b part none = grind arith
 
 segment_of : (part rest : List ℕ) → has_slash part ≡ false → segment (part ++ 47 ∷ rest) ≡ part ++ 47 ∷ []
 segment_of [] rest none = refl
@@ -62,15 +55,11 @@ one_less : (part : List ℕ) → length (part ++ 47 ∷ []) - 1 ≡ length part
 one_less part = rw (length-append part (47 ∷ [])) (omega arith)
 
 cuts_slash : (part : List ℕ) → 0 < length part → cuts (part ++ 47 ∷ []) (47 ∷ []) ≡ true
-cuts_slash part some =
-    let longer : ltb 1 (length (part ++ 47 ∷ [])) ≡ true = rw (length-append part (47 ∷ [])) (grind (arith, nat_tests)) in
-    rw (longer, one_less part, drop-append_seam part (47 ∷ [])) refl
+cuts_slash part some = grind (arith, common_steps, length-append)
 
 not_at : (n : ℕ) (part : List ℕ) → has_slash part ≡ false → pointwise nat_eq (47 ∷ []) (drop n part) ≡ false
 not_at zero [] none = refl
-not_at zero (b ∷ part) none =
-    let other : nat_eq 47 b ≡ false = let no = (no_slash b part none).0 in grind (arith, nat_tests) in
-    rw other refl
+not_at zero (b ∷ part) none = grind arith
 not_at (suc n) [] none = refl
 not_at (suc n) (b ∷ part) none = not_at n part (no_slash b part none).1
 

@@ -1,8 +1,8 @@
 -- Lemmas about bytes that begin with a complete request.
-use Rattle.http_request.proofs.Common.{◌≡◌, ◌⊎◌, ℕ, ◌-◌, ◌<◌, ◌≤◌, ◌↔◌, inl, inr, List, ◌++◌, length, take, drop, sym, ap, ◌∙◌, arith, append_assoc}
+use Rattle.http_request.proofs.Common.{◌≡◌, ◌⊎◌, ℕ, ◌-◌, ◌<◌, ◌≤◌, ◌↔◌, List, ◌++◌, length, take, drop, sym, ap, arith, append_assoc}
 use Rattle.http_request.proofs.Common.{length-append, take-append-le, take-append-drop, length-drop, HeaderSpan, RequestHead, Head, IsFramed, IsOneRequest}
 use Rattle.http_request.proofs.Common.{IsRefusedHead, HasNoPiece, IsWhole, has_frame, endless, bad_head, IsHeadAt, IsHeadResultOf, OneReading, ReadsPlaces}
-use Rattle.http_request.proofs.Common.{WholeKeepsItsReading, BodyStays}
+use Rattle.http_request.proofs.Common.{WholeKeepsItsReading}
 use Rattle.http_request.proofs.FrameLemmas.{Asks, asks_at, cut_frame, framed, no_piece, not_refused, only, same_asked, same_parts}
 use Rattle.http_request.specs.declared.head_result.HeadResult.{HeadResult, TheVariants.{Refused, Asking}}
 use Rattle.http_request.specs.Words as words
@@ -44,53 +44,25 @@ one reads bytes a b (words.lacks_frame none returned) (words.has_frame head body
 one reads bytes a b (words.lacks_frame none returned) (words.lacks_frame again decoded) = cc
 
 frame_more : (bytes more : List ℕ) (head : RequestHead) (body : List ℕ) → IsFramed bytes head body → IsFramed (bytes ++ more) head body
-frame_more bytes more head body is = record {
-  piece = is.piece;
-  after = is.after ++ more;
-  cut = is.cut;
-  parts = ap (λ (l : List ℕ). l ++ more) is.parts ∙ simp append_assoc;
-  asks = is.asks;
-}
+frame_more bytes more head body is = grind (arith, append_assoc)
 
 endless_more : (bytes more : List ℕ) → HasNoPiece bytes → 16384 ≤ length bytes → HasNoPiece (bytes ++ more)
-endless_more bytes more none long = λ n within short.
-    let le : n ≤ length bytes = omega arith in
-    rw take-append-le (none n le short)
+endless_more bytes more none long = grind (arith, take-append-le)
 
 refused_more : (bytes more : List ℕ) → IsRefusedHead bytes → IsRefusedHead (bytes ++ more)
-refused_more bytes more is = record {
-  piece = is.piece;
-  rest = is.rest ++ more;
-  cut = is.cut;
-  parts = ap (λ (l : List ℕ). l ++ more) is.parts ∙ append_assoc is.piece is.rest more;
-  refusal = is.refusal;
-}
+refused_more bytes more is = grind (arith, append_assoc)
 
 head_more : (bytes more : List ℕ) (fields : List HeaderSpan) (found : Head) → IsHeadAt bytes fields found → IsHeadAt (bytes ++ more) fields found
-head_more bytes more fields found at =
-    let same : take found.len (bytes ++ more) ≡ take found.len bytes = take-append-le found.len bytes more at.inside in
-    record {
-      head = at.head;
-      inside = rw (length-append bytes more) (omega (arith, at.inside));
-      cut = rw same at.cut;
-      asks = rw same at.asks;
-      within = rw same at.within;
-      spans = rw same at.spans;
-    }
+head_more bytes more fields found at = grind (arith, take-append-le, length-append)
 
 pub head_result_more : (bytes more : List ℕ) (fields : List HeaderSpan) (front : HeadResult) → (front ≡ Refused) ⊎ ((found : Head) × (front ≡ Asking found))
     → IsHeadResultOf bytes fields front → IsHeadResultOf (bytes ++ more) fields front
-head_result_more bytes more fields front (inl is) before = rw is (refused_more bytes more (rw is at before))
-head_result_more bytes more fields front (inr (found, is)) before = rw is (head_more bytes more fields found (rw is at before))
+head_result_more bytes more fields front is before = grind (arith, refused_more, head_more)
 
 pub keeps : WholeKeepsItsReading
-keeps bytes more answer whole (words.has_frame head body place is at decoded) =
-    words.has_frame head body place (frame_more bytes more head body is) at decoded
+keeps bytes more answer whole (words.has_frame head body place is at decoded) = words.has_frame head body place (frame_more bytes more head body is) at decoded
 keeps bytes more answer (has_frame head body is) (words.lacks_frame none returned) = absurd (none head body is)
 keeps bytes more answer (endless empty long) (words.lacks_frame none returned) =
     words.lacks_frame (λ head body is. no_piece (framed is).cut (endless_more bytes more empty long)) returned
 keeps bytes more answer (bad_head is) (words.lacks_frame none returned) =
     words.lacks_frame (λ head body frame. not_refused (framed frame) (refused_more bytes more is)) returned
-
-pub stays : BodyStays
-stays bytes more (head, body, is, needs) = (head, body, frame_more bytes more head body is, needs)

@@ -1,4 +1,4 @@
-use Rattle.http_request.proofs.Common.{ℕ, List, take, drop, sym, ◌∙◌, take-append-drop, RequestHead, IsPiece, AsksForBody, IsRefusedHead}
+use Rattle.http_request.proofs.Common.{AsksForBody, IsPiece, IsRefusedHead, List, RequestHead, arith, drop, sym, take, take-append-drop, ℕ, ◌∙◌}
 use Rattle.http_request.proofs.FrameLemmas.{one_head}
 use Rattle.http_request.proofs.head_result.head_result_of.Goals as goal
 
@@ -8,8 +8,7 @@ refused_at bytes n cut refusal =
     record { piece = take n bytes; rest = drop n bytes; cut = cut; parts = sym (take-append-drop n bytes); refusal = refusal }
 
 pub returns-in_default-read_head : goal.returns-in_default-read_head
-returns-in_default-read_head c =
-    refused_at c.args.bytes.now c.in-Some.len c.in-Some.ensures.1 (λ head body_len asks. c.in_default-read_head.ensures head asks.is)
+returns-in_default-read_head c = grind (arith, refused_at)
 
 pub returns-in_default-asked_length : goal.returns-in_default-asked_length
 returns-in_default-asked_length c =

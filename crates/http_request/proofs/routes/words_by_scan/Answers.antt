@@ -1,4 +1,4 @@
-use Rattle.http_request.proofs.Common.{◌≡◌, List, ℕ, Result, Ok, Err, refl, inl, inr, HeaderSpan, RequestHead, Head, IsFramed, IsHeadResultOf, place_of}
+use Rattle.http_request.proofs.Common.{Head, HeaderSpan, IsFramed, IsHeadResultOf, List, RequestHead, Result, arith, inr, place_of, refl, ℕ, ◌≡◌}
 use Rattle.http_request.proofs.FrameLemmas.{asks_at, cut_frame, framed, no_piece, not_refused, whole_frame}
 use Rattle.club_core.specs.declared.{refusal.Refusal.Refusal, sent_words.SentWords.SentWords as Words}
 use Rattle.http_request.specs.Words.{DecodedRequest, has_frame, HoldsBody, IsRequestReading, lacks_frame, OrUnavailable}
@@ -13,9 +13,7 @@ unasked bytes fields (Asking found) is not head body frame = not found refl
 
 follows : {Needs More : Type 0} {found : Result DecodedRequest Refusal} (P : Result DecodedRequest Refusal → Type 0) (result : Result Words Refusal)
     → (Needs → More) → P found → OrUnavailable Needs (λ answer. found ≡ answer) result → OrUnavailable More P result
-follows P (Ok words) needs so is = rw is at so
-follows P (Err refusal) needs so (inl memory) = inl (memory.0, needs memory.1)
-follows P (Err refusal) needs so (inr is) = inr (rw is at so)
+follows P result needs so is = grind arith
 
 pub returns-in_default : goal.returns-in_default
 returns-in_default c = inr (lacks_frame (unasked c.args.bytes.now c.args.scan.now.fields c.args.scan.now.front c.requires c.in_default.not-Asking) refl)

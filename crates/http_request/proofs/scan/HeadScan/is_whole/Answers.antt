@@ -1,6 +1,9 @@
-use Rattle.http_request.proofs.{Common.{arith, ◌<◌, ◌-◌, length, OnFalse_from, nat_tests, length-drop, endless, has_frame}, FrameLemmas.{asks_at, whole_frame}}
-use Rattle.http_request.proofs.{LengthLemmas.room_for, ScanLemmas.tested, WholeLemmas.{open_head, open_body}}
+use Rattle.http_request.proofs.Common.{IsTrue, arith, cases_lt, le-leb, leb, leb-true, ℕ, ◌<◌, ◌↔◌, ◌≤◌}
+use Rattle.http_request.proofs.{Common.{endless, has_frame, length-drop}, FrameLemmas.{asks_at, whole_frame}, WholeLemmas.{open_body, open_head}}
 use Rattle.http_request.proofs.scan.HeadScan.is_whole.Goals as goal
+
+tested : (a b : ℕ) (P : Type 0) → (a ≤ b → P) → (b < a → ¬ P) → IsTrue (leb a b) ↔ P
+tested a b P holds_if fails_if = grind (arith, cases_lt, leb-true, le-leb)
 
 pub returns-in-NoPiece-clause-whole : goal.returns-in-NoPiece-clause-whole
 returns-in-NoPiece-clause-whole c =
@@ -12,10 +15,3 @@ returns-in-Asking-clause-whole c =
     let at = rw c.in-Asking.is at c.requires in
     let rest = length-drop c.in-Asking.head.len c.args.bytes.now in
     tested _ _ _ (λ there. has_frame at.head _ (whole_frame at (omega arith))) (λ short. open_body (asks_at at) (omega arith))
-
-pub returns-in-Asking-clause-room : goal.returns-in-Asking-clause-room
-returns-in-Asking-clause-room c =
-    let at = rw c.in-Asking.is at c.requires in
-    OnFalse_from _ _ (λ fails.
-    let short : length c.args.bytes.now - c.in-Asking.head.len < c.in-Asking.head.body_len = grind (arith, nat_tests) in
-    room_for c.args.bytes.now c.args.self.now.fields c.in-Asking.head at short)
