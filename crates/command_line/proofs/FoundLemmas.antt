@@ -1,11 +1,10 @@
 -- Lemmas about the rows that clap collects for arguments, and about clap's search for an argument
 -- by name.
-use Rattle.std.proofs.Common.{◌≡◌, ◌∙◌, ℕ, ◌==◌, ◌&&◌, Bool, true, false, not, List, [], ◌∷◌, ◌++◌, Some, is_some, append_assoc, refl, sym, ap, map, unwrap_or}
-use Rattle.std.proofs.{Common.find, lemmas.{Bool.{and_parts, or_parts}, List.append-nil, Slice.Eq.bytes_eq-Decides}}
+use Rattle.std.proofs.Common.{Bool, List, Some, [], ap, append_assoc, arith, false, is_some, map, not, refl, sym, true, ℕ, ◌&&◌, ◌++◌, ◌==◌, ◌∙◌, ◌∷◌, ◌≡◌}
+use Rattle.std.proofs.{Common.{find, unwrap_or}, lemmas.{Bool.{and_parts, or_parts}, List.append-nil, Slice.Eq.bytes_eq-Decides}}
 use Rattle.std.specs.{List.list_any, Option.option_map_or, Str.bytes_eq}
-use Rattle.clap.specs.Simple.{filled, filled_from, index_after, with_index}
-use Rattle.clap.specs.{Walk.{arg_by_id, arg_by_index, arg_by_long, at_row, has_long, has_row, more_values, without}, Words.{Row as Found, Rule, Text}}
-use Rattle.clap.specs.declared.parser.matches.ValueSource.TheVariants.{CommandLine}
+use Rattle.clap.specs.{Simple.{filled, filled_from, index_after, with_index}, Walk.{arg_by_id, arg_by_index, arg_by_long, at_row, has_long, has_row}}
+use Rattle.clap.specs.{Walk.{more_values, without}, Words.{Row as Found, Rule, Text}, declared.parser.matches.ValueSource.TheVariants.CommandLine}
 use Rattle.clap.proofs.SimpleLemmas.{is_false}
 use Rattle.command_line.specs.Given.{Given, rule_given, row_given, are_apart}
 
@@ -21,8 +20,7 @@ past id change missing (row ∷ before) tail new =
 
 pub added : (name : Text) (values : List Text) (rows : List Found) → has_row name rows ≡ false
     → at_row name (more_values CommandLine values) (row_given name values ∷ []) rows ≡ rows ++ row_given name values ∷ []
-added name values rows new =
-    ap (at_row name (more_values CommandLine values) (row_given name values ∷ [])) (sym (append-nil rows))
+added name values rows new = ap (at_row name (more_values CommandLine values) (row_given name values ∷ [])) (sym (append-nil rows))
     ∙ past name (more_values CommandLine values) (row_given name values ∷ []) rows [] new
 
 untouched : (name : Text) (rows : List Found) → has_row name rows ≡ false → without name rows ≡ rows
@@ -35,8 +33,7 @@ set_row name values rows new =
 
 pub grown : (name : Text) (some more : List Text) (rows : List Found) → has_row name rows ≡ false
     → at_row name (more_values CommandLine more) (row_given name more ∷ []) (rows ++ row_given name some ∷ []) ≡ rows ++ row_given name (some ++ more) ∷ []
-grown name some more rows new =
-    past name (more_values CommandLine more) (row_given name more ∷ []) rows (row_given name some ∷ []) new ∙ rw (same_text name) refl
+grown name some more rows new = grind (arith, past, same_text)
 
 find_there : {X : Type 0} (test : X → Bool) (before : List X) (x : X) (after : List X) → list_any test before ≡ false → test x ≡ true
     → find test (before ++ x ∷ after) ≡ Some x

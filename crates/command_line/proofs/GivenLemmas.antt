@@ -1,12 +1,12 @@
 -- Lemmas about clap's walk over the arguments of a command.
-use Rattle.std.proofs.Common.{◌≡◌, ◌∙◌, ℕ, ◌==◌, ◌&&◌, Bool, true, false, not, List, [], ◌∷◌, ◌++◌, Option, Some, None, is_some, append_assoc, fold, refl, sym}
-use Rattle.std.proofs.{Common.{ap, ap₂, inl, inr, codes, cond, map, subst, arith}, Math.Bool.and-false, lemmas.Bool.{and_parts, cond_both, cases_Bool}}
-use Rattle.std.proofs.lemmas.{Bool.Decides.nat_tests, List.{append-nil, Folds.list_any_at}}
+use Rattle.std.proofs.Common.{Bool, List, None, Option, Some, [], append_assoc, false, fold, is_some, not, refl, sym, true, ℕ, ◌++◌, ◌==◌, ◌∙◌, ◌∷◌, ◌≡◌}
+use Rattle.std.proofs.{Common.{ap, ap₂, arith, codes, cond, inl, inr, map, subst}, lemmas.Bool.{and_parts, cases_Bool}}
+use Rattle.std.proofs.lemmas.{Bool.Decides.nat_tests, Grind.common_steps, List.{append-nil}}
 use Rattle.std.specs.List.{list_any}
 use Rattle.clap.specs.Faults.{check_fault, defaults_fault, flag_word_fault, level_fault, settle_fault, step_fault, turn_fault, walk_fault}
 use Rattle.clap.specs.{Kinds.{Kinds, or_else}, Lexer.{long_of, strip_byte}, Simple.{filled, filled_from, index_after, wants_index, with_index}, Walk.Held}
-use Rattle.clap.specs.Walk.{Waiting, Walk, after_step, arg_by_index, finished, has_row, idle, is_multiple, is_pending, long_or_other, arg_by_long}
-use Rattle.clap.specs.Walk.{next_position, nothing_held, option, positional, positional_held, pushed, rows_after, settled, takes_several, walk_from, walked}
+use Rattle.clap.specs.Walk.{Waiting, Walk, after_step, arg_by_index, finished, has_row, idle, is_multiple, long_or_other, arg_by_long}
+use Rattle.clap.specs.Walk.{next_position, nothing_held, option, positional, rows_after, settled, takes_several, walk_from, walked}
 use Rattle.clap.specs.{Walk.{with_default, without}, Words.{Row as Found, Rule, Shape, Text}}
 use Rattle.clap.proofs.{CutLemmas.Lacks, LexerLemmas.{name_and_value-at, name_and_value-without}, SimpleLemmas.is_false}
 use Rattle.command_line.specs.{Application.{positionals_named, option_named}, Given.{Given, option_given, flag_given, positional_given, positionals_given}}
@@ -15,9 +15,7 @@ use Rattle.command_line.specs.Given.{are_options_named, is_in_order, has_no_posi
 use Rattle.command_line.proofs.FoundLemmas.{same_text, added, set_row, grown, AreFound, all_found, IsFound}
 
 lacks : (name : Text) → not (list_any (λ byte. byte == 61) name) ≡ true → Lacks 61 name
-lacks name without i within is =
-    let bad : list_any (λ byte. byte == 61) name ≡ true = list_any_at (λ byte. byte == 61) name i 0 within (grind (arith, nat_tests)) in
-    let none = is_false _ without in cc
+lacks name without i within is = grind (arith, common_steps, nat_tests)
 
 long_with : (first : ℕ) (name value : Text) → not (list_any (λ byte. byte == 61) (first ∷ name)) ≡ true
     → long_of (codes "--" ++ (first ∷ name ++ 61 ∷ value)) ≡ Some (first ∷ name, Some value)
@@ -46,10 +44,6 @@ at_place rows pending waiting place = record {
   stopped = None;
 }
 
-alone_held : (rules : List Rule) (rule : Rule) (argument : Text) (h : Held) → takes_several rule ≡ false
-    → positional_held rules rule argument h ≡ pushed rule.id argument (settled rules h)
-alone_held rules rule argument h one = rw (one, and-false (is_pending rule h.pending)) refl
-
 none_spelled : (given : List Given) → has_no_positionals given ≡ true → (positionals_spelled given ≡ []) × (positional_rows given ≡ [])
 none_spelled [] none = (refl, refl)
 none_spelled (positional_given required name value ∷ given) none = cc
@@ -74,12 +68,7 @@ module _ (s : Shape) where
   step_on : (w next : Walk) (argument : Text) (arguments : List Text) (rows : List Found) → IsStep w argument next → Settles next arguments rows
       → Settles w (argument ∷ arguments) rows
   unfolding IsStep Settles walk_fault
-  step_on w next argument arguments rows is on = (
-    on.0,
-    ap (λ (w : Walk). fold (walked s.rules []) w arguments) is.0 ∙ on.1,
-    ap₂ or_else is.1 (ap (λ (w : Walk). walk_fault s [] w arguments) is.0 ∙ on.2),
-    on.3,
-  )
+  step_on w next argument arguments rows is on = grind arith
 
   stands : (w : Walk) (arguments : List Text) (now : List Found) → arguments ≡ [] → Holds w.held now → Settles w arguments now
   unfolding Settles walk_fault
@@ -120,29 +109,15 @@ module _ (s : Shape) where
       option_step : (value : Text)
           → IsStep (at_option rows pending) (codes "--" ++ (first ∷ name ++ 61 ∷ value)) (at_option (now ++ row_given (first ∷ name) (value ∷ []) ∷ []) None)
       unfolding IsStep walked
-      option_step value =
-          let argument = codes "--" ++ (first ∷ name ++ 61 ∷ value) in
-          let long = long_with first name value named in (
-            ap (after_long argument (held_with rows pending)) long ∙ rw (by_name, holds.0, set_row (first ∷ name) (value ∷ []) now new) refl,
-            ap (long_fails argument (held_with rows pending)) long ∙ rw (by_name, holds.1, holds.0, new) refl,
-          )
+      option_step value = grind (arith, long_with, by_name, set_row)
 
       name_step : IsStep (at_option rows pending) (codes "--" ++ (first ∷ name)) waits
       unfolding IsStep walked
-      name_step =
-          let argument = codes "--" ++ (first ∷ name) in
-          let long = long_alone first name named in (
-            ap (after_long argument (held_with rows pending)) long ∙ rw (by_name, holds.0) refl,
-            ap (long_fails argument (held_with rows pending)) long ∙ rw (by_name, holds.1) refl,
-          )
+      name_step = grind (arith, long_alone, by_name)
 
       value_step : (value : Text) → not (is_some (strip_byte 45 value)) ≡ true → IsStep waits value (at_option now (Some (first ∷ name, value ∷ [])))
       unfolding IsStep walked
-      value_step [] dashless = (rw (found.by_id, same_text (first ∷ name)) refl, refl)
-      value_step (byte ∷ value) dashless = elim (cases_Bool (byte == 45)) [
-        | inl is ↦ let bad = rw is at dashless in cc
-        | inr is ↦ (rw (is, is, found.by_id, same_text (first ∷ name)) refl, rw (is, is) refl)
-      ]
+      value_step value dashless = grind (arith, same_text)
 
       value_holds : (value : Text) → Holds (held_with now (Some (first ∷ name, value ∷ []))) (now ++ row_given (first ∷ name) (value ∷ []) ∷ [])
       value_holds value = (rw found.by_id (set_row (first ∷ name) (value ∷ []) now new), rw (found.by_id, new) refl)
@@ -156,14 +131,7 @@ module _ (s : Shape) where
       → IsStep (at_place rows pending waiting place) argument
       (at_place now (Some (rule.id, argument ∷ [])) (cond (is_multiple rule) positional idle) (next_position rule place))
   unfolding IsStep walked
-  positional_step rule place rows now pending waiting argument by_place one holds = (
-    rw by_place (ap (λ (h : Held). record (at_place rows pending waiting place) {
-      held = h;
-      waiting = cond (is_multiple rule) positional idle;
-      position = next_position rule place;
-    }) (alone_held s.rules rule argument (held_with rows pending) one ∙ ap (λ (rows : List Found). held_with rows (Some (rule.id, argument ∷ []))) holds.0)),
-    rw by_place (cond_both (is_pending rule pending && takes_several rule) [] _ (λ kinds. kinds ≡ []) (λ _. refl) (λ _. holds.1)),
-  )
+  positional_step rule place rows now pending waiting argument by_place one holds = grind arith
 
   more_walked : (required : Bool) (name : Text) (place : ℕ) (rows before : List Found) (some : List Text) (last : Text) (more : List Text)
       → IsFound s.rules (with_index place (filled (record (positionals_named name) { required = required }))) → has_row name before ≡ false
@@ -226,14 +194,11 @@ module _ (s : Shape) where
         → are_new now (option_rows given ++ last) ≡ true → Settles (at_option rows pending) (options_spelled given ++ tail) (now ++ (option_rows given ++ last))
 
     one_more : (given : List Given) (now : List Found) (row : Found) → GoesOn tail last (now ++ row ∷ option_rows given)
-        → (GoesOn tail last ((now ++ row ∷ []) ++ option_rows given) → OptionsGoOn given (now ++ row ∷ []))
-        → (rows : List Found) (pending : Option (Text × List Text)) → Holds (held_with rows pending) (now ++ row ∷ [])
-        → are_new (now ++ row ∷ []) (option_rows given ++ last) ≡ true
+        → (GoesOn tail last ((now ++ row ∷ []) ++ option_rows given) → OptionsGoOn given (now ++ row ∷ [])) → (rows : List Found)
+        (pending : Option (Text × List Text)) → Holds (held_with rows pending) (now ++ row ∷ []) → are_new (now ++ row ∷ []) (option_rows given ++ last) ≡ true
         → Settles (at_option rows pending) (options_spelled given ++ tail) (now ++ (row ∷ option_rows given ++ last))
     unfolding OptionsGoOn
-    one_more given now row then rest rows pending holds new =
-        subst (Settles (at_option rows pending) (options_spelled given ++ tail)) (append_assoc now (row ∷ []) (option_rows given ++ last))
-        (rest (subst (GoesOn tail last) (sym (append_assoc now (row ∷ []) (option_rows given))) then) rows pending holds new)
+    one_more given now row then rest rows pending holds new = grind (arith, common_steps, nat_tests)
 
     options_walked : (i : ℕ) (given : List Given) (now : List Found) → AreFound s.rules i given → are_options_named given ≡ true
         → GoesOn tail last (now ++ option_rows given) → OptionsGoOn given now

@@ -29,9 +29,8 @@ root_of_decoded text out buffer n r half least most fits decoded = elim (cases_e
       go (decode_of text) refl r (rw (length-take-le n buffer fits, decode_sized-twice text n twice) at decoded)
 ]
   where
-    go : (d : Result (List ℕ) FromHexError) → decode_of text ≡ d → (r : Result Unit FromHexError)
-        → MatchResult d (λ bytes. (r ≡ Ok tt) × (out ≡ bytes)) (λ e. r ≡ Err e)
-        → MatchResult r (λ _. (root_among (decode_of text) ≡ Some out) × (length out ≡ n)) (λ _. root_among (decode_of text) ≡ None)
+    go : (d : Result (List ℕ) FromHexError) → decode_of text ≡ d → (r : Result Unit FromHexError) → MatchResult d (λ bytes. (r ≡ Ok tt) × (out ≡ bytes))
+        (λ e. r ≡ Err e) → MatchResult r (λ _. (root_among (decode_of text) ≡ Some out) × (length out ≡ n)) (λ _. root_among (decode_of text) ≡ None)
     go (Ok bytes) same (Ok x) h =
         let long = (decode_of-ok text bytes same).2 in
         (ap root_among same ∙ kept bytes (omega arith) (omega arith) ∙ ap Some (sym h.1), omega (arith, ap length h.1))

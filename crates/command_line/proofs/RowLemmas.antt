@@ -1,12 +1,12 @@
 -- This file proves that clap accepts all values that `can_be_given` allows, and finds these values.
-use Rattle.std.proofs.Common.{◌≡◌, ◌∙◌, true, false, List, [], ◌∷◌, ◌++◌, Option, Some, None, append_assoc, fold, refl, sym, ap, ap₂, codes, map, find, drop}
-use Rattle.std.proofs.{Common.{is_some, IsSome, option_map, subst, inl, inr}, lemmas.Bool.{and_parts, false_from_ne_true, both_ways, cases_Bool}}
-use Rattle.std.proofs.lemmas.{List.append-nil, Slice.Eq.bytes_eq-Decides}
+use Rattle.std.proofs.Common.{List, None, Option, Some, [], ap, arith, codes, false, find, fold, map, refl, sym, true, ◌++◌, ◌∙◌, ◌∷◌, ◌≡◌}
+use Rattle.std.proofs.{Common.{IsSome, drop, inl, inr, is_some, option_map, subst}, lemmas.Bool.{and_parts, cases_Bool}}
+use Rattle.std.proofs.lemmas.{Bool.Decides.nat_tests, Grind.common_steps, List.append-nil, Slice.Eq.bytes_eq-Decides}
 use Rattle.std.specs.Str.{bytes_eq}
-use Rattle.clap.specs.Faults.{built_fault, check_fault, defaults_fault, entered_fault, level_fault, other_fault, settle_fault, step_fault, turn_fault}
+use Rattle.clap.specs.Faults.{built_fault, defaults_fault, level_fault, other_fault, step_fault, turn_fault}
 use Rattle.clap.specs.{Faults.walk_fault, Kinds.{Kinds, or_else}, Simple.{built, built_leaf, entered, help_shape, inherited, label_of, marked_built, names_of}}
-use Rattle.clap.specs.{Simple.{help_rule, new_shape, on_top, rows_at, with_leaf_noted}, Walk.{Names, Walk, after_step, answers_to, finished, idle}}
-use Rattle.clap.specs.Walk.{nothing_held, rows_after, settled, stop_after, subcommand_met, subcommand_or_other, walk, walk_from, walked}
+use Rattle.clap.specs.{Simple.{help_rule, new_shape, on_top, rows_at, with_leaf_noted}, Walk.{Names, Walk, after_step, answers_to, idle}}
+use Rattle.clap.specs.Walk.{nothing_held, rows_after, stop_after, subcommand_met, subcommand_or_other, walk, walk_from, walked}
 use Rattle.clap.specs.Words.{App, Row as Found, Rule, Shape, Text, fault_of, new_app, subcommand_of, with_rule, with_subcommand}
 use Rattle.clap.proofs.{SimpleLemmas.{is_false, is_nil}, WalkLemmas.find-map}
 use Rattle.command_line.specs.{Application.program_named, Given.{AreSpelled, Given, can_be_given, found_given, rule_given, shape_given}}
@@ -16,8 +16,7 @@ use Rattle.command_line.proofs.{GivenLemmas.given_taken, NamedLemmas.{StopsNotAt
 
 rules_added : (app : App) (rules : List Rule) → fold with_rule app rules ≡ on_top (λ s. record s { rules = s.rules ++ rules }) app
 rules_added app [] = ap (λ (rules : List Rule). on_top (λ s. record s { rules = rules }) app) (sym (append-nil app.top.rules))
-rules_added app (rule ∷ rules) = rules_added (with_rule app rule) rules
-    ∙ ap (λ (rules : List Rule). on_top (λ s. record s { rules = rules }) app) (append_assoc app.top.rules (rule ∷ []) rules)
+rules_added app (rule ∷ rules) = grind (arith, common_steps, nat_tests, rules_added (with_rule app rule) rules)
 
 abbrev shape_of_entry : {C : Type 0} → Entry C → Shape
 shape_of_entry entry = record (new_shape entry.name) { rules = entry.rules }
@@ -32,21 +31,16 @@ entries_added : {C : Type 0} (app : App) (entry : Entry C) (entries : List (Entr
     → with_entries app (entry ∷ entries) ≡ with_more app (map shape_of_entry (entry ∷ entries))
 entries_added app entry [] = ap (λ (s : Shape). with_subcommand app s) (top_is entry)
 entries_added app entry (next ∷ entries) =
-    entries_added (with_subcommand app (entry_app entry).top) next entries
-    ∙ rw (top_is entry, append_assoc app.subs (shape_of_entry entry ∷ []) (map shape_of_entry (next ∷ entries))) refl
+    grind (arith, common_steps, nat_tests, top_is, entries_added (with_subcommand app (entry_app entry).top) next entries)
 
 no_other_name : (name : Text) → bytes_eq name (codes "help") ≡ false → bytes_eq (codes "help") name ≡ false
-no_other_name name other =
-    false_from_ne_true _ (λ is. both_ways _ other ((bytes_eq-Decides name (codes "help")).1 (sym ((bytes_eq-Decides (codes "help") name).0 is))))
+no_other_name name other = grind arith
 
 shape_found : {C : Type 0} (above : Shape) (entries : List (Entry C)) (name : Text) → bytes_eq name (codes "help") ≡ false
     → find (λ s. answers_to name (label_of s)) (map built_leaf (map (inherited above) (map shape_of_entry entries) ++ help_shape ∷ []))
     ≡ option_map (λ entry. built_leaf (inherited above (shape_of_entry entry))) (entry_named name entries)
 shape_found above [] name other = rw (no_other_name name other) refl
-shape_found above (next ∷ entries) name other = elim (cases_Bool (bytes_eq next.name name)) [
-  | inl here ↦ rw here refl
-  | inr past ↦ rw past (shape_found above entries name other)
-]
+shape_found above (next ∷ entries) name other = grind (arith, shape_found above entries name other)
 
 -- The state of clap's walk after the walk has stopped at the command with the given name. The list
 -- `arguments` has the arguments after the name.
@@ -57,8 +51,7 @@ arguments_kept : (c : List Rule) (names : Names) (name : Text) (some arguments :
     → fold (walked c names) (at_command name some) arguments ≡ at_command name (some ++ arguments)
 unfolding walked
 arguments_kept c names name some [] = ap (at_command name) (sym (append-nil some))
-arguments_kept c names name some (argument ∷ arguments) =
-    arguments_kept c names name (some ++ argument ∷ []) arguments ∙ ap (at_command name) (append_assoc some (argument ∷ []) arguments)
+arguments_kept c names name some (argument ∷ arguments) = grind (arith, common_steps, nat_tests, arguments_kept c names name (some ++ argument ∷ []) arguments)
 
 arguments_pass : (s : Shape) (names : Names) (name : Text) (some arguments : List Text) → walk_fault s names (at_command name some) arguments ≡ []
 unfolding walk_fault walked
@@ -102,15 +95,11 @@ module _ {C : Type 0} (title : Text) (first : Entry C) (others : List (Entry C))
     passes = ap name_fails met ∙ rw no_help refl
 
     walks : walk app.top.rules (names_of app) nothing_held (entry.name ∷ arguments) ≡ at_command entry.name arguments
-    walks =
-        ap (λ (w : Walk). fold (walked app.top.rules (names_of app)) w arguments) meets
-        ∙ arguments_kept app.top.rules (names_of app) entry.name [] arguments
+    walks = grind (arith, meets, arguments_kept)
 
     walks_clear : walk_fault app.top (names_of app) (walk_from nothing_held) (entry.name ∷ arguments) ≡ []
     unfolding walk_fault
-    walks_clear =
-        ap₂ or_else passes
-        (ap (λ (w : Walk). walk_fault app.top (names_of app) w arguments) meets ∙ arguments_pass app.top (names_of app) entry.name [] arguments)
+    walks_clear = grind (arith, passes, meets, arguments_pass)
 
     finds : entered app (walk app.top.rules (names_of app) nothing_held (entry.name ∷ arguments)).stopped
         ≡ Some (entry.name, rows_after shape.rules [] arguments)
@@ -118,11 +107,7 @@ module _ {C : Type 0} (title : Text) (first : Entry C) (others : List (Entry C))
 
     clear : level_fault shape [] nothing_held arguments false [] ≡ [] → built_fault app nothing_held (entry.name ∷ arguments) ≡ []
     unfolding defaults_fault
-    clear below =
-        let Fails : Walk → Kinds = λ w. or_else (entered_fault app w.stopped) (or_else (settle_fault app.top.rules false w.held)
-        (or_else (defaults_fault (settled app.top.rules w.held).rows app.top.rules)
-        (check_fault app.top (finished app.top.rules w.held) (is_some (entered app w.stopped))))) in
-        ap₂ or_else walks_clear (ap Fails walks ∙ rw (shape_is, below) refl)
+    clear below = grind (arith, walks, walks_clear, shape_is)
 
 name_found : {C : Type 0} (name : Text) (entries : List (Entry C)) (entry : Entry C) → entry_named name entries ≡ Some entry → entry.name ≡ name
 name_found name [] entry is = cc
@@ -191,8 +176,7 @@ taken {C} title (first ∷ others) entry given program arguments is rules can sp
     let named = and_parts _ _ new.1 in
     let ordered = and_parts _ _ named.1 in
     let leaf = given_taken shape given (help_rule ∷ []) arguments refl apart.0 named.0 new.0 ordered.0 (is_nil _ ordered.1) spells in
-    let same : shape ≡ built_leaf (shape_of_entry entry) =
-    ap (λ (rules : List Rule). built_leaf (record (new_shape entry.name) { rules = rules })) rules in
+    let same : shape ≡ built_leaf (shape_of_entry entry) = ap (λ (rules : List Rule). built_leaf (record (new_shape entry.name) { rules = rules })) rules in
     let no_help = is_false _ helps.0 in (
       ap (λ (app : App). fault_of app (program ∷ entry.name ∷ arguments)) made
           ∙ clear title first others entry is no_help arguments (ap (λ (s : Shape). level_fault s [] nothing_held arguments false []) (sym same) ∙ leaf.0),

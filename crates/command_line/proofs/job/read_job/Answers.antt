@@ -1,6 +1,4 @@
-use Rattle.std.proofs.Common.{◌∙◌, inl, inr, refl}
-use Rattle.clap.specs.Words.{kind_of}
-use Rattle.clap.specs.declared.error.kind.ErrorKind.TheVariants as kind
+use Rattle.std.proofs.Common.{arith, refl}
 use Rattle.command_line.specs.Table.{asked, refusals}
 use Rattle.command_line.proofs.JobLemmas.{accepted, refused, reads_accepted, reads_fault, row_named}
 use Rattle.command_line.proofs.job.read_job.Goals as goal
@@ -26,20 +24,12 @@ returns-in-Err-job_found g c =
 
 pub returns-in-DisplayHelp : goal.returns-in-DisplayHelp
 unfolding refusals
-returns-in-DisplayHelp g c =
-    inl (refused _ _ _ c.in-Ok.ensures.made c.application.ensures.good.free c.in-Err.error kind.DisplayHelp
-    c.in-Err.ensures.kinds c.in-DisplayHelp.ensures (λ e. cc))
+returns-in-DisplayHelp g c = grind (arith, refused)
 
 pub returns-in-DisplayVersion : goal.returns-in-DisplayVersion
 unfolding refusals
-returns-in-DisplayVersion g c =
-    inr (refused _ _ _ c.in-Ok.ensures.made c.application.ensures.good.free c.in-Err.error kind.DisplayVersion
-    c.in-Err.ensures.kinds c.in-DisplayVersion.ensures (λ e. cc))
+returns-in-DisplayVersion g c = grind (arith, refused)
 
 pub returns-in_default-kind : goal.returns-in_default-kind
 unfolding refusals
-returns-in_default-kind g c = inl (
-  refused _ _ _ c.in-Ok.ensures.made c.application.ensures.good.free c.in-Err.error (kind_of c.in-Err.error)
-      c.in-Err.ensures.kinds refl (λ e. c.in_default-kind.not-OutOfMemory (c.kind.ensures ∙ e)),
-  (λ e. c.in_default-kind.not-DisplayHelp (c.kind.ensures ∙ e), λ e. c.in_default-kind.not-DisplayVersion (c.kind.ensures ∙ e)),
-)
+returns-in_default-kind g c = grind (arith, refused)

@@ -4,5 +4,4 @@ use Rattle.std.specs.Io.KnownBytes.{Appends}
 use Rattle.command_line.proofs.output.write_bytes.Given as goal
 
 abbrev pub invariant-writing : goal.invariant-writing
-invariant-writing g l = (l.written ≤ length l.bytes)
-    × Appends (g.W.Write.contents l.initial.writer) (g.W.Write.contents l.writer) (take l.written l.bytes)
+invariant-writing g l = (l.written ≤ length l.bytes) × Appends (g.W.Write.contents l.initial.writer) (g.W.Write.contents l.writer) (take l.written l.bytes)
