@@ -3,7 +3,7 @@ use Rattle.pass_json.proofs.Common.{◌≡◌, ◌↔◌, ℕ, List, length, Res
 use Rattle.pass_json.proofs.Common.{IsWriting, v1_bytes, v2_bytes, TextsReadBack, WritesExactly, IsAnyReading, IsTextIn, SpellsForm, writing, JsonReadsBack}
 use Rattle.pass_json.proofs.{Common.{WritesJsonExactly, MayFailAs, arith}, Wrapped.reads_back}
 
-pub back_from : (form : Form) (bytes : List ℕ) (pass : Plain) (text : List ℕ) → IsReadBack (SpellsForm form) form bytes pass text →
+back_from : (form : Form) (bytes : List ℕ) (pass : Plain) (text : List ℕ) → IsReadBack (SpellsForm form) form bytes pass text →
     IsAnyReading text (Ok (form, pass))
 back_from form bytes pass text back = reads_back text form bytes pass back.content back.read
 

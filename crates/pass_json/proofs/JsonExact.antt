@@ -1,13 +1,107 @@
 -- Lemmas for the proof that `wide_json` returns exactly the pass that the JSON encodes.
-use Rattle.pass_json.proofs.Common.{◌≡◌, ◌↔◌, ℕ, Bool, true, cond, eqb, ◌&&◌, List, [], ◌∷◌, codes, length, Option, Some, None, Result, refl, sym, ap, subst}
-use Rattle.pass_json.proofs.Common.{◌∙◌, unwrap_or, IsUtf8, is_utf8, and_parts, eq-eqb, eqb-true, IsUtf8-from_is_utf8, is_utf8-from_IsUtf8, Data, array, object}
-use Rattle.pass_json.proofs.Common.{Items, no_items, item, Members, get, as_array, read, FormFault, FromBase64IsBase64, AnswersExactly, Plain, WideCaveat}
-use Rattle.pass_json.proofs.Common.{WidePass, IsReadAs, HasOnly, IsCaveatObject, AreCaveats, IsCaveatList, IsVersion, IsPass, SpellsJson, caveat_names}
-use Rattle.pass_json.proofs.Common.{pass_names, field_from, must_have, has_only_names, caveat_from, caveats_of, caveat_list, is_version, of_length}
-use Rattle.pass_json.proofs.Common.{signature_from, pass_from, value_of, wide_json, reading_json, arith}
-use Rattle.pass_json.proofs.FieldExact.{bound, field_takes, field_again, required_takes, required_again, is_object}
-use Rattle.pass_json.proofs.{NamesExact.{has_only_takes, has_only_again}, SameReading.same_answer}
-use Rattle.std.proofs.lemmas.{Bool.Decides.nat_tests, Option.cond_some}
+use Rattle.pass_json.proofs.Common.{Bool, List, None, Option, Result, Some, [], ap, codes, cond, eqb, length, refl, subst, sym, true, ℕ, ◌&&◌, ◌↔◌, ◌∷◌, ◌≡◌}
+use Rattle.pass_json.proofs.Common.{Data, IsUtf8, IsUtf8-from_is_utf8, and_parts, array, eq-eqb, eqb-true, is_utf8, is_utf8-from_IsUtf8, object, unwrap_or, ◌∙◌}
+use Rattle.pass_json.proofs.Common.{AnswersExactly, FormFault, FromBase64IsBase64, Items, Members, Plain, WideCaveat, as_array, get, item, no_items, read}
+use Rattle.pass_json.proofs.Common.{AreCaveats, HasOnly, IsCaveatList, IsCaveatObject, IsPass, IsReadAs, IsVersion, SpellsJson, WidePass, caveat_names}
+use Rattle.pass_json.proofs.Common.{Contains, caveat_from, caveat_list, caveats_of, field_from, has_only_names, is_version, must_have, of_length, pass_names}
+use Rattle.pass_json.proofs.Common.{IsSome, arith, get_member, inl, inr, member, no_members, pass_from, reading_json, signature_from, value_of, wide_json, ◌⊎◌}
+use Rattle.pass_json.proofs.{Common.{IsBase64, IsField, as_str, decoded_text, field_bytes, only_among, option_map, string}, SameReading.same_answer}
+use Rattle.std.proofs.lemmas.{Bool.Decides.nat_tests, Cmp.nat_list_eq_equiv, Map.{Text.is_eq-slice_cmp, Views.{Contains-from_any, list_any-from_Contains}}}
+use Rattle.std.proofs.lemmas.{Option.cond_some, Slice.Eq.bytes_eq-Decides}
+use Rattle.std.specs.{Cmp.Lexicographic.slice_cmp, Ordering.{is_eq, match_ordering, nat_cmp}, declared.cmp.Ordering.Ordering}
+use Rattle.pass_forms.specs.computed.{Envelope.from_base64, Parts.◌>>=◌}
+
+bound : {A B : Type 0} (o : Option A) (f : A → Option B) (b : B) → (o >>= f) ≡ Some b → (a : A) × (o ≡ Some a) × (f a ≡ Some b)
+bound o f b e = grind arith
+
+str_of : (value : Data) (text : List ℕ) → as_str value ≡ Some text → value ≡ string text
+str_of value text e = grind arith
+
+mapped : (o : Option (List ℕ)) (t : Option (List ℕ)) → option_map (λ bytes. Some bytes) o ≡ Some t → (bytes : List ℕ) × (o ≡ Some bytes) × (t ≡ Some bytes)
+mapped o t e = grind arith
+
+-- The condition of `IsField`, stated for the value under the plain name and the value under the
+-- base64 name.
+abbrev IsFieldBytes : Option Data → Option Data → Option (List ℕ) → Type 0
+IsFieldBytes plain base64 None = (plain ≡ None) × (base64 ≡ None)
+IsFieldBytes plain base64 (Some bytes) = ((plain ≡ Some (string bytes)) × (base64 ≡ None))
+    ⊎ ((plain ≡ None) × (text : List ℕ) × (base64 ≡ Some (string text)) × IsBase64 text bytes)
+
+required_by : (o : Option (Option (List ℕ))) (bytes : List ℕ) → must_have o ≡ Some bytes → o ≡ Some (Some bytes)
+required_by o bytes e = grind arith
+
+is_object : (plain base64 : List ℕ) (value : Data) (bytes : List ℕ) → IsField plain base64 value (Some bytes) → (members : Members) × (value ≡ object members)
+is_object plain base64 value bytes h = grind arith
+
+module _ (law : FromBase64IsBase64) where
+  field_bytes_takes : (plain base64 : Option Data) (t : Option (List ℕ)) → field_bytes plain base64 ≡ Some t → IsFieldBytes plain base64 t
+  field_bytes_takes None None t e = grind arith
+  field_bytes_takes (Some value) None t e = grind arith
+  field_bytes_takes None (Some value) t e =
+      let m = mapped (decoded_text value) t e in
+      let d = bound (as_str value) from_base64 m.0 m.1 in
+      subst (IsFieldBytes None (Some value)) (sym m.2) (inr (refl, d.0, ap (λ (d : Data). Some d) (str_of value d.0 d.1), (law d.0 m.0).0 d.2))
+  field_bytes_takes (Some value) (Some other) t e = absurd cc
+
+  field_bytes_again : (plain base64 : Option Data) (t : Option (List ℕ)) → IsFieldBytes plain base64 t → field_bytes plain base64 ≡ Some t
+  field_bytes_again plain base64 None h = rw (h.0, h.1) refl
+  field_bytes_again plain base64 (Some bytes) (inl h) = rw (h.0, h.1) refl
+  field_bytes_again plain base64 (Some bytes) (inr h) = rw (h.0, h.2, (law h.1 bytes).1 h.3) refl
+
+module _ (law : FromBase64IsBase64) (plain base64 : List ℕ) (value : Data) where
+  field_takes : (t : Option (List ℕ)) → field_from plain base64 value ≡ Some t → IsField plain base64 value t
+  unfolding field_from
+  field_takes None e = field_bytes_takes law (get plain value) (get base64 value) None e
+  field_takes (Some bytes) e = field_bytes_takes law (get plain value) (get base64 value) (Some bytes) e
+
+  field_again : (t : Option (List ℕ)) → IsField plain base64 value t → field_from plain base64 value ≡ Some t
+  unfolding field_from
+  field_again None h = field_bytes_again law (get plain value) (get base64 value) None h
+  field_again (Some bytes) h = field_bytes_again law (get plain value) (get base64 value) (Some bytes) h
+
+  required_takes : (bytes : List ℕ) → must_have (field_from plain base64 value) ≡ Some bytes → IsField plain base64 value (Some bytes)
+  required_takes bytes e = field_takes (Some bytes) (required_by (field_from plain base64 value) bytes e)
+
+  required_again : (bytes : List ℕ) → IsField plain base64 value (Some bytes) → must_have (field_from plain base64 value) ≡ Some bytes
+  required_again bytes h = ap must_have (field_again (Some bytes) h)
+
+found_at : (order : Ordering) (later : Option Data) (value : Data) → IsSome (match_ordering order later (Some value) later) →
+    (is_eq order ≡ true) ⊎ IsSome later
+found_at order later value h = grind arith
+
+only_takes : (names : List (List ℕ)) (members : Members) → only_among names members ≡ true → (name : List ℕ) → IsSome (get_member name members) →
+    Contains names name
+only_takes names no_members e name found = absurd cc
+only_takes names (member key value members) e name found = elim (found_at (slice_cmp nat_cmp name key) (get_member name members) value found) [
+  | inl here ↦
+      let same : name ≡ key = (bytes_eq-Decides name key).0 (sym (is_eq-slice_cmp name key) ∙ here) in
+      rw same (Contains-from_any (λ a b. (bytes_eq-Decides a b).0) key names (grind arith))
+  | inr later ↦ only_takes names members (grind arith) name later
+]
+
+still_found : (order : Ordering) (later : Option Data) (value : Data) → IsSome later → IsSome (match_ordering order later (Some value) later)
+still_found order later value h = grind arith
+
+first_found : (order : Ordering) (later : Option Data) (value : Data) → is_eq order ≡ true → IsSome (match_ordering order later (Some value) later)
+first_found order later value e = grind arith
+
+only_again : (names : List (List ℕ)) (members : Members) → ((name : List ℕ) → IsSome (get_member name members) → Contains names name) →
+    only_among names members ≡ true
+only_again names no_members h = refl
+only_again names (member key value members) h =
+    let here : Contains names key =
+    h key (first_found (slice_cmp nat_cmp key key) (get_member key members) value (is_eq-slice_cmp key key ∙ (bytes_eq-Decides key key).1 refl)) in
+    let later : only_among names members ≡ true =
+    only_again names members (λ name found. h name (still_found (slice_cmp nat_cmp name key) (get_member name members) value found)) in
+    rw (list_any-from_Contains nat_list_eq_equiv key names here) later
+
+has_only_takes : (names : List (List ℕ)) (value : Data) → has_only_names names value ≡ true → HasOnly names value
+unfolding has_only_names
+has_only_takes names value e = grind (arith, only_takes)
+
+has_only_again : (names : List (List ℕ)) (members : Members) → HasOnly names (object members) → has_only_names names (object members) ≡ true
+unfolding has_only_names
+has_only_again names members h = only_again names members h
 
 has_only_of : (names : List (List ℕ)) (value : Data) (found : (members : Members) × (value ≡ object members)) → HasOnly names value →
     has_only_names names value ≡ true
@@ -67,8 +161,7 @@ module _ (law : FromBase64IsBase64) where
       let identifier = bound (must_have (field_from (codes "i") (codes "i64") value)) _ wide location.2 in
       let caveats = bound (caveat_list (get (codes "c") value)) _ wide identifier.2 in
       let signature = bound (signature_from value) _ wide caveats.2 in
-      let both =
-      and_parts (has_only_names pass_names value) (is_version (get (codes "v") value))
+      let both = and_parts (has_only_names pass_names value) (is_version (get (codes "v") value))
       (cond_some (has_only_names pass_names value && is_version (get (codes "v") value)) value names.0 names.1).0 in
       let bytes = bound (must_have (field_from (codes "s") (codes "s64") value)) (of_length 32) signature.0 signature.1 in
       let sized = cond_some (eqb (length bytes.0) 32) bytes.0 signature.0 bytes.2 in

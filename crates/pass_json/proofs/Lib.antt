@@ -1,11 +1,7 @@
 pub mod Common
-pub mod KnownNames
 pub mod CaveatList
 pub mod SameReading
-pub mod FieldExact
-pub mod NamesExact
 pub mod JsonExact
-pub mod KeptPass
 pub mod AnyExact
 pub mod Wrapped
 pub mod InEachForm
@@ -13,4 +9,3 @@ pub mod ReadsText
 pub mod ObjectOf
 pub mod WrittenJson
 pub mod WritingJson
-pub mod WritingOnce

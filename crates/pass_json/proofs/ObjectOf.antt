@@ -1,7 +1,7 @@
 -- Lemmas about the JSON object of a pass and about reading the object's text back.
 use Rattle.pass_json.proofs.Common.{◌≡◌, ℕ, ◌≤◌, Bool, true, false, List, [], ◌∷◌, codes, Option, Some, None, decimal, refl, sym, ap, subst, ◌∙◌, arith, IsUtf8}
 use Rattle.pass_json.proofs.Common.{is_utf8, or_from, IsUtf8-from_ascii, IsUtf8-from_is_utf8, encode_of, Data, number, string, array, object, unsigned, Items}
-use Rattle.pass_json.proofs.Common.{item, Members, no_members, member, put, number_of, of_items, of_json, has_float, items_have_float, members_have_float}
+use Rattle.pass_json.proofs.Common.{Members, no_members, member, put, number_of, of_items, of_json, has_float, items_have_float, members_have_float}
 use Rattle.pass_json.proofs.Common.{items_outline, members_outline, outline, Plain, caveat_object, caveat_objects, object_of, put_member, with_location}
 use Rattle.pass_json.proofs.ReadsText.{HasTexts, ItemsHaveTexts, MembersHaveTexts}
 use Rattle.std.specs.Fmt.{digits}
@@ -40,9 +40,7 @@ located None rest = rest
 located (Some location) rest = named (codes "l") (codes "l64") location rest
 
 abbrev pub whole : Items → FieldText → Option FieldText → List ℕ → Data
-whole caveats identifier location signature =
-    object (member (codes "c") (array caveats)
-    (identified identifier (located location
+whole caveats identifier location signature = object (member (codes "c") (array caveats) (identified identifier (located location
     (member (codes "s64") (string signature) (member (codes "v") (number (unsigned 2)) no_members)))))
 
 -- Inserts a field's text into the members of an object.
@@ -93,10 +91,6 @@ identified_reads field_text = grind arith
 caveat_reads : (bytes : List ℕ) → of_json (outline (caveat_object bytes)) ≡ Some (caveat_object bytes)
 caveat_reads bytes = subst (λ (d : Data). of_json (outline d) ≡ Some d) (sym (caveat_is bytes)) (identified_reads (field_text bytes))
 
-one_reads : (d : Data) (ds : Items) → of_json (outline d) ≡ Some d → of_items (items_outline ds) ≡ Some ds →
-    of_items (items_outline (item d ds)) ≡ Some (item d ds)
-one_reads d ds e f = grind arith
-
 caveats_read : (caveats : List (List ℕ)) → of_items (items_outline (caveat_objects caveats)) ≡ Some (caveat_objects caveats)
 caveats_read [] = refl
 caveats_read (caveat ∷ caveats) = grind (arith, caveat_reads caveat, caveats_read caveats)
@@ -106,9 +100,7 @@ whole_reads : (caveats : Items) (identifier : FieldText) (location : Option Fiel
 whole_reads caveats identifier location signature e = grind (arith, two_is_two)
 
 pub object_reads : (pass : Plain) → of_json (outline (object_of pass)) ≡ Some (object_of pass)
-object_reads pass =
-    rw (object_is pass) (whole_reads (caveat_objects pass.caveats) (field_text pass.identifier) (location_text pass.location)
-    (encode_of url_safe_no_pad pass.signature) (caveats_read pass.caveats))
+object_reads pass = grind (arith, object_is, whole_reads, caveats_read)
 
 -- The conditions under which the text of a JSON value is read back as the same value:
 --

@@ -24,18 +24,17 @@ unfolding caveat_from field_from has_only_names
 caveat_from_text identifier bytes e = grind arith
 
 pass_from_texts : (items : Items) (caveats : List WideCaveat) (i : FieldText) (identifier : List ℕ) (l : Option FieldText) (location : List ℕ)
-    (text signature : List ℕ)
-    → caveats_of items ≡ Some caveats → YieldsBytes i identifier → YieldsIfAny l location → from_base64 text ≡ Some signature
+    (text signature : List ℕ) → caveats_of items ≡ Some caveats → YieldsBytes i identifier → YieldsIfAny l location → from_base64 text ≡ Some signature
     → eqb (length signature) 32 ≡ true
     → pass_from (whole items i l text) ≡ Some (record { location = location; identifier = identifier; caveats = caveats; signature = signature })
 unfolding pass_from field_from has_only_names
 pass_from_texts items caveats i identifier l location text signature c ti tl s len = grind arith
 
-pub utf8_json : (pass : Plain) → IsUtf8 (json_text pass)
+utf8_json : (pass : Plain) → IsUtf8 (json_text pass)
 unfolding json_text
 utf8_json pass = utf8_text (object_of pass) (object_is_fine pass).texts
 
-pub read_json_text : (pass : Plain) → read (json_text pass) ≡ Some (object_of pass)
+read_json_text : (pass : Plain) → read (json_text pass) ≡ Some (object_of pass)
 unfolding json_text
 read_json_text pass =
     let fine = object_is_fine pass in
@@ -67,11 +66,9 @@ module _ (law : FromBase64IsBase64) where
   caveats_read_back (caveat ∷ caveats) are = grind (arith, caveat_reads_back, caveats_read_back caveats)
 
   object_reads_back : (pass : Plain) → HasBytes pass → length pass.signature ≡ 32 → pass_from (object_of pass) ≡ Some (as_wide_pass pass)
-  object_reads_back pass are len =
-      ap pass_from (object_is pass)
+  object_reads_back pass are len = ap pass_from (object_is pass)
       ∙ pass_from_texts (caveat_objects pass.caveats) (map widened_caveat pass.caveats) (field_text pass.identifier) pass.identifier
-      (location_text pass.location) pass.location
-      (encode_of url_safe_no_pad pass.signature) pass.signature
+      (location_text pass.location) pass.location (encode_of url_safe_no_pad pass.signature) pass.signature
       (caveats_read_back pass.caveats are.caveats) (field_text_yields pass.identifier are.identifier) (location_yields pass.location are.location)
       (base64_yields pass.signature are.signature) (eq-eqb _ 32 len)
 

@@ -9,8 +9,7 @@ returns-in_err-pass-clause-spelling c =
     let bytes = c.bytes.result.now in
     let content : IsUnwrapped text (Ok (form, bytes)) = rw c.bytes.ensures c.in_ok-unwrapping.ensures.reading in
     let short : length bytes ≤ max_text_len = rw c.bytes.ensures c.in_ok-unwrapping.ensures.short in
-    let h =
-    unless_memory (IsReadingInForm form bytes) (IsAnyReading text) (Err c.in_err-pass.field-0.0)
+    let h = unless_memory (IsReadingInForm form bytes) (IsAnyReading text) (Err c.in_err-pass.field-0.0)
     (λ answer read. (c.reads_what_is_wrapped.ensures text bytes form answer content short).1 read) c.in_err-pass.ensures.spelling in
     search rules
 

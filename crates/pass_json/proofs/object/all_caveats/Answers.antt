@@ -1,17 +1,12 @@
-use Rattle.pass_json.proofs.{CaveatList.{one_more, all_read, one_refused}, Common.{arith, rules}}
+use Rattle.pass_json.proofs.{CaveatList.{one_more, all_read, one_refused}, Common.{arith}}
 use Rattle.std.proofs.lemmas.List.{map_push}
 use Rattle.pass_json.proofs.object.all_caveats.Goals as goal
 
 pub returns-in_err-found-clause-err : goal.returns-in_err-found-clause-err
-returns-in_err-found-clause-err c =
-    let h =
-    one_refused _ _ c.args.list.now c.loop-value.value-index c.value-item.result c.in_err-found.field-0.0
-    (omega arith) c.value-item.is c.loop-value.invariant c.in_err-found.ensures.err in
-    search rules
+returns-in_err-found-clause-err c = grind (arith, one_refused)
 
 pub loop-value-preserved : goal.loop-value-preserved
-loop-value-preserved c =
-    rw (c.in_ok-push.ensures.items, map_push)
+loop-value-preserved c = rw (c.in_ok-push.ensures.items, map_push)
     (one_more _ _ _ c.args.list.now c.loop-value.value-index c.value-item.result _ _ (omega arith) c.value-item.is c.in_ok-found.ensures.ok
     c.loop-value.invariant)
 

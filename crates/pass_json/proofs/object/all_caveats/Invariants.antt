@@ -4,6 +4,5 @@ use Rattle.pass_json.proofs.{CaveatList.{kept_of, with_kept}, Common.{◌≡◌,
 use Rattle.pass_json.proofs.object.all_caveats.Given as goal
 
 abbrev pub invariant-loop-value : goal.invariant-loop-value
-invariant-loop-value l =
-    kept_of (items_view l.list)
+invariant-loop-value l = kept_of (items_view l.list)
     ≡ with_kept (map (λ identifier. identifier.items) l.identifiers.items) l.third_party (kept_of (items_view (drop l.value-index l.list)))

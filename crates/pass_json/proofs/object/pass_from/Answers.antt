@@ -1,15 +1,29 @@
-use Rattle.pass_json.proofs.Common.{◌≡◌, ℕ, [], length, map, arith, sym, ap, ◌∙◌, Vec, Global, List, option_map, unwrap_or, common_steps}
-use Rattle.pass_json.proofs.KeptPass.{kept_pass, location_or_none}
+use Rattle.pass_json.proofs.Common.{Bool, Global, List, Vec, [], ap, arith, codes, common_steps, length, map, option_map, sym, true, unwrap_or, ℕ, ◌∙◌, ◌≡◌}
+use Rattle.pass_json.proofs.Common.{Data, Option, Some, field_from, get, has_only_names, pass_names}
+use Rattle.pass_json.proofs.Common.{caveat_list, is_version, kept_caveats, must_have, pass_from, signature_from}
 use Rattle.std.proofs.lemmas.List.{length-map}
+use Rattle.pass_forms.specs.computed.Reading.{pass_summary}
 use Rattle.pass_json.proofs.object.pass_from.Goals as goal
+
+kept_pass : (value : Data) (location : Option (List ℕ)) (identifier : List ℕ) (identifiers : List (List ℕ)) (third_party : Bool) (signature : List ℕ)
+    → has_only_names pass_names value ≡ true → is_version (get (codes "v") value) ≡ true → field_from (codes "l") (codes "l64") value ≡ Some location
+    → must_have (field_from (codes "i") (codes "i64") value) ≡ Some identifier → option_map kept_caveats (caveat_list (get (codes "c") value))
+    ≡ Some (identifiers, third_party) → signature_from value ≡ Some signature → option_map pass_summary (pass_from value)
+    ≡ Some (record { location = unwrap_or location []; identifier = identifier; caveats = identifiers; signature = signature }, length identifiers, third_party)
+unfolding pass_from
+kept_pass value location identifier identifiers third_party signature only version is_location is_identifier are_caveats is_signature =
+    grind (arith, common_steps)
+
+location_or_none : {V : Type 0} (items : V → List ℕ) (found : Option V) (none : V) → items none ≡ [] →
+    unwrap_or (option_map items found) [] ≡ items (unwrap_or found none)
+location_or_none items found none e = grind arith
 
 abbrev items : Vec ℕ Global → List ℕ
 items v = v.items
 
 pub returns-clause-ok : goal.returns-clause-ok
 returns-clause-ok c =
-    let h =
-    kept_pass _ _ _ _ _ _ (cc (c.has_only_names.ensures, c.if-not-has_only_names.false))
+    let h = kept_pass _ _ _ _ _ _ (cc (c.has_only_names.ensures, c.if-not-has_only_names.false))
     (cc (c.is_version.ensures, c.if-not-is_version.false)) c.in_ok-location.ensures.ok c.in_ok-identifier.ensures.ok c.in_ok-caveats.ensures.ok
     c.in_ok-signature.ensures.ok in
     let location : unwrap_or (option_map items c.in_ok-location.location) [] ≡ c.unwrap_or.result.items =
