@@ -1,11 +1,10 @@
 -- Lemmas for the proof that base64 decoding returns a list of bytes. A byte is a number below 256.
-use Rattle.pass_forms.proofs.Common.{◌≡◌, ℕ, zero, suc, ◌+◌, ◌*◌, ◌/◌, ◌<◌, Bool, true, ltb, List, [], ◌∷◌, ◌++◌, length, take, drop, slice_index, refl, arith}
+use Rattle.pass_forms.proofs.Common.{◌≡◌, ℕ, zero, suc, ◌+◌, ◌*◌, ◌/◌, ◌<◌, Bool, true, ltb, List, [], ◌∷◌, ◌++◌, take, drop, slice_index, refl, arith}
 use Rattle.pass_forms.proofs.Common.{list_all, lt-ltb, get_or-drop, take-append-drop, DecodeError, GeneralPurpose, IsBytes, decode_of, elements, nat_tests}
 use Rattle.pass_forms.proofs.Common.{IfOk}
 use Rattle.std.specs.declared.{option.Option.{Option, TheVariants.None}, result.Result.{Result, TheVariants.{Ok, Err}}}
-use Rattle.base64.specs.Decode.{IsDecodeTable, decode_error, decode_group, decode_outcome, decoded_bytes, group_bytes, group_error, groups_before_last}
-use Rattle.base64.specs.Decode.{groups_bytes, groups_error, no_leftover, push_leftover, scan_last, scan_steps, suffix_bytes, scan_bytes}
-use Rattle.base64.specs.declared.engine.DecodePaddingMode.{DecodePaddingMode}
+use Rattle.base64.specs.Decode.{IsDecodeTable, decode_error, decode_group, decode_outcome, decoded_bytes, group_bytes, group_error, groups_bytes, groups_error}
+use Rattle.base64.specs.{Decode.{no_leftover, push_leftover, scan_bytes, scan_steps}, declared.engine.DecodePaddingMode.DecodePaddingMode}
 use Rattle.base64.proofs.{Decoding.{IsLeftover, IsLeftover_next}, EngineFacts.{decode_of_bytes, front_bytes}, Tables.{IsDecodeTable_from, are_tables_inverse}}
 
 abbrev TypeOf : {A : Type 0} → A → Type 0
@@ -20,8 +19,7 @@ pub nil_is_bytes : IsBytes []
 nil_is_bytes i = grind (arith, elements)
 
 pub one_more : (byte : ℕ) (bytes : List ℕ) → byte < 256 → IsBytes bytes → IsBytes (byte ∷ bytes)
-one_more byte bytes h others zero = h
-one_more byte bytes h others (suc i) = others i
+one_more byte bytes small others = grind arith
 
 pub bytes_from_passes : (text : List ℕ) → list_all (λ byte. ltb byte 256) text ≡ true → IsBytes text
 bytes_from_passes [] e = nil_is_bytes
@@ -37,23 +35,15 @@ append_is_bytes (x ∷ a) b front back zero = front 0
 append_is_bytes (x ∷ a) b front back (suc i) = append_is_bytes a b (λ k. front (suc k)) back i
 
 group_is_bytes : (m0 m1 m2 m3 : ℕ) → m0 < 64 → m1 < 64 → m2 < 64 → m3 < 64 → IsBytes (decode_group m0 m1 m2 m3)
-group_is_bytes m0 m1 m2 m3 l0 l1 l2 l3 zero = omega arith
-group_is_bytes m0 m1 m2 m3 l0 l1 l2 l3 (suc zero) = omega arith
-group_is_bytes m0 m1 m2 m3 l0 l1 l2 l3 (suc (suc zero)) = omega arith
-group_is_bytes m0 m1 m2 m3 l0 l1 l2 l3 (suc (suc (suc i))) = nil_is_bytes i
+group_is_bytes m0 m1 m2 m3 l0 l1 l2 l3 = grind arith
 
 symbols_are_bytes : (dec s : List ℕ) (i : ℕ) → IsDecodeTable dec → IsBytes s → group_error dec s i ≡ None → IsBytes (group_bytes dec s i)
-symbols_are_bytes dec s i table bytes none =
-    let value = λ (k : ℕ). table (slice_index s k) (bytes k) in
-    group_is_bytes _ _ _ _ (grind (arith, nat_tests, value i)) (grind (arith, nat_tests, value (i + 1))) (grind (arith, nat_tests, value (i + 2)))
-    (grind (arith, nat_tests, value (i + 3)))
+symbols_are_bytes dec s i table bytes none = grind (arith, group_is_bytes)
 
 groups_are_bytes : (dec s : List ℕ) (q : ℕ) → IsDecodeTable dec → IsBytes s → groups_error dec s q ≡ None → IsBytes (groups_bytes dec s q)
 unfolding groups_error groups_bytes
 groups_are_bytes dec s zero table bytes none = nil_is_bytes
-groups_are_bytes dec s (suc q) table bytes none =
-    append_is_bytes (groups_bytes dec s q) (group_bytes dec s (4 * q)) (groups_are_bytes dec s q table bytes (grind arith))
-    (symbols_are_bytes dec s (4 * q) table bytes (grind arith))
+groups_are_bytes dec s (suc q) table bytes none = grind (arith, append_is_bytes, symbols_are_bytes, groups_are_bytes dec s q table bytes (grind arith))
 
 module _ (dec : List ℕ) (pad at : ℕ) (table : IsDecodeTable dec) where
   push_keeps : (st : Leftover) (i b : ℕ) → IsLeftover st i → b < 256 → (next : Result Leftover DecodeError) → push_leftover dec pad at st i b ≡ next →
@@ -81,11 +71,7 @@ scan_is_bytes (Err e) small = nil_is_bytes
 
 decoded_are_bytes : (dec s : List ℕ) (pad : ℕ) (allow : Bool) (mode : DecodePaddingMode) → IsDecodeTable dec → IsBytes s
     → decode_error dec pad allow mode s ≡ None → IsBytes (decoded_bytes dec pad s)
-decoded_are_bytes dec s pad allow mode table bytes none =
-    let q : ℕ = groups_before_last (length s) in
-    append_is_bytes (groups_bytes dec s q) (suffix_bytes dec pad (4 * q) s) (groups_are_bytes dec s q table bytes (grind arith))
-    (scan_is_bytes (scan_last dec pad (4 * q) s) (scan_keeps dec pad (4 * q) table (Ok no_leftover) 0 (drop (4 * q) s)
-    (omega arith, omega arith, omega arith, zeros_below) (λ k. rw (get_or-drop (4 * q) s k 0) (bytes (4 * q + k)))))
+decoded_are_bytes dec s pad allow mode table bytes none = grind (arith, append_is_bytes, groups_are_bytes, scan_is_bytes, scan_keeps, zeros_below, get_or-drop)
 
 no_error : (error : Option DecodeError) (bytes b : List ℕ) → decode_outcome error bytes ≡ Ok b → error ≡ None
 no_error error bytes b ok = grind arith

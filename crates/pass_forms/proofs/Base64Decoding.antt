@@ -4,7 +4,7 @@ use Rattle.pass_forms.proofs.Common.{◌≡◌, ℕ, Bool, true, false, cond, lt
 use Rattle.pass_forms.proofs.Common.{DecodeError, standard, standard_no_pad, url_safe, url_safe_no_pad, IsBytes, IsConsistent, IsDecodedInto, decode_of}
 use Rattle.pass_forms.proofs.Common.{decoded_of, encode_of, GeneralPurpose, IsBase64, by_decoders, from_base64, ◌⊎◌, ◌≤◌, length}
 use Rattle.std.specs.{Option.{option_map, option_or, IfSome}, declared.{option.Option.{Option, TheVariants.{None, Some}}, result.Result.Result}}
-use Rattle.std.specs.declared.result.Result.TheVariants.{Ok, Err}
+use Rattle.std.specs.declared.result.Result.TheVariants.{Err}
 
 -- `IsDecoded text bytes` means that at least one of the four base64 engines decodes `text` to
 -- `bytes`.
@@ -49,8 +49,7 @@ decoders_spell text b bytes found = decoded_is text b bytes (first_answer _ _ _ 
 
 spells_to_decoders : (text b : List ℕ) → IsBytes text → IsBase64 text b → by_decoders text ≡ Some b
 unfolding by_decoders
-spells_to_decoders text b bytes is =
-    one_answer _ _ _ _ b (is_decoded text b is) (λ c found. spells_one text c b (decoded_is text c bytes found) is)
+spells_to_decoders text b bytes is = one_answer _ _ _ _ b (is_decoded text b is) (λ c found. spells_one text c b (decoded_is text c bytes found) is)
 
 pub from_base64_is : (text : List ℕ) → IsBytes text → from_base64 text ≡ by_decoders text
 unfolding from_base64
@@ -70,13 +69,10 @@ spells_from_base64 text b is =
     from_base64_is text bytes ∙ spells_to_decoders text b bytes is
 
 pub decoded_into : (e : GeneralPurpose) (text old new : List ℕ) (r : Result ℕ DecodeError) (answer : Option ℕ) → answer ≡ result_ok r
-    → IfOk r (λ n. IsDecodedInto e text n old new) → IfErr r (λ error. decode_of e text ≡ Err error)
-    → option_map (λ n. take n new) answer ≡ decoded_of e text
+    → IfOk r (λ n. IsDecodedInto e text n old new) → IfErr r (λ error. decode_of e text ≡ Err error) → option_map (λ n. take n new) answer ≡ decoded_of e text
 unfolding decoded_of
-decoded_into e text old new (Ok n) answer is ok err = rw (is, ok.0) refl
-decoded_into e text old new (Err error) answer is ok err = rw (is, err) refl
+decoded_into e text old new r answer is ok err = grind arith
 
 pub decoded_within : (e : GeneralPurpose) (text old new : List ℕ) (r : Result ℕ DecodeError) (answer : Option ℕ) (buffer : ℕ) → answer ≡ result_ok r
     → IfOk r (λ n. IsDecodedInto e text n old new) → length old ≤ buffer → IfSome answer (λ n. n ≤ buffer)
-decoded_within e text old new (Ok n) answer buffer is ok fits = rw is (omega arith)
-decoded_within e text old new (Err error) answer buffer is ok fits = rw is tt
+decoded_within e text old new r answer buffer is ok fits = grind arith

@@ -1,6 +1,6 @@
 -- Lemmas about scanning caveats one by one, in V1 or V2.
-use Rattle.pass_forms.proofs.Common.{◌≡◌, ℕ, zero, suc, ◌+◌, Bool, ◌||◌, List, [], length, Option, Some, None, option_map, refl, arith, list_any, and_others}
-use Rattle.pass_forms.proofs.Common.{caveats_at, summary, WideCaveat, is_third_party}
+use Rattle.pass_forms.proofs.Common.{Bool, List, None, Option, Some, [], and_others, arith, length, list_any, option_map, refl, suc, zero, ℕ, ◌+◌, ◌||◌, ◌≡◌}
+use Rattle.pass_forms.proofs.Common.{Global, Vec, WideCaveat, caveats_at, drop, flat_map, is_third_party, map, summary, widened_caveat}
 
 abbrev pub Reader : Type 0
 Reader = List ℕ → Option (WideCaveat × List ℕ)
@@ -38,3 +38,8 @@ module _ (at : Reader) where
         | None ↦ λ e. refl
         | Some found ↦ λ e. rw (e, as_many n found.1) refl
       ] refl
+
+-- Returns the bytes of all caveats from index `i` on. The function `text` returns the bytes of one
+-- caveat.
+abbrev pub left_from : (WideCaveat → List ℕ) → List (Vec ℕ Global) → ℕ → List ℕ
+left_from text caveats i = flat_map text (map widened_caveat (map (λ caveat. caveat.items) (drop i caveats)))

@@ -43,18 +43,9 @@ module _ (at : Reader) (text : WideCaveat → List ℕ) (Fits : WideCaveat → T
   caveats_again (suc n) [] rest h fits ends none = rw none refl
   caveats_again zero (caveat ∷ caveats) rest h fits ends none = absurd (omega arith)
   caveats_again (suc n) (caveat ∷ caveats) rest h fits ends none =
-      let others = flat_map text caveats ++ rest in
-      ap (caveats_at at (suc n)) (regrouped text caveat caveats rest)
-      ∙ rw (exact.again caveat others fits.0 (caveats_end caveats rest fits.1 ends), caveats_again n caveats rest (omega arith) fits.1 ends none) refl
+      grind (arith, regrouped, caveats_end, caveats_again n caveats rest (omega arith) fits.1 ends none)
 
 pub caveats_fit : (text : WideCaveat → List ℕ) → ((caveat : WideCaveat) → 1 ≤ length (text caveat)) → (caveats : List WideCaveat) →
     length caveats ≤ length (flat_map text caveats)
 caveats_fit text long [] = omega arith
-caveats_fit text long (caveat ∷ caveats) =
-    omega (
-      arith,
-      ap length (flat_map-cons text caveat caveats),
-      caveats_fit text long caveats,
-      long caveat,
-      length-append (text caveat) (flat_map text caveats),
-    )
+caveats_fit text long (caveat ∷ caveats) = grind (arith, length-append, caveats_fit text long caveats)

@@ -35,8 +35,7 @@ abbrev pub Computes : (WidePass → Type 0) → Option WidePass → Type 0
 Computes Spelled computed = (wide : WidePass) → Spelled wide ↔ (computed ≡ Some wide)
 
 nothing_computed : (computed : Option WidePass) → ((wide : WidePass) → computed ≡ Some wide → ⊥) → computed ≡ None
-nothing_computed None none = refl
-nothing_computed (Some wide) none = absurd (none wide refl)
+nothing_computed computed none = grind arith
 
 module _ (len : ℕ) (Spelled : WidePass → Type 0) where
   checked_by : (wide : WidePass) (third many : Bool) → has_third_party wide ≡ third → ltb max_caveats (length wide.caveats) ≡ many → len ≤ max_text_len →

@@ -1,5 +1,5 @@
 -- Lemmas for the proofs of `Fields::open` and `Fields::into_pass`.
-use Rattle.pass_forms.proofs.Common.{◌≡◌, ℕ, List, [], ◌∷◌, ◌++◌, map, Result, Ok, sym, ap, ◌∙◌, append_assoc, append-nil, FormFault, IsOpening, PassField}
+use Rattle.pass_forms.proofs.Common.{◌≡◌, ℕ, List, [], ◌∷◌, ◌++◌, map, Result, Ok, append_assoc, append-nil, FormFault, IsOpening, PassField}
 use Rattle.pass_forms.proofs.Common.{caveat_field, pass_fields, no_fields, opening_of, signature_field, with_fields, Plain, arith}
 
 pub opens : (Reads : Result Plain FormFault → Type 0) (reading : Result Plain FormFault) (answer : Result (List PassField) FormFault) → Reads reading →
@@ -10,13 +10,9 @@ last_fields : (location identifier : List ℕ) (front caveats : List (List ℕ))
     with_fields (record { location = location; identifier = identifier; caveats = front; signature = before })
     (map caveat_field caveats ++ signature_field signature ∷ [])
     ≡ record { location = location; identifier = identifier; caveats = front ++ caveats; signature = signature }
-last_fields location identifier front [] before signature =
-    ap (λ (cs : List (List ℕ)). let p : Plain = record { location = location; identifier = identifier; caveats = cs; signature = signature } in p)
-    (sym (append-nil front))
+last_fields location identifier front [] before signature = grind (arith, append-nil)
 last_fields location identifier front (caveat ∷ caveats) before signature =
-    last_fields location identifier (front ++ caveat ∷ []) caveats before signature
-    ∙ ap (λ (cs : List (List ℕ)). let p : Plain = record { location = location; identifier = identifier; caveats = cs; signature = signature } in p)
-    (append_assoc front (caveat ∷ []) caveats)
+    grind (arith, append_assoc, last_fields location identifier (front ++ caveat ∷ []) caveats before signature)
 
 all_fields : (pass : Plain) → with_fields no_fields (pass_fields pass) ≡ pass
 all_fields pass = grind (arith, last_fields)

@@ -40,8 +40,7 @@ unwrapped_answers text = elim (cases_lt max_text_len (length text)) [
   | inl long ↦ rw (lt-ltb max_text_len (length text) long) long
   | inr short ↦ elim (cases_Bool (starts_with_brace text)) [
     | inl brace ↦ rw (le-ltb max_text_len (length text) short, brace) (short, inl (brace, refl, refl))
-    | inr brace ↦
-        rw (le-ltb max_text_len (length text) short, brace)
+    | inr brace ↦ rw (le-ltb max_text_len (length text) short, brace)
         (decoded_answer text (from_base64 text) (λ b. (from_base64_spells text b, spells_from_base64 text b)) short brace)
   ]
 ]
@@ -57,8 +56,7 @@ one_answer text (Err Malformed) (Err Malformed) left right = refl
 one_answer text x y left right = first_of (search rules, omega arith)
 
 pub unwrapped_is : (text : List ℕ) (answer : Answer) → (unwrapping text ≡ answer) ↔ IsUnwrapped text answer
-unwrapped_is text answer =
-    (λ e. subst (IsUnwrapped text) e (unwrapped_answers text), one_answer text (unwrapping text) answer (unwrapped_answers text))
+unwrapped_is text answer = grind (arith, unwrapped_answers, one_answer)
 
 pub answers_as : (text : List ℕ) (answer : Answer) → answer ≡ unwrapping text → IsUnwrapped text answer
 answers_as text answer is = subst (IsUnwrapped text) (sym is) (unwrapped_answers text)

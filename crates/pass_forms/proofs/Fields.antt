@@ -14,19 +14,13 @@ unfolding groups
 groups_more more n large = rw (le-ltb n 128 large) refl
 
 groups_same : (more less n : ℕ) → n ≤ more → n ≤ less → groups more n ≡ groups less n
-groups_same (suc more) (suc less) n m l = elim (cases_lt n 128) [
-  | inl small ↦ groups_enough (suc more) n small ∙ sym (groups_enough (suc less) n small)
-  | inr large ↦
-      groups_more more n large ∙ ap (λ (x : List ℕ). (128 + n % 128) ∷ x) (groups_same more less (n / 128) (omega arith) (omega arith))
-      ∙ sym (groups_more less n large)
-]
+groups_same (suc more) (suc less) n m l = grind (arith, groups_enough, groups_more, groups_same more less (n / 128) (omega arith) (omega arith))
 groups_same more less n m l = groups_enough more n (omega arith) ∙ sym (groups_enough less n (omega arith))
 
-pub varint_large : (n : ℕ) → 128 ≤ n → varint n ≡ (128 + n % 128) ∷ varint (n / 128)
+varint_large : (n : ℕ) → 128 ≤ n → varint n ≡ (128 + n % 128) ∷ varint (n / 128)
 unfolding varint
 varint_large zero large = absurd (omega arith)
-varint_large (suc m) large =
-    groups_more m (suc m) large
+varint_large (suc m) large = groups_more m (suc m) large
     ∙ ap (λ (x : List ℕ). (128 + suc m % 128) ∷ x) (groups_same m (suc m / 128) (suc m / 128) (omega arith) (omega arith))
 
 pub varint_small : (n : ℕ) → n < 128 → varint n ≡ n ∷ []
@@ -69,10 +63,8 @@ small_again most n rest small within = grind (arith, common_steps, varint_small,
 
 again_below : (bound most n : ℕ) (rest : List ℕ) → n ≤ bound → n ≤ most → varint_up_to most (varint n ++ rest) ≡ Some (n, rest)
 again_below zero most n rest b within = small_again most n rest (omega arith) within
-again_below (suc bound) most n rest b within = elim (cases_lt n 128) [
-  | inl small ↦ small_again most n rest small within
-  | inr large ↦ large_again most n rest large within (again_below bound (most / 128) (n / 128) rest (omega arith) (omega arith))
-]
+again_below (suc bound) most n rest b within =
+    grind (arith, small_again, large_again, again_below bound (most / 128) (n / 128) rest (omega arith) (omega arith))
 
 varint_again : (n : ℕ) (rest : List ℕ) → n ≤ length (varint n ++ rest) → varint_up_to (length (varint n ++ rest)) (varint n ++ rest) ≡ Some (n, rest)
 varint_again n rest within = again_below n (length (varint n ++ rest)) n rest (omega arith) within

@@ -1,16 +1,12 @@
 pub mod Common
-pub mod FieldNames
 pub mod Varints
 pub mod Base64Bytes
-pub mod Base64Symbols
 pub mod Base64Spelling
 pub mod Base64Decoding
 pub mod EnvelopeLaws
 pub mod CaveatRuns
 pub mod CaveatTexts
-pub mod Digits
 pub mod Packets
-pub mod CaveatPackets
 pub mod WholePass
 pub mod WholeV1
 pub mod Fields
@@ -18,10 +14,8 @@ pub mod WholeV2
 pub mod Checking
 pub mod Collecting
 pub mod TextExact
-pub mod PutCaveats
 pub mod WrittenBytes
 pub mod WrittenTexts
-pub mod WrittenForm
 pub mod WrittenV1
 pub mod WrittenV2
 pub mod Verifying

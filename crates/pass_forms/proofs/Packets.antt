@@ -1,9 +1,61 @@
 -- Lemmas for the proof that the V1 reader recovers each written packet.
-use Rattle.pass_forms.proofs.Common.{◌≡◌, ℕ, ◌+◌, ◌-◌, ◌^◌, ◌<◌, ◌≤◌, ◌&&◌, leb, List, [], ◌∷◌, ◌++◌, length, take, drop, Some, None, refl, sym, ap, ◌∙◌}
-use Rattle.pass_forms.proofs.Common.{append_assoc, arith, and_parts, leb-true, cond_some, some_pair_parts, drop-take, take-take, take_at, drop_at}
-use Rattle.pass_forms.proofs.Common.{take-append-drop, length-append, length-take, length-drop, four_hex_digits, packet_len, packet, FitsPacket, after_prefix}
-use Rattle.pass_forms.proofs.{Common.{before_suffix, len_at, packet_at, common_steps}, Digits.{bind_some, len_takes, len_again}}
+use Rattle.pass_forms.proofs.Common.{List, None, Some, [], ap, drop, leb, length, refl, sym, take, ℕ, ◌&&◌, ◌++◌, ◌+◌, ◌-◌, ◌<◌, ◌^◌, ◌∙◌, ◌∷◌, ◌≡◌, ◌≤◌}
+use Rattle.pass_forms.proofs.Common.{FitsPacket, and_parts, append_assoc, arith, cond_some, drop-take, drop_at, leb-true, some_pair_parts, take-take, take_at}
+use Rattle.pass_forms.proofs.Common.{Option, after_prefix, four_hex_digits, length-append, length-drop, length-take, packet, packet_len, take-append-drop}
+use Rattle.pass_forms.proofs.Common.{before_suffix, codes, common_steps, digit_value, hex_digit, len_at, nat_tests, packet_at, same_Some, ◌*◌, ◌>>=◌}
 use Rattle.std.proofs.{Math.Seq.take-append-add, lemmas.Slice.Eq.bytes_eq-Decides}
+
+-- The keys of V1's packets.
+abbrev pub location_key : List ℕ
+location_key = codes "location "
+
+abbrev pub identifier_key : List ℕ
+identifier_key = codes "identifier "
+
+abbrev pub caveat_key : List ℕ
+caveat_key = codes "cid "
+
+abbrev pub verifier_id_key : List ℕ
+verifier_id_key = codes "vid "
+
+abbrev pub caveat_location_key : List ℕ
+caveat_location_key = codes "cl "
+
+abbrev pub signature_key : List ℕ
+signature_key = codes "signature "
+
+digit_again : (n : ℕ) → n < 16 → digit_value (hex_digit n) ≡ Some n
+digit_again n h = grind (arith, nat_tests)
+
+digit_takes : (byte n : ℕ) → digit_value byte ≡ Some n → (n < 16) × (byte ≡ hex_digit n)
+digit_takes byte n h = grind (arith, nat_tests)
+
+abbrev value : ℕ → ℕ → ℕ → ℕ → ℕ
+value x y z w = x * 4096 + y * 256 + z * 16 + w
+
+pub bind_some : {A B : Type 0} (o : Option A) (f : A → Option B) (y : B) → (o >>= f) ≡ Some y → (x : A) × (o ≡ Some x) × (f x ≡ Some y)
+bind_some o f y e = grind arith
+
+joined : (a b c d x y z w n : ℕ) (rest : List ℕ) → (x < 16) × (a ≡ hex_digit x) → (y < 16) × (b ≡ hex_digit y) → (z < 16) × (c ≡ hex_digit z) →
+    (w < 16) × (d ≡ hex_digit w) → value x y z w ≡ n → (n < 2 ^ 16) × (a ∷ b ∷ c ∷ d ∷ rest ≡ four_hex_digits n ++ rest)
+joined a b c d x y z w n rest ha hb hc hd is_n = grind arith
+
+len_takes : (bytes : List ℕ) (n : ℕ) → len_at bytes ≡ Some n → (n < 2 ^ 16) × (rest : List ℕ) × (bytes ≡ four_hex_digits n ++ rest)
+len_takes (a ∷ b ∷ c ∷ d ∷ rest) n e =
+    let x = bind_some _ _ n e in
+    let y = bind_some _ _ n x.2 in
+    let z = bind_some _ _ n y.2 in
+    let w = bind_some _ _ n z.2 in
+    let tx = digit_takes a x.0 x.1 in
+    let ty = digit_takes b y.0 y.1 in
+    let tz = digit_takes c z.0 z.1 in
+    let tw = digit_takes d w.0 w.1 in
+    let j = joined a b c d x.0 y.0 z.0 w.0 n rest tx ty tz tw (same_Some (value x.0 y.0 z.0 w.0) n w.2) in
+    (j.0, rest, j.1)
+len_takes bytes n e = absurd cc
+
+len_again : (n : ℕ) (rest : List ℕ) → n < 2 ^ 16 → len_at (four_hex_digits n ++ rest) ≡ Some n
+len_again n rest h = grind (arith, digit_again)
 
 pub after_prefix_takes : (prefix bytes rest : List ℕ) → after_prefix prefix bytes ≡ Some rest → bytes ≡ prefix ++ rest
 after_prefix_takes prefix bytes rest e = grind (arith, common_steps, take-append-drop, bytes_eq-Decides)
@@ -27,8 +79,7 @@ framed bytes more key text n fits begins within body =
     let long : 4 ≤ n = omega (arith, length-drop 4 whole) in
     let is_n : packet_len key text ≡ n = omega (arith, length-drop 4 whole) in
     let digits : take 4 whole ≡ four_hex_digits n = take-take 4 n bytes long ∙ ap (take 4) begins ∙ take_at (four_hex_digits n) more 4 refl in
-    let split : whole ≡ packet key text =
-    sym (take-append-drop 4 whole) ∙ ap (λ (x : List ℕ). x ++ drop 4 whole) (digits ∙ ap four_hex_digits (sym is_n)) ∙ ap
+    let split : whole ≡ packet key text = sym (take-append-drop 4 whole) ∙ ap (λ (x : List ℕ). x ++ drop 4 whole) (digits ∙ ap four_hex_digits (sym is_n)) ∙ ap
     (λ (x : List ℕ). four_hex_digits (packet_len key text) ++ x) body in
     (sym (take-append-drop n bytes) ∙ ap (λ (x : List ℕ). x ++ drop n bytes) split, omega arith)
 
@@ -78,4 +129,4 @@ packet_again key text rest fits =
 pub packet_other : (key other text rest : List ℕ) → ((tail : List ℕ) → after_prefix key (other ++ tail) ≡ None) →
     packet_at key (packet other text ++ rest) ≡ None
 unfolding packet_at
-packet_other key other text rest differs = grind (arith, common_steps, behind_digits, length-packet, differs)
+packet_other key other text rest differs = grind (arith, common_steps, differs)

@@ -32,8 +32,7 @@ module _ (wide_at : Reader) (text : List ℕ) where
   in_form_is form answer here any = grind arith
 
   reading_in_is : (wrapped : Result (Form × List ℕ) FormFault) → IsUnwrapped text wrapped → IsTextReading (Spells wide_at) text (reading_in wide_at wrapped)
-  reading_in_is (Ok (form, bytes)) h =
-      in_form_is form (checked_if_any (wide_at form bytes))
+  reading_in_is (Ok (form, bytes)) h = in_form_is form (checked_if_any (wide_at form bytes))
       (checked_if_any_is (length text) (SpellsIn form) (wide_at form bytes) (computes_in form bytes h.1) h.0)
       (checked_if_any_is (length text) SpellsAny (wide_at form bytes) (computes_any form bytes h.1) h.0)
   reading_in_is (Err TooLong) h = h
@@ -45,8 +44,7 @@ module _ (wide_at : Reader) (text : List ℕ) where
   wrapped_determined form bytes (Ok (other, pass)) within wraps h =
       let same = same_bytes form other bytes (as_wide_pass pass) wraps h.1 in
       ap (in_form form) (checked_determined (length text) (SpellsIn form) (wide_at form bytes) (Ok pass) (computes_in form bytes wraps) within
-      (h.0, (bytes, wraps, same.1), h.2))
-      ∙ ap (λ (f : Form). Ok (f, pass)) (sym same.0)
+      (h.0, (bytes, wraps, same.1), h.2)) ∙ ap (λ (f : Form). Ok (f, pass)) (sym same.0)
   wrapped_determined form bytes (Err fault) within wraps h =
       ap (in_form form) (checked_determined (length text) SpellsAny (wide_at form bytes) (Err fault) (computes_any form bytes wraps) within h)
 
@@ -60,8 +58,7 @@ module _ (wide_at : Reader) (text : List ℕ) where
   reading_in_determined (Err Malformed) (Err TooMany) h content = absurd (h.1 content.2.0 content.2.1.0 content.2.1.1)
   reading_in_determined wrapped answer h content = first_of (search rules, omega arith)
 
-  pub text_reading_exact : (answer : Result (Form × Plain) FormFault) →
-      IsTextReading (Spells wide_at) text answer ↔ (text_reading wide_at text ≡ answer)
+  pub text_reading_exact : (answer : Result (Form × Plain) FormFault) → IsTextReading (Spells wide_at) text answer ↔ (text_reading wide_at text ≡ answer)
   unfolding text_reading
   text_reading_exact answer =
       let unwraps = unwrapped_answers text in (

@@ -1,6 +1,6 @@
 -- Lemmas for the proof of `is_signed_by`.
 use Rattle.pass_forms.proofs.Common.{◌≡◌, ℕ, List, [], ◌∷◌, ◌++◌, fold, map, Bool, false, refl, PassField, caveat_field, signature_field, location_field}
-use Rattle.pass_forms.proofs.Common.{identifier_field, ◌↔◌, arith, ap, sym, subst}
+use Rattle.pass_forms.proofs.Common.{identifier_field, ◌↔◌, arith, ap, sym}
 use Rattle.std.specs.{Prelude.IsTrue, Str.bytes_eq}
 use Rattle.std.proofs.lemmas.Slice.Eq.{bytes_eq-Decides}
 use Rattle.pass_mac.specs.Hmac.{hmac}
@@ -42,9 +42,7 @@ signed_at [] chain rest = same_as_itself chain
 signed_at (caveat ∷ caveats) chain rest = signed_at caveats (hmac chain caveat) rest
 
 signed_where : (fields : List PassField) (chain : List ℕ) → IsTrue (signed_in chain fields) ↔ AreSignedBy chain fields
-signed_where fields chain =
-    let IsSigned : List PassField → Type 0 = λ those. IsTrue (signed_in chain those) in
-    (place_of fields chain, λ signed. subst IsSigned (sym signed.place) (signed_at signed.caveats chain signed.rest))
+signed_where fields chain = grind (arith, place_of, signed_at)
 
 pub signed_if : (signed : Bool) (chain : List ℕ) (fields : List PassField) → signed ≡ signed_in chain fields → IsTrue signed ↔ AreSignedBy chain fields
 signed_if signed chain fields same = rw same (signed_where fields chain)

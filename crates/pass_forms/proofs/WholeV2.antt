@@ -1,10 +1,10 @@
 -- Lemmas for the proof that the V2 reader accepts exactly the bytes that encode a pass.
-use Rattle.pass_forms.proofs.{CaveatTexts.{Exact, caveats_take, caveats_again, caveats_fit}, Checking.exactly, Common.{◌≡◌, ℕ, ◌≤◌, List, [], ◌∷◌, ◌++◌}}
-use Rattle.pass_forms.proofs.Common.{length, Option, Some, None, refl, sym, ap, subst, ◌∙◌, append_assoc, arith, flat_map, AllByRecursion, append-nil}
-use Rattle.pass_forms.proofs.Common.{length-append, caveats_at, WideCaveat, WidePass, field, optional_field, end_of_section, caveat_section, types, sections}
-use Rattle.pass_forms.proofs.{Common.{SpellsV2, field_at, footer_at, reading_v2, ComputesSpelled, ReadsExactly, common_steps}, Digits.bind_some}
-use Rattle.pass_forms.proofs.{Fields.{field_takes, field_again, optional_takes, optional_again}, Packets.after_prefix_takes}
-use Rattle.pass_forms.proofs.WholePass.{last_takes, made, whole_parts, whole_again}
+use Rattle.pass_forms.proofs.{CaveatTexts.{Exact, caveats_again, caveats_fit, caveats_take}, Checking.exactly, Common.{List, [], ℕ, ◌++◌, ◌∷◌, ◌≡◌, ◌≤◌}}
+use Rattle.pass_forms.proofs.Common.{AllByRecursion, None, Option, Some, ap, append-nil, append_assoc, arith, flat_map, length, refl, subst, sym, ◌∙◌}
+use Rattle.pass_forms.proofs.Common.{WideCaveat, WidePass, caveat_section, caveats_at, end_of_section, field, length-append, optional_field, sections, types}
+use Rattle.pass_forms.proofs.{Common.{ComputesSpelled, ReadsExactly, SpellsV2, common_steps, field_at, footer_at, reading_v2}, Fields.field_takes}
+use Rattle.pass_forms.proofs.{Fields.{field_again, optional_again, optional_takes}, Packets.{after_prefix_takes, bind_some}, WholePass.{last_takes, made}}
+use Rattle.pass_forms.proofs.WholePass.{whole_again, whole_parts}
 use Rattle.std.specs.Prelude.{unwrap_or}
 use Rattle.pass_forms.specs.computed.V2Reading.{caveat_at, header_at, wide_at}
 
@@ -30,8 +30,7 @@ caveat_again caveat rest fits ends =
     let lt = optional_field types.location caveat.location in
     let it = field types.identifier caveat.identifier in
     let vt = optional_field types.verifier_id caveat.verifier_id in
-    let l =
-    optional_again types.location caveat.location (it ++ (vt ++ (end_of_section ++ rest)))
+    let l = optional_again types.location caveat.location (it ++ (vt ++ (end_of_section ++ rest)))
     (not_location caveat.identifier (vt ++ (end_of_section ++ rest))) in
     let i = field_again types.identifier caveat.identifier (vt ++ (end_of_section ++ rest)) in
     let v = optional_again types.verifier_id caveat.verifier_id (end_of_section ++ rest) (end_is_no_verifier_id rest) in
@@ -49,8 +48,7 @@ unfolding footer_at
 footer_takes bytes signature e =
     let r = bind_some _ _ signature e in
     let s = last_takes (field_at types.signature r.0) signature r.2 in
-    let is_field : r.0 ≡ field types.signature signature =
-    field_takes types.signature r.0 signature [] s.0 ∙ append-nil (field types.signature signature) in
+    let is_field : r.0 ≡ field types.signature signature = field_takes types.signature r.0 signature [] s.0 ∙ append-nil (field types.signature signature) in
     (after_prefix_takes end_of_section bytes r.0 r.1 ∙ ap (λ (x : List ℕ). end_of_section ++ x) is_field, s.1)
 
 footer_again : (signature : List ℕ) → length signature ≡ 32 → footer_at (end_of_section ++ field types.signature signature) ≡ Some signature
@@ -77,12 +75,7 @@ header_again : (location : Option (List ℕ)) (identifier rest : List ℕ) →
     header_at (2 ∷ optional_field types.location location ++ (field types.identifier identifier ++ (end_of_section ++ rest))) ≡ Some
     (unwrap_or location [], identifier, rest)
 unfolding header_at
-header_again location identifier rest =
-    let l =
-    optional_again types.location location (field types.identifier identifier ++ (end_of_section ++ rest))
-    (not_location identifier (end_of_section ++ rest)) in
-    let i = field_again types.identifier identifier (end_of_section ++ rest) in
-    rw (l, i) refl
+header_again location identifier rest = grind (arith, optional_again, not_location, field_again)
 
 wide_takes : (bytes : List ℕ) (wide : WidePass) → wide_at bytes ≡ Some wide → SpellsV2 bytes wide
 wide_takes bytes wide e =

@@ -1,21 +1,12 @@
 -- Lemmas for the proof that a writer produces a list of bytes. A byte is a number below 256.
-use Rattle.pass_forms.proofs.{Base64Bytes.{append_is_bytes, bytes_from_passes, nil_is_bytes, one_more}, Common.{◌≡◌, ℕ, zero, suc, ◌+◌, ◌/◌, ◌%◌, ◌^◌, ◌<◌}}
-use Rattle.pass_forms.proofs.Common.{◌≤◌, true, ltb, List, [], ◌∷◌, ◌++◌, map, refl, arith, inl, inr, AllByRecursion, flat_map, list_all, cases_lt, lt-ltb}
-use Rattle.pass_forms.proofs.Common.{le-ltb, nat_tests, IsBytes, Plain, as_wide_pass, widened_caveat, FitsPackets, FitsCaveat, FitsPacket, caveat_packets}
-use Rattle.pass_forms.proofs.Common.{four_hex_digits, hex_digit, packet, caveat_section, end_of_section, field, groups, optional_field, varint, types, HasBytes}
-use Rattle.pass_forms.proofs.{Common.{nonempty_location, v1_bytes, v2_bytes, rules}, FieldNames.{caveat_key, identifier_key, location_key, signature_key}}
-
-digit_is_byte : (n : ℕ) → n < 16 → hex_digit n < 256
-digit_is_byte n h = grind (arith, nat_tests)
-
-four_bytes : (a b c d : ℕ) → a < 256 → b < 256 → c < 256 → d < 256 → IsBytes (a ∷ b ∷ c ∷ d ∷ [])
-four_bytes a b c d ha hb hc hd = search (rules, one_more, nil_is_bytes)
+use Rattle.pass_forms.proofs.{Base64Bytes.{append_is_bytes, bytes_from_passes, nil_is_bytes, one_more}, Common.{suc, zero, ℕ, ◌/◌, ◌<◌, ◌^◌, ◌≡◌}}
+use Rattle.pass_forms.proofs.Common.{AllByRecursion, List, [], arith, flat_map, list_all, ltb, map, refl, true, ◌++◌, ◌∷◌, ◌≤◌}
+use Rattle.pass_forms.proofs.Common.{FitsCaveat, FitsPacket, FitsPackets, IsBytes, Plain, as_wide_pass, caveat_packets, widened_caveat}
+use Rattle.pass_forms.proofs.Common.{HasBytes, caveat_section, end_of_section, field, four_hex_digits, groups, optional_field, packet, types, varint}
+use Rattle.pass_forms.proofs.{Common.{nonempty_location, rules, v1_bytes, v2_bytes}, Packets.{identifier_key, location_key, signature_key}}
 
 digits_are_bytes : (n : ℕ) → n < 2 ^ 16 → IsBytes (four_hex_digits n)
-digits_are_bytes n h =
-    four_bytes (hex_digit (n / 4096)) (hex_digit (n / 256 % 16)) (hex_digit (n / 16 % 16)) (hex_digit (n % 16))
-    (digit_is_byte (n / 4096) (omega arith)) (digit_is_byte (n / 256 % 16) (omega arith)) (digit_is_byte (n / 16 % 16) (omega arith))
-    (digit_is_byte (n % 16) (omega arith))
+digits_are_bytes n h = grind arith
 
 packet_is_bytes : (key bytes : List ℕ) → list_all (λ byte. ltb byte 256) key ≡ true → FitsPacket key bytes → IsBytes bytes → IsBytes (packet key bytes)
 packet_is_bytes key bytes passes fits are = search (rules, append_is_bytes, one_more, nil_is_bytes, digits_are_bytes, bytes_from_passes)
@@ -23,10 +14,7 @@ packet_is_bytes key bytes passes fits are = search (rules, append_is_bytes, one_
 packets_are_bytes : (caveats : List (List ℕ)) → AllByRecursion FitsCaveat (map widened_caveat caveats) → AllByRecursion IsBytes caveats →
     IsBytes (flat_map caveat_packets (map widened_caveat caveats))
 packets_are_bytes [] fit are = nil_is_bytes
-packets_are_bytes (caveat ∷ caveats) fit are =
-    append_is_bytes (packet caveat_key caveat ++ []) (flat_map caveat_packets (map widened_caveat caveats))
-    (append_is_bytes (packet caveat_key caveat) [] (packet_is_bytes caveat_key caveat refl fit.0.identifier are.0) nil_is_bytes)
-    (packets_are_bytes caveats fit.1 are.1)
+packets_are_bytes (caveat ∷ caveats) fit are = search (rules, nil_is_bytes, append_is_bytes, packet_is_bytes, packets_are_bytes caveats fit.1 are.1)
 
 pub v1_is_bytes : (pass : Plain) → FitsPackets (as_wide_pass pass) → HasBytes pass → IsBytes (v1_bytes pass)
 unfolding v1_bytes
@@ -44,11 +32,7 @@ v1_is_bytes pass fits are =
 groups_are_bytes : (more n : ℕ) → n ≤ more → IsBytes (groups more n)
 unfolding groups
 groups_are_bytes zero n h = one_more n [] (omega arith) nil_is_bytes
-groups_are_bytes (suc more) n h = elim (cases_lt n 128) [
-  | inl small ↦ rw (lt-ltb n 128 small) (one_more n [] (omega arith) nil_is_bytes)
-  | inr large ↦
-      rw (le-ltb n 128 large) (one_more (128 + n % 128) (groups more (n / 128)) (omega arith) (groups_are_bytes more (n / 128) (omega arith)))
-]
+groups_are_bytes (suc more) n h = grind (arith, one_more, nil_is_bytes, groups_are_bytes more (n / 128) (omega arith))
 
 field_is_bytes : (type : ℕ) (bytes : List ℕ) → type < 256 → IsBytes bytes → IsBytes (field type bytes)
 unfolding varint
@@ -59,14 +43,11 @@ location_is_bytes [] are = nil_is_bytes
 location_is_bytes (byte ∷ bytes) are = field_is_bytes types.location (byte ∷ bytes) (omega arith) are
 
 section_is_bytes : (type : ℕ) (bytes rest : List ℕ) → type < 256 → IsBytes bytes → IsBytes rest → IsBytes (field type bytes ++ (end_of_section ++ rest))
-section_is_bytes type bytes rest small are others =
-    append_is_bytes (field type bytes) (end_of_section ++ rest) (field_is_bytes type bytes small are) (one_more 0 rest (omega arith) others)
+section_is_bytes type bytes rest small are others = search (rules, append_is_bytes, field_is_bytes, one_more)
 
 sections_are_bytes : (caveats : List (List ℕ)) → AllByRecursion IsBytes caveats → IsBytes (flat_map caveat_section (map widened_caveat caveats))
 sections_are_bytes [] are = nil_is_bytes
-sections_are_bytes (caveat ∷ caveats) are =
-    append_is_bytes (field types.identifier caveat ++ end_of_section) (flat_map caveat_section (map widened_caveat caveats))
-    (section_is_bytes types.identifier caveat [] (omega arith) are.0 nil_is_bytes) (sections_are_bytes caveats are.1)
+sections_are_bytes (caveat ∷ caveats) are = search (rules, nil_is_bytes, append_is_bytes, section_is_bytes, sections_are_bytes caveats are.1)
 
 pub v2_is_bytes : (pass : Plain) → HasBytes pass → IsBytes (v2_bytes pass)
 unfolding v2_bytes
@@ -75,8 +56,7 @@ v2_is_bytes pass are =
     let caveats : List ℕ = flat_map caveat_section (map widened_caveat pass.caveats) in
     let last : List ℕ = end_of_section ++ field types.signature pass.signature in
     let others : List ℕ = field types.identifier pass.identifier ++ (end_of_section ++ (caveats ++ last)) in
-    one_more 2 (location ++ others) (omega arith)
-    (append_is_bytes location others (location_is_bytes pass.location are.location)
+    one_more 2 (location ++ others) (omega arith) (append_is_bytes location others (location_is_bytes pass.location are.location)
     (section_is_bytes types.identifier pass.identifier (caveats ++ last) (omega arith) are.identifier
     (append_is_bytes caveats last (sections_are_bytes pass.caveats are.caveats)
     (one_more 0 (field types.signature pass.signature) (omega arith) (field_is_bytes types.signature pass.signature (omega arith) are.signature)))))

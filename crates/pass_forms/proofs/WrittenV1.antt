@@ -1,21 +1,18 @@
 -- Lemmas for the proof of `write_v1`.
-use Rattle.pass_forms.proofs.Common.{◌≡◌, ◌↔◌, ℕ, ◌/◌, ◌<◌, ◌≤◌, List, [], ◌∷◌, length, map, Result, Some, refl, arith, flat_map, AllByRecursion, nat_tests}
-use Rattle.pass_forms.proofs.Common.{FormFault, form_of, form_of_byte, Plain, as_wide_pass, widened_caveat, buffer_len, FitsPackets, FitsCaveat, FitsPacket}
-use Rattle.pass_forms.proofs.Common.{SpellsV1, caveat_packets, hex_digit, packet, packet_len, packets_of, HasBytes, IsReadBack, IsV1Text, IsWritableText}
-use Rattle.pass_forms.proofs.{Common.{IsWriting, v1_bytes, writing_v1, common_steps}, FieldNames.location_key, Packets.length-packet, WrittenBytes.v1_is_bytes}
-use Rattle.pass_forms.proofs.WrittenForm.{BytesForm, exact, reads_back}
+use Rattle.pass_forms.proofs.Common.{AllByRecursion, List, Result, Some, [], arith, flat_map, length, map, nat_tests, refl, ℕ, ◌/◌, ◌<◌, ◌↔◌, ◌∷◌, ◌≡◌, ◌≤◌}
+use Rattle.pass_forms.proofs.Common.{FitsCaveat, FitsPacket, FitsPackets, FormFault, Plain, as_wide_pass, buffer_len, form_of, form_of_byte, widened_caveat}
+use Rattle.pass_forms.proofs.Common.{HasBytes, IsReadBack, IsV1Text, IsWritableText, SpellsV1, caveat_packets, hex_digit, packet_len, packets_of}
+use Rattle.pass_forms.proofs.{Common.{IsWriting, common_steps, v1_bytes, writing_v1}, Packets.{location_key}, WrittenBytes.v1_is_bytes}
+use Rattle.pass_forms.proofs.WrittenTexts.{BytesForm, exact, reads_back}
 use Rattle.pass_forms.specs.declared.form.Form.TheVariants.{V1}
-
-fits_packet : (key bytes : List ℕ) → length (packet key bytes) ≤ buffer_len → FitsPacket key bytes
-fits_packet key bytes h = grind (arith, length-packet)
 
 fit_caveats : (caveats : List (List ℕ)) → length (flat_map caveat_packets (map widened_caveat caveats)) ≤ buffer_len →
     AllByRecursion FitsCaveat (map widened_caveat caveats)
 fit_caveats [] h = tt
-fit_caveats (caveat ∷ caveats) h = grind (arith, common_steps, fits_packet, fit_caveats caveats)
+fit_caveats (caveat ∷ caveats) h = grind (arith, common_steps, fit_caveats caveats)
 
 fits_buffer : (pass : Plain) → length (packets_of (as_wide_pass pass)) ≤ buffer_len → length pass.signature ≡ 32 → FitsPackets (as_wide_pass pass)
-fits_buffer pass h len = grind (arith, common_steps, fits_packet, fit_caveats pass.caveats)
+fits_buffer pass h len = grind (arith, common_steps, fit_caveats pass.caveats)
 
 pub spells_v1 : (pass : Plain) → length (v1_bytes pass) ≤ buffer_len → length pass.signature ≡ 32 → SpellsV1 (v1_bytes pass) (as_wide_pass pass)
 unfolding v1_bytes
@@ -38,8 +35,7 @@ v1_form = record {
 }
 
 pub law_v1 : (pass : Plain) (text : List ℕ) → HasBytes pass → IsWritableText IsV1Text pass text → IsReadBack SpellsV1 V1 (v1_bytes pass) pass text
-law_v1 pass text are written =
-    reads_back v1_form pass text (v1_is_bytes pass written.is_text.spelling.fits are) written
+law_v1 pass text are written = reads_back v1_form pass text (v1_is_bytes pass written.is_text.spelling.fits are) written
 
 pub exact_v1 : (pass : Plain) (answer : Result (List ℕ) FormFault) → length pass.signature ≡ 32 → (writing_v1 pass ≡ answer) ↔ IsWriting IsV1Text pass answer
 unfolding writing_v1

@@ -1,7 +1,7 @@
 -- Lemmas for the proof of `write_v2`.
-use Rattle.pass_forms.proofs.Common.{◌≡◌, ◌↔◌, ℕ, List, [], length, Result, Some, refl, FormFault, form_of, Plain, as_wide_pass, SpellsV2, HasBytes, IsReadBack}
-use Rattle.pass_forms.proofs.{Common.{IsV2Text, IsWritableText, IsWriting, nonempty_location, v2_bytes, writing_v2, arith}, WrittenBytes.v2_is_bytes}
-use Rattle.pass_forms.proofs.WrittenForm.{BytesForm, exact, reads_back}
+use Rattle.pass_forms.proofs.Common.{FormFault, HasBytes, IsReadBack, List, Plain, Result, Some, SpellsV2, [], as_wide_pass, form_of, length, refl, ℕ, ◌↔◌, ◌≡◌}
+use Rattle.pass_forms.proofs.{Common.{IsV2Text, IsWritableText, IsWriting, arith, nonempty_location, v2_bytes, writing_v2}, WrittenBytes.v2_is_bytes}
+use Rattle.pass_forms.proofs.WrittenTexts.{BytesForm, exact, reads_back}
 use Rattle.std.specs.Prelude.{unwrap_or}
 use Rattle.pass_forms.specs.declared.form.Form.TheVariants.{V2}
 

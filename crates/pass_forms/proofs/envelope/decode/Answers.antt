@@ -1,15 +1,12 @@
 -- The proof unfolds `decoded_of`, because the code and `decoded_of` contain different proofs that
 -- each engine constant is valid.
-use Rattle.pass_forms.proofs.{Base64Decoding.from_base64_is, Common.{refl, ◌∙◌, arith, decoded_of, by_decoders}}
+use Rattle.pass_forms.proofs.{Base64Decoding.from_base64_is, Common.{arith, decoded_of, by_decoders}}
 use Rattle.pass_forms.proofs.envelope.decode.Goals as goal
 
 pub returns-in-Some-clause-bytes : goal.returns-in-Some-clause-bytes
 unfolding decoded_of by_decoders
-returns-in-Some-clause-bytes c =
-    rw (from_base64_is c.args.text.now (λ i. let byte = c.type_inv.text i in omega arith), ← c.in-Some.ensures.bytes) refl
+returns-in-Some-clause-bytes c = grind (arith, from_base64_is)
 
 pub returns-clause-bytes : goal.returns-clause-bytes
 unfolding decoded_of by_decoders
-returns-clause-bytes c =
-    c.decode_under-2.ensures.bytes
-    ∙ rw (from_base64_is c.args.text.now (λ i. let byte = c.type_inv.text i in omega arith), ← c.in_default.ensures.bytes) refl
+returns-clause-bytes c = grind (arith, from_base64_is)

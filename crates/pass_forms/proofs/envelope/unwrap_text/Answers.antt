@@ -11,6 +11,4 @@ returns-in_default-form_of-clause-reading c = answers_as c.args.text.now (Err Ma
 
 pub returns-clause-reading : goal.returns-clause-reading
 unfolding unwrapping
-returns-clause-reading c =
-    answers_as c.args.text.now (Ok (c.in-Some-form_of.form, take c.in-Some.len c.decode.new.buffer))
-    (search rules)
+returns-clause-reading c = answers_as c.args.text.now (Ok (c.in-Some-form_of.form, take c.in-Some.len c.decode.new.buffer)) (search rules)

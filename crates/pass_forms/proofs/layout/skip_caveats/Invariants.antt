@@ -4,7 +4,5 @@ use Rattle.pass_forms.proofs.{CaveatRuns.Keeps, Common.{length, ◌≤◌, ◌-�
 use Rattle.pass_forms.proofs.layout.skip_caveats.Given as goal
 
 abbrev pub invariant-loop : goal.invariant-loop
-invariant-loop g l =
-    Keeps l.skipped.count l.skipped.third_party (caveats_at g.L.Layout.caveat_at (length l.bytes - l.counter) l.skipped.rest.now)
-    (caveats_at g.L.Layout.caveat_at (length l.bytes) l.bytes)
-    × (l.skipped.count ≤ l.counter)
+invariant-loop g l = Keeps l.skipped.count l.skipped.third_party (caveats_at g.L.Layout.caveat_at (length l.bytes - l.counter) l.skipped.rest.now)
+    (caveats_at g.L.Layout.caveat_at (length l.bytes) l.bytes) × (l.skipped.count ≤ l.counter)

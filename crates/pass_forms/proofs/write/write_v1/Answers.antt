@@ -1,4 +1,4 @@
-use Rattle.pass_forms.proofs.{Common.writing_v1, WrittenForm.keeps_promises, WrittenV1.v1_form}
+use Rattle.pass_forms.proofs.{Common.writing_v1, WrittenTexts.keeps_promises, WrittenV1.v1_form}
 use Rattle.std.specs.String.{string_bytes}
 use Rattle.pass_forms.proofs.write.write_v1.Goals as goal
 

@@ -1,4 +1,4 @@
-use Rattle.pass_forms.proofs.{Common.writing_v2, WrittenForm.keeps_promises, WrittenV2.v2_form}
+use Rattle.pass_forms.proofs.{Common.writing_v2, WrittenTexts.keeps_promises, WrittenV2.v2_form}
 use Rattle.std.specs.String.{string_bytes}
 use Rattle.pass_forms.proofs.write.write_v2.Goals as goal
 
