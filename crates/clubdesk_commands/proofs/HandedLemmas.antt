@@ -1,7 +1,7 @@
 -- Lemmas about arrays of texts in JSON.
-use Rattle.std.proofs.Common.{arith, ◌≡◌, ◌∷◌, ℕ, suc, zero, ◌<◌, List, [], get_or, length, map, Some, None, refl}
+use Rattle.std.proofs.Common.{arith, ◌≡◌, ◌∷◌, ℕ, suc, zero, ◌<◌, List, [], get_or, length, map, None, refl}
 use Rattle.clap.specs.Words.{Text}
-use Rattle.serde_json.specs.{Data.{Data, Items, array, items_depth, string}, Find.{as_array, as_str}, View.{items_of, view}}
+use Rattle.serde_json.specs.{Data.{Data, items_depth, string}, Find.{as_str}, View.{items_of, view}}
 use Rattle.serde_json.specs.declared.value.Value.{Value}
 
 pub no_depth : (texts : List Text) → items_depth (items_of (map string texts)) ≡ 0
@@ -9,13 +9,9 @@ no_depth [] = refl
 no_depth (text ∷ texts) = rw (no_depth texts) refl
 
 pub same_items : (xs ys : List Data) → items_of xs ≡ items_of ys → xs ≡ ys
-same_items [] [] e = refl
-same_items [] (y ∷ ys) e = cc
-same_items (x ∷ xs) [] e = cc
 same_items (x ∷ xs) (y ∷ ys) e = let rest : xs ≡ ys = same_items xs ys (cc) in cc
-
-pub is_array : (value : Data) (items : Items) → as_array value ≡ Some items → value ≡ array items
-is_array value items e = grind arith
+same_items [] [] e = refl
+same_items _ _ e = cc
 
 -- If one of the values isn't a text, the values aren't all texts.
 pub not_texts : (values : List Value) (i : ℕ) (value : Value) → i < length values → value ≡ get_or values i value → as_str (view value) ≡ None

@@ -4,4 +4,3 @@ pub mod AlikeLemmas
 pub mod MachineLemmas
 pub mod ClockLemmas
 pub mod NamedLemmas
-pub mod SocketLemmas

@@ -1,3 +1,4 @@
+use Rattle.std.proofs.Common.{rules}
 use Rattle.std.specs.String.{string_bytes}
 use Rattle.clubdesk_commands.specs.Does as spec
 use Rattle.clubdesk_commands.proofs.office.carry_out.Goals as goal
@@ -6,13 +7,7 @@ pub returns-in-Ok-clause-does : goal.returns-in-Ok-clause-does
 returns-in-Ok-clause-does g c = rw c.in-Give.is (spec.command_given (string_bytes c.in-Ok.line) c.in-Ok.ensures.ok c.give.ensures.given)
 
 pub returns-in-Sheet-clause-does : goal.returns-in-Sheet-clause-does
-returns-in-Sheet-clause-does g c = rw c.in-Sheet.is (record {
-  was_clean = c.sheet.ensures.was_clean;
-  kept = c.sheet.ensures.kept;
-  returned = c.sheet.result;
-  shows = c.sheet.ensures.returned;
-  is = c.answer_of_desk.ensures.is;
-})
+returns-in-Sheet-clause-does g c = rw c.in-Sheet.is (search rules)
 
 pub returns-in-Some-clause-does : goal.returns-in-Some-clause-does
 returns-in-Some-clause-does g c =

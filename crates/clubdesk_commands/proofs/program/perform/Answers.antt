@@ -18,4 +18,4 @@ pub returns-in-Err-clause-performs : goal.returns-in-Err-clause-performs
 returns-in-Err-clause-performs g c = spec.not_reached c.in-Err.fault c.in-Err.ensures (ap Err c.from.ensures) refl
 
 pub returns-in-Err-clause-ends : goal.returns-in-Err-clause-ends
-returns-in-Err-clause-ends g c = not_opened _ c.in-Err.fault _ (ap Err c.from.ensures) refl
+returns-in-Err-clause-ends g c = not_opened c.in-Err.fault (ap Err c.from.ensures) refl

@@ -15,22 +15,22 @@ pub returns : goal.returns
 returns g c = elim c.match-work.branch [
   | in-Office w ↦
       rw w.reader-is (spec.task_asked _ w.in-Office.task
-      (asks_for _ _ _ _ _ _ refl c.in-Ok-Perform.ensures c.in-Ok-Perform.field-0-is c.job.view_is w.in-Office.is)
+      (asks_for _ refl c.in-Ok-Perform.ensures c.in-Ok-Perform.field-0-is c.job.view_is w.in-Office.is)
       (rw w.task-is at c.perform.ensures.performs) c.perform.ensures.ends refl refl)
   | in-Rootless+in-Ok w ↦
       rw w.reader-is (spec.key_asked _ w.in-Rootless.command w.in-Ok.root
-      (asks_for _ _ _ _ _ _ refl c.in-Ok-Perform.ensures c.in-Ok-Perform.field-0-is c.job.view_is w.in-Rootless.is)
+      (asks_for _ refl c.in-Ok-Perform.ensures c.in-Ok-Perform.field-0-is c.job.view_is w.in-Rootless.is)
       w.in-Ok.ensures (rw w.task-is at c.perform.ensures.performs) c.perform.ensures.ends refl)
 ]
 
 pub returns-in-Err-read_root : goal.returns-in-Err-read_root
 returns-in-Err-read_root g c =
     spec.root_refused _ c.in-Rootless.command c.in-Err-read_root.fault
-    (asks_for _ _ _ _ _ _ refl c.in-Ok-Perform.ensures c.in-Ok-Perform.field-0-is c.job.view_is c.in-Rootless.is)
+    (asks_for _ refl c.in-Ok-Perform.ensures c.in-Ok-Perform.field-0-is c.job.view_is c.in-Rootless.is)
     c.in-Err-read_root.ensures refl refl refl refl
 
 pub returns-in-Serve : goal.returns-in-Serve
 returns-in-Serve g c =
     spec.server_asked _ c.in-Serve.service
-    (asks_for _ _ _ _ _ _ refl c.in-Ok-Perform.ensures c.in-Ok-Perform.field-0-is c.job.view_is c.in-Serve.is)
-    c.serve_file.ensures.done (serves_well _ _ _ _ _ _ _ _ _ _ _ _ c.serve_file.ensures.done) refl c.serve_file.ensures.unlogged
+    (asks_for _ refl c.in-Ok-Perform.ensures c.in-Ok-Perform.field-0-is c.job.view_is c.in-Serve.is)
+    c.serve_file.ensures.done (serves_well c.serve_file.ensures.done) refl c.serve_file.ensures.unlogged
