@@ -1,6 +1,6 @@
 -- Lemmas about the commands that a server carries out while it waits for a client's request.
-use Rattle.std.proofs.Common.{◌∙◌, ℕ, inl, inr, List, [], ◌∷◌, ◌++◌, append_assoc, append-nil, refl}
-use Rattle.std.specs.Prelude.{Option, None, Some}
+use Rattle.std.proofs.Common.{◌∙◌, ℕ, inl, inr, List, [], ◌∷◌, ◌++◌, append_assoc, append-nil, rules}
+use Rattle.std.specs.Prelude.{Option, Some}
 use Rattle.club_clock.specs.Moments.{GivesMoment}
 use Rattle.club_http.specs.Calls.{Call, Gives, ReadsNoFurther}
 use Rattle.club_http.specs.Calls as calls
@@ -8,21 +8,18 @@ use Rattle.desk_server.specs.{Between.CommandsAlone, Served.{AreCommanded, AreNo
 use Rattle.desk_server.specs.declared.{between.Between.Between, log.LogEvent.{LogEvent, TheVariants.Commanded}}
 use Rattle.desk_server.specs.Served as spec
 
-commanded_append : {Clock Desk : Type 0} {Given : GivesMoment Clock} {Carries : CommandRelation Desk} {c c1 : Clock} {d d1 : Desk} {first : List LogEvent}
-    → AreCommanded Given Carries c d first c1 d1 → (second : List LogEvent) (c' : Clock) (d' : Desk) → AreCommanded Given Carries c1 d1 second c' d'
+commanded_append : {Clock Desk : Type 0} {Given : GivesMoment Clock} {Carries : CommandRelation Desk} {c c1 : Clock} {d d1 : Desk}
+    {first second : List LogEvent} {c' : Clock} {d' : Desk} → AreCommanded Given Carries c d first c1 d1 → AreCommanded Given Carries c1 d1 second c' d'
     → AreCommanded Given Carries c d (first ++ second) c' d'
-commanded_append {first = first} before _ _ _ spec.no_command = rw (append-nil first) before
-commanded_append {first = first} before _ _ _ (spec.one_command second moment carried c2 d2 c' d' so_far gives is) =
-    rw (← append_assoc first second (Commanded moment carried ∷ []))
-    (spec.one_command (first ++ second) moment carried c2 d2 c' d' (commanded_append before second c2 d2 so_far) gives is)
+commanded_append before spec.no_command = rw append-nil before
+commanded_append before (spec.one_command second moment carried c2 d2 c' d' so_far gives is) =
+    rw (← append_assoc) (spec.one_command _ moment carried c2 d2 c' d' (commanded_append before so_far) gives is)
 
-noted_append : {Log : Type 0} {Begins : Log → Log → Type 0} {Noted : Notes Log} {l l1 : Log} {first : List LogEvent}
-    → AreNotedMeanwhile Begins Noted l first l1 → (second : List LogEvent) (l' : Log) → AreNotedMeanwhile Begins Noted l1 second l'
-    → AreNotedMeanwhile Begins Noted l (first ++ second) l'
-noted_append {first = first} before _ _ spec.no_note = rw (append-nil first) before
-noted_append {first = first} before _ _ (spec.one_note second event l2 begun l' so_far begins noted) =
-    rw (← append_assoc first second (event ∷ []))
-    (spec.one_note (first ++ second) event l2 begun l' (noted_append before second l2 so_far) begins noted)
+noted_append : {Log : Type 0} {Begins : Log → Log → Type 0} {Noted : Notes Log} {l l1 l' : Log} {first second : List LogEvent}
+    → AreNotedMeanwhile Begins Noted l first l1 → AreNotedMeanwhile Begins Noted l1 second l' → AreNotedMeanwhile Begins Noted l (first ++ second) l'
+noted_append before spec.no_note = rw append-nil before
+noted_append before (spec.one_note second event l2 begun l' so_far begins noted) =
+    rw (← append_assoc) (spec.one_note _ event l2 begun l' (noted_append before so_far) begins noted)
 
 module _ {Clock Desk Log : Type 0} (Given : GivesMoment Clock) (Carries : CommandRelation Desk) (Begins : Log → Log → Type 0) (Noted : Notes Log) where
   pub no_commands : (c : Clock) (d : Desk) (l : Log) → Meanwhile Given Carries Begins Noted c d l c d l
@@ -44,13 +41,7 @@ module _ {Clock Desk Log : Type 0} (Given : GivesMoment Clock) (Carries : Comman
     Alone old new = CommandsAlone Given Carries Begins Noted old new
 
     pub alone_none : (between : Lent) → Alone between between
-    alone_none between = record {
-      same_reader = refl;
-      same_moments = refl;
-      same_desk = refl;
-      same_log = refl;
-      commands = no_commands between.moments.now between.desk.now between.log.now;
-    }
+    alone_none between = search (rules, no_commands)
 
     pub alone_more : (old mid new : Lent) → Alone old mid → Alone mid new → Alone old new
     alone_more old mid new first second = record {
@@ -60,8 +51,8 @@ module _ {Clock Desk Log : Type 0} (Given : GivesMoment Clock) (Carries : Comman
       same_log = second.same_log ∙ first.same_log;
       commands = record {
         events = first.commands.events ++ second.commands.events;
-        commanded = commanded_append first.commands.commanded second.commands.events new.moments.now new.desk.now second.commands.commanded;
-        noted = noted_append first.commands.noted second.commands.events new.log.now second.commands.noted;
+        commanded = commanded_append first.commands.commanded second.commands.commanded;
+        noted = noted_append first.commands.noted second.commands.noted;
       };
     }
 
@@ -83,10 +74,7 @@ module _ {A B : Type 0} (to : A → B) (From : Call A) (To : Call B)
             room = ended.room;
             gave = gives_as old bytes ended.mid ended.gave;
             not_whole = ended.not_whole;
-            none = elim ended.none [
-              | inl call ↦ inl (one ended.mid (Some 0) ended.room new call)
-              | inr call ↦ inr (one ended.mid None ended.room new call)
-            ];
+            none = elim ended.none [ inl call ↦ inl (one _ _ _ _ call) | inr call ↦ inr (one _ _ _ _ call) ];
           })
     ];
   }
@@ -103,9 +91,6 @@ module _ {A : Type 0} (Fills : Call A) (Kept : A → A → Type 0) (none : (old 
   reads_kept old bytes new reads = elim reads.calls [
     | inl gives ↦ gives_kept old bytes new gives
     | inr ended ↦
-        let before = gives_kept old bytes ended.mid ended.gave in
-        elim ended.none [
-          | inl call ↦ both old ended.mid new before (one ended.mid (Some 0) ended.room new call)
-          | inr call ↦ both old ended.mid new before (one ended.mid None ended.room new call)
-        ]
+        both old ended.mid new (gives_kept old bytes ended.mid ended.gave)
+        (elim ended.none [ inl call ↦ one _ _ _ _ call | inr call ↦ one _ _ _ _ call ])
   ]

@@ -1,6 +1,6 @@
 -- This file defines time limits, and calls of a stream under a time limit.
 use Rattle.std.specs.Io.KnownBytes.{Consumes}
-use Rattle.std.specs.Prelude.{◌≡◌, ◌⊎◌, ℕ, ◌+◌, ◌-◌, ◌*◌, ◌^◌, ◌<◌, ◌≤◌, nat_lt, if◌then◌else◌, List, length, Option, Some, None, IfSome, IsSomeAnd, option_map}
+use Rattle.std.specs.Prelude.{◌≡◌, ◌⊎◌, ℕ, ◌+◌, ◌-◌, ◌*◌, ◌^◌, ◌≤◌, nat_lt, if◌then◌else◌, List, length, Option, Some, None, IfSome, IsSomeAnd, option_map}
 use Rattle.std.specs.{Time.instant_nanos, declared.time.Instant.Instant}
 use Rattle.desk_server.specs.declared.{limit.Limit.Limit, timed.Waited.{Waited, TheVariants.{Moved, Interrupted, Failed}}}
 

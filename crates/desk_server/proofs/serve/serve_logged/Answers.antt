@@ -1,4 +1,4 @@
-use Rattle.std.proofs.Common.{◌≤◌, ◌^◌, ◌∷◌, ◌++◌, suc, [], length, length-append, arith, refl}
+use Rattle.std.proofs.Common.{◌≤◌, ◌^◌, ◌∷◌, ◌++◌, suc, [], length, length-append, arith, refl, rules}
 use Rattle.desk_server.specs.Served as spec
 use Rattle.desk_server.specs.{Served.alone, declared.log.LogEvent.TheVariants.{Absent, Overrun, Unanswered, Exchanged, Commanded}}
 use Rattle.desk_server.proofs.ServedLemmas.{noted_alone, one_call, one_more}
@@ -53,13 +53,7 @@ loop-served-preserved-in-Client g c =
           ended = (_, _, rw (← c.request.ensures) at exchange.talked);
         },
       )
-          (record {
-            begun = c.begin.new.self;
-            awaited = c.exchange-outcome.new.log;
-            begins = c.begin.ensures;
-            meanwhile = exchange.meanwhile.noted;
-            notes = c.note-in-Client.ensures;
-          })
+          (let noted = exchange.meanwhile.noted in search rules)
           (one_call so_far _ next.waited);
     }
 
