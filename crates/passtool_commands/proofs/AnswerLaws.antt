@@ -1,9 +1,9 @@
 -- Proofs of the laws about the answers of commands.
-use Rattle.std.proofs.Common.{◌≡◌, ◌∙◌, ℕ, ◌+◌, nat_lt, List, length, Result, Ok, Err, MatchResult, refl, sym, ap, subst, codes, inl, inr}
-use Rattle.std.proofs.lemmas.{Bool.cases_Bool, List.Sums.fold-append}
+use Rattle.std.proofs.Common.{◌≡◌, ◌∙◌, ℕ, List, Result, Ok, Err, MatchResult, refl, sym, ap, subst, arith, codes}
+use Rattle.std.proofs.lemmas.{Bool.Decides.nat_tests, List.Sums.fold-append}
 use Rattle.std.specs.Io.BufRead.{strip_last}
 use Rattle.pass_mac.specs.{Chain.{derived_key, extended_signature}, Hmac.hmac}
-use Rattle.pass_forms.specs.{Pass.{IsSigned, Plain}, Reading.max_caveats, declared.{fault.FormFault.FormFault, form.Form.Form}}
+use Rattle.pass_forms.specs.{Pass.{Plain}, declared.{fault.FormFault.FormFault, form.Form.Form}}
 use Rattle.pass_json.specs.Laws.{OneReadingEachText, OneWritingEachForm}
 use Rattle.passtool_commands.specs.Answer.{IsVerdict, OutcomeText, ReadsPass, WritesPass, narrowing, new_pass, with_caveats}
 use Rattle.passtool_commands.specs.{Laws.{AnswersOnce, MintSigns, NarrowingKeepsSigned, VerifyDecidesSigned}, Listing.{listing_text, with_line_feed}}
@@ -12,15 +12,11 @@ use Rattle.passtool_commands.proofs.StepLemmas.{HasOne, one_only, one_then}
 
 narrowed_to : (caveats : List (List ℕ)) (pass narrowed_pass : Plain) → narrowing caveats pass ≡ Ok narrowed_pass → with_caveats caveats pass ≡ narrowed_pass
 unfolding narrowing
-narrowed_to caveats pass narrowed_pass h = elim (cases_Bool (nat_lt max_caveats (length pass.caveats + length caveats))) [
-  | inl many ↦ let e = rw many at h in cc
-  | inr few ↦ let e = rw few at h in cc
-]
+narrowed_to caveats pass narrowed_pass h = grind (arith, nat_tests, h)
 
 pub narrowing_keeps_signed : NarrowingKeepsSigned
 narrowing_keeps_signed root caveats pass narrowed_pass signed made =
-    let Signed : Plain → Type 0 = λ p. IsSigned root p in
-    subst Signed (narrowed_to caveats pass narrowed_pass made)
+    rw (← narrowed_to caveats pass narrowed_pass made)
     (ap (λ (s : List ℕ). extended_signature s caveats) signed ∙ sym (fold-append hmac (hmac (derived_key root) pass.identifier) pass.caveats caveats))
 
 pub mint_signs : MintSigns

@@ -1,13 +1,12 @@
 -- Lemmas for the output of `show`.
-use Rattle.std.proofs.Common.{◌≡◌, ◌∙◌, ℕ, ◌+◌, ◌<◌, ◌≤◌, List, ◌∷◌, ◌++◌, length, map, drop, ap, ap₂, sym, append_assoc, Global}
+use Rattle.std.proofs.Common.{◌≡◌, ◌∙◌, ℕ, ◌+◌, ◌<◌, ◌≤◌, List, ◌++◌, length, map, drop, sym, append_assoc, Global}
 use Rattle.std.proofs.{Math.ListN.drop_of_length-le, lemmas.List.{append-nil, drop_more}}
 use Rattle.std.specs.{Fmt.decimal, List.slice_index_or, Prelude.{Vec, codes}}
 use Rattle.passtool_commands.specs.Listing.{caveat_lines, escaped_text, escaped_byte, value_line}
 
 pub byte_written : (bytes : List ℕ) (i d : ℕ) (old new whole : List ℕ) → i < length bytes → new ≡ old ++ escaped_byte (slice_index_or bytes i d)
     → old ++ escaped_text (drop i bytes) ≡ whole → new ++ escaped_text (drop (i + 1) bytes) ≡ whole
-byte_written bytes i d old new whole within is before =
-    rw is (append_assoc old (escaped_byte (slice_index_or bytes i d)) (escaped_text (drop (i + 1) bytes)) ∙ rw (drop_more bytes i d within) at before)
+byte_written bytes i d old new whole within is before = rw (is, append_assoc) (rw (drop_more bytes i d within) at before)
 
 pub none_left : (bytes : List ℕ) (i : ℕ) (old whole : List ℕ) → length bytes ≤ i → old ++ escaped_text (drop i bytes) ≡ whole → old ≡ whole
 none_left bytes i old whole most same = sym (append-nil old) ∙ rw (drop_of_length-le bytes most) at same
@@ -20,11 +19,7 @@ pub caveat_written : (caveats : List (Vec ℕ Global)) (i : ℕ) (item : Vec ℕ
     → old ++ caveat_lines (i + 1) (items (drop i caveats)) ≡ whole → new ++ caveat_lines (i + 1 + 1) (items (drop (i + 1) caveats)) ≡ whole
 unfolding caveat_lines
 caveat_written caveats i item value name old new whole within is value_is name_is added before =
-    let line = value_line (codes "caveat " ++ decimal (i + 1)) item.items in
-    let rest = caveat_lines (i + 1 + 1) (items (drop (i + 1) caveats)) in
-    let left : drop i caveats ≡ item ∷ drop (i + 1) caveats = drop_more caveats i item within ∙ ap (λ x. x ∷ drop (i + 1) caveats) (sym is) in
-    let new_is : new ≡ old ++ line = added ∙ ap₂ (λ (n v : List ℕ). old ++ value_line n v) name_is value_is in
-    rw new_is (append_assoc old line rest ∙ ap (λ (xs : List (Vec ℕ Global)). old ++ caveat_lines (i + 1) (items xs)) (sym left) ∙ before)
+    rw (added, name_is, value_is, append_assoc) (rw (drop_more caveats i item within, ← is) at before)
 
 pub no_caveat_left : (caveats : List (Vec ℕ Global)) (i : ℕ) (old whole : List ℕ) → length caveats ≤ i
     → old ++ caveat_lines (i + 1) (items (drop i caveats)) ≡ whole → old ≡ whole

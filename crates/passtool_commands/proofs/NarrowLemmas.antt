@@ -6,10 +6,6 @@ use Rattle.pass_forms.specs.{Pass.Plain, Reading.{UnlessMemory, max_caveats}, Wr
 use Rattle.pass_forms.specs.declared.fault.FormFault.TheVariants.{TooMany, Memory}
 use Rattle.passtool_commands.specs.Answer.{narrowing, with_caveats}
 
-first_added : (caveat : List ℕ) (caveats : List (List ℕ)) (pass : Plain) → with_caveats caveats (with_caveat caveat pass) ≡ with_caveats (caveat ∷ caveats) pass
-first_added caveat caveats pass = ap (λ (all : List (List ℕ)). record (with_caveats (caveat ∷ caveats) pass) { caveats = all })
-    (append_assoc pass.caveats (caveat ∷ []) caveats)
-
 abbrev pub texts : List (Bor (List ℕ)) → List (List ℕ)
 texts = map (λ text. text.now)
 
@@ -17,11 +13,7 @@ pub one_added : (xs : List (Bor (List ℕ))) (i : ℕ) (d : Bor (List ℕ)) (cav
     → caveat ≡ (slice_index_or xs i d).now → now ≡ with_caveat caveat pass
     → with_caveats (texts (drop (i + 1) xs)) now ≡ with_caveats (texts (drop i xs)) pass
 one_added xs i d caveat pass now within is added =
-    rw (added, is) (first_added (slice_index_or xs i d).now (texts (drop (i + 1) xs)) pass
-    ∙ ap (λ (left : List (Bor (List ℕ))). with_caveats (texts left) pass) (sym (drop_more xs i d within)))
-
-none_added : (pass : Plain) → with_caveats [] pass ≡ pass
-none_added pass = ap (λ (all : List (List ℕ)). record pass { caveats = all }) (append-nil pass.caveats)
+    rw (added, is, drop_more xs i d within, append_assoc) refl
 
 module _ (xs : List (Bor (List ℕ))) (i : ℕ) (pass now : Plain) (counted : length now.caveats ≡ length pass.caveats + i) where
   pub all_added : (few : length now.caveats ≤ max_caveats) → length xs ≤ i → i ≤ length xs
@@ -29,18 +21,16 @@ module _ (xs : List (Bor (List ℕ))) (i : ℕ) (pass now : Plain) (counted : le
   unfolding narrowing
   all_added few most least same =
       let total : length pass.caveats + length (texts xs) ≤ max_caveats = omega (arith, length-map xs (λ text. text.now)) in
-      let made : with_caveats (texts xs) pass ≡ now = sym same ∙ rw (drop_of_length-le xs most) (none_added now) in
+      let made : with_caveats (texts xs) pass ≡ now = sym same ∙ rw (drop_of_length-le xs most, append-nil) refl in
       rw (le-ltb max_caveats (length pass.caveats + length (texts xs)) total) (ap Ok made)
-
-  too_many : max_caveats ≤ length now.caveats → i < length xs → narrowing (texts xs) pass ≡ Err TooMany
-  unfolding narrowing
-  too_many full within =
-      let total : max_caveats < length pass.caveats + length (texts xs) = omega (arith, length-map xs (λ text. text.now)) in
-      rw (lt-ltb max_caveats (length pass.caveats + length (texts xs)) total) refl
 
   pub one_refused : (fault : FormFault) → IsNarrowingFault fault → (fault ≡ TooMany → max_caveats ≤ length now.caveats) → i < length xs
       → UnlessMemory (λ answer. narrowing (texts xs) pass ≡ answer) (Err fault)
-  one_refused TooMany h full within = too_many (full refl) within
+  unfolding narrowing
+  one_refused TooMany h full within =
+      let many : max_caveats ≤ length now.caveats = full refl in
+      let total : max_caveats < length pass.caveats + length (texts xs) = omega (arith, length-map xs (λ text. text.now)) in
+      rw (lt-ltb max_caveats (length pass.caveats + length (texts xs)) total) refl
   one_refused Memory h full within = tt
   one_refused _ h full within = absurd h
 

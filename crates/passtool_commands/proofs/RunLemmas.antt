@@ -1,5 +1,5 @@
 -- Lemmas for the proof of `run`.
-use Rattle.std.proofs.Common.{◌≡◌, ℕ, List, Option, Result, Ok, Err, inl, inr, refl, ap₂, subst, sym}
+use Rattle.std.proofs.Common.{◌≡◌, ℕ, List, Option, Result, Ok, Err, inl, inr, refl}
 use Rattle.std.specs.Io.KnownBytes.{Appends}
 use Rattle.clap.specs.Words.{Text}
 use Rattle.command_line.specs.{Output.AppendsFront, declared.errors.ArgumentsFault.{ArgumentsFault, TheVariants.{BadValue, Memory as OutOfMemory}}}
@@ -15,13 +15,7 @@ module _ (command : Command) (left left' held held' : Option (List ℕ)) (bytes 
     written : (outcome : Outcome) (text front : List ℕ) → outcome ≡ ending.0 → text ≡ ending.1 → Appends held held' front
         → Writes command left left' held held' (outcome, text) front
     written outcome text front outcome_is text_is appends =
-        let pair : ending ≡ (outcome, text) = ap₂ (λ (o : Outcome) (t : List ℕ). let p : OutcomeText = (o, t) in p) (sym outcome_is) (sym text_is) in
-        record {
-          bytes = bytes;
-          reads = reads;
-          answers = subst (λ (e : OutcomeText). IsAnswer command bytes (Ok e)) pair is;
-          appends = appends;
-        }
+        rw (outcome_is, text_is) (record { bytes = bytes; reads = reads; answers = is; appends = appends })
 
     pub performed : (outcome : Outcome) (text : List ℕ) → outcome ≡ ending.0 → text ≡ ending.1 → Appends held held' text
         → Performs command left left' held held' (Ok outcome)
@@ -48,7 +42,7 @@ module _ (once : AskForOneCommand) (arguments : List Text) (command : Command) (
   pub performs_alone : (left left' held held' : Option (List ℕ)) (result : Result Outcome Fault) (other : Command) → AskForCommand arguments other
       → Performs command left left' held held' result → Performs other left left' held held' result
   performs_alone left left' held held' result other asked is = elim (once arguments other (Ok (Perform command)) asked ask) [
-    | inl same ↦ let one : command ≡ other = cc in subst (λ (c : Command). Performs c left left' held held' result) one is
+    | inl same ↦ let one : other ≡ command = cc in rw one is
     | inr none ↦ cc
   ]
 
@@ -56,13 +50,12 @@ pub refused_arguments : (arguments : List Text) (fault : ArgumentsFault OurBadVa
     → AnswersArguments arguments (Err (of_arguments fault))
 refused_arguments arguments OutOfMemory is = tt
 refused_arguments arguments (BadValue Root) is = is
-refused_arguments arguments _ is = is
+refused_arguments arguments fault is = is
 
 module _ (once : AskForOneCommand) (arguments : List Text) (fault : ArgumentsFault OurBadValue) (read : ReadsArguments arguments (Err fault)) where
   pub refused_alone : (left left' held held' : Option (List ℕ)) (command : Command) → AskForCommand arguments command
       → Performs command left left' held held' (Err (of_arguments fault))
   refused_alone left left' held held' command ask = elim (once arguments command (Err fault) ask read) [
     | inl same ↦ cc
-    | inr none ↦ let out : OutOfMemory ≡ fault = cc in
-        subst (λ (f : ArgumentsFault OurBadValue). Performs command left left' held held' (Err (of_arguments f))) out tt
+    | inr none ↦ let out : fault ≡ OutOfMemory = cc in rw out tt
   ]
