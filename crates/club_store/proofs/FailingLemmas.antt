@@ -7,29 +7,25 @@ use Rattle.club_tables.specs.ReadsAndChanges.{ChangesClub, ReadsClub, sound_in, 
 use Rattle.club_store.specs.Failing.{Fails}
 use Rattle.club_store.proofs.ReadingLemmas.{change_fault, later_fault}
 
-module _ {S A : Type 0} (g : Ghosts S) (old new : Held S) (first : Result A StoreFault) (IsReturned : Club → A
-    → Type 0) (reads : ReadsClub g old new first IsReturned)
-    (clean : HasCleanDisk (state g new)) where
-  fails_since : (wish : Option Change) (fault : StoreFault) (later : Held S) → Fails g wish new fault later → Fails g wish old fault later
-  fails_since None fault later it = later_fault g old new later first IsReturned fault clean reads it
-  fails_since (Some change) fault later it = change_fault g old new later first IsReturned change fault clean reads it
+fails_since : {S A : Type 0} {g : Ghosts S} {old new : Held S} {first : Result A StoreFault} {IsReturned : Club → A → Type 0}
+    → ReadsClub g old new first IsReturned → HasCleanDisk (state g new) → (wish : Option Change) (fault : StoreFault) (later : Held S)
+    → Fails g wish new fault later → Fails g wish old fault later
+fails_since reads clean None fault later it = later_fault clean reads it
+fails_since reads clean (Some change) fault later it = change_fault clean reads it
 
 pub reads_sound : {S A : Type 0} {g : Ghosts S} {old new : Held S} {result : Result A StoreFault} {IsReturned : Club → A → Type 0}
     → ReadsClub g old new result IsReturned → ReadsStore (λ (held : Held S). HasCleanDisk (state g held)) (sound_in g) (Fails g) old new result IsReturned
-reads_sound {g = g} {old = old} {new = new} {result = result} {IsReturned = IsReturned} reads = record {
+reads_sound {result = result} reads = record {
   was_clean = omega (arith, reads.survives.clean);
   kept = λ clean club others represents. (represents.0, reads.kept clean club others represents.1);
   returned = λ clean club others represents. reads.returns clean club others represents.1;
-  failed = λ clean. MatchResult-weaker result (reads.fault clean) (λ _ _. fails_since g old new result IsReturned reads clean) (λ fault is. is);
+  failed = λ clean. MatchResult-weaker result (reads.fault clean) (λ _ _. fails_since reads clean) (λ fault is. is);
 }
 
 pub change_failed : {S : Type 0} (g : Ghosts S) (change : Change) (old new : Held S) (result : Result (Unit {0}) StoreFault)
     → ChangesClub g change old new result → HasCleanDisk (state g new) → IfErr result (λ fault. Fails g (Some change) old fault new)
 change_failed g change old new (Ok done) made clean = tt
-change_failed g change old new (Err fault) made clean = record {
-  cause = made.fault clean;
-  error_if_fits = λ club others represents fits. made.fault_if_fits clean club others represents fits;
-}
+change_failed g change old new (Err fault) made clean = record { cause = made.fault clean; error_if_fits = made.fault_if_fits clean }
 
 -- If the current club and all clubs that a crash may leave are sound before a change, the same
 -- holds after the change.

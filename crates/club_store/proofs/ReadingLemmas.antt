@@ -1,5 +1,5 @@
 -- Lemmas about calls to the store that read several times, or that read and then apply a change.
-use Rattle.std.proofs.Common.{◌≡◌, Result, Ok, Err, IfOk, IsErrAnd, refl, inl, inr, sym, ◌∙◌, arith}
+use Rattle.std.proofs.Common.{◌≡◌, Result, Ok, Err, IfOk, IsErrAnd, inl, inr, sym, ◌∙◌, arith, rules}
 use Rattle.std.proofs.lemmas.Result.{IfOk-weaker, IfErr-weaker, err_from_is_err_and}
 use Rattle.sqlite.specs.{Held.{Held, state}, State.{State, HasCleanDisk}, Store.Ghosts}
 use Rattle.sqlite.proofs.StateLemmas.{survives_then}
@@ -14,18 +14,17 @@ untouched_then a b c earlier first next rest clean is_open =
     let before = kept after.0 in
     (before.0, after.1 ∙ before.2, after.2 ∙ before.2)
 
-after_reading : {S A : Type 0} (g : Ghosts S) (a b c : Held S) (first : Result A StoreFault) (IsFirst : Club → A → Type 0) → HasCleanDisk (state g b)
+after_reading : {S A : Type 0} {g : Ghosts S} {a b c : Held S} {first : Result A StoreFault} {IsFirst : Club → A → Type 0} → HasCleanDisk (state g b)
     → ReadsClub g a b first IsFirst → IsAfterReadings g b c → IsAfterReadings g a c
-after_reading g a b c first IsFirst clean reads after = record {
+after_reading {g = g} {a = a} {b = b} {c = c} clean reads after = record {
   same = untouched_then (state g a) (state g b) (state g c) (λ _. clean) reads.no_change after.same;
   clean = after.clean;
   fault_count = omega (arith, reads.survives.counts, after.fault_count);
 }
 
-pub later_fault : {S A : Type 0} (g : Ghosts S) (a b c : Held S) (first : Result A StoreFault) (IsFirst : Club → A → Type 0) (fault : StoreFault)
+pub later_fault : {S A : Type 0} {g : Ghosts S} {a b c : Held S} {first : Result A StoreFault} {IsFirst : Club → A → Type 0} {fault : StoreFault}
     → HasCleanDisk (state g b) → ReadsClub g a b first IsFirst → IsReadFault g b c fault → IsReadFault g a c fault
-later_fault g a b c first IsFirst fault clean reads it =
-    record { from = it.from; after = after_reading g a b it.from first IsFirst clean reads it.after; reading = it.reading; failure = it.failure }
+later_fault clean reads it = record { from = it.from; after = after_reading clean reads it.after; reading = it.reading; failure = it.failure }
 
 pub both_read : {S A B : Type 0} {g : Ghosts S} {a b c : Held S} {one : Result A StoreFault} {two : Result B StoreFault} {IsOne : Club → A → Type 0}
     {IsTwo : Club → B → Type 0} → ReadsClub g a b one IsOne → ReadsClub g b c two IsTwo
@@ -38,47 +37,27 @@ both_read {g = g} {a = a} {b = b} {c = c} {one = one} {two = two} {IsOne = IsOne
       kept = λ clean club others represents. next.kept clean club others (first.kept (earlier clean) club others represents);
       no_change = untouched_then (state g a) (state g b) (state g c) earlier first.no_change next.no_change;
       survives = survives_then _ _ _ _ _ _ (λ _ db none. none) (λ _ db none. none) first.survives next.survives;
-      fault = λ clean. IfErr-weaker two _ _ (λ fault it. later_fault g a b c one IsOne fault (earlier clean) first it) (next.fault clean);
+      fault = λ clean. IfErr-weaker two _ _ (λ fault it. later_fault (earlier clean) first it) (next.fault clean);
     }
 
 pub read_as : {S A B : Type 0} {g : Ghosts S} {a b : Held S} {x : A} {y : B} {Is : Club → A → Type 0} {IsReturned : Club → B → Type 0}
     → ReadsClub g a b (Ok x) Is → ((club : Club) → Is club x → IsReturned club y) → ReadsClub g a b (Ok y) IsReturned
-read_as reads returned = record {
-  returns = λ clean club others represents. returned club (reads.returns clean club others represents);
-  kept = reads.kept;
-  no_change = reads.no_change;
-  survives = reads.survives;
-  fault = λ clean. tt;
-}
+read_as reads returned = search (rules, returned)
 
 pub read_failed : {S A C : Type 0} {g : Ghosts S} {a b : Held S} {fault : StoreFault} {result : Result C StoreFault} {Is : Club → A → Type 0}
     {IsReturned : Club → C → Type 0} → ReadsClub g a b (Err fault) Is → IsErrAnd result (λ other. other ≡ fault) → ReadsClub g a b result IsReturned
-read_failed {result = result} reads is = let failed = err_from_is_err_and result is in rw (failed.1, failed.2) (record {
-  returns = λ clean club others represents. tt;
-  kept = reads.kept;
-  no_change = reads.no_change;
-  survives = reads.survives;
-  fault = reads.fault;
-})
+read_failed {result = result} reads is = let failed = err_from_is_err_and result is in rw (failed.1, failed.2) (search rules)
 
-pub change_fault : {S A : Type 0} (g : Ghosts S) (a b c : Held S) (first : Result A StoreFault) (IsFirst : Club → A → Type 0) (change : Change)
-    (fault : StoreFault) → HasCleanDisk (state g b) → ReadsClub g a b first IsFirst → FailsToChange g change b fault c → FailsToChange g change a fault c
-change_fault g a b c first IsFirst change fault clean reads it = record {
+pub change_fault : {S A : Type 0} {g : Ghosts S} {a b c : Held S} {first : Result A StoreFault} {IsFirst : Club → A → Type 0} {change : Change}
+    {fault : StoreFault} → HasCleanDisk (state g b) → ReadsClub g a b first IsFirst → FailsToChange g change b fault c → FailsToChange g change a fault c
+change_fault clean reads it = record {
   cause = elim it.cause [
-    | inl run ↦
-        inl (record { from = run.from; after = after_reading g a b run.from first IsFirst clean reads run.after; failure = run.failure })
+    | inl run ↦ inl (record { from = run.from; after = after_reading clean reads run.after; failure = run.failure })
     | inr refused ↦ inr refused
   ];
   error_if_fits = λ club others represents fits. let run = it.error_if_fits club others (reads.kept clean club others represents) fits in
-      record { from = run.from; after = after_reading g a b run.from first IsFirst clean reads run.after; failure = run.failure };
+      record { from = run.from; after = after_reading clean reads run.after; failure = run.failure };
 }
 
 pub opens_nothing : {S : Type 0} (g : Ghosts S) (held : Held S) → SurvivesOpening g held held
-opens_nothing g held = record {
-  clean = omega arith;
-  shield = λ h. h;
-  counts = omega arith;
-  limit = refl;
-  closes = λ _ is_open. inl is_open;
-  crash = λ _ db may. inl may;
-}
+opens_nothing g held = search (rules, arith)

@@ -1,5 +1,5 @@
 -- Lemmas for the proof of `Store::view`, which reads the rows of a view one after another.
-use Rattle.std.proofs.{Common.{◌≡◌, ℕ, suc, Bool, true, List, [], ◌∷◌, Option, Some, None, refl, sym, ap, subst, ◌∙◌, arith, inl, inr}, lemmas.Bool.cases_Bool}
+use Rattle.std.proofs.{Common.{◌≡◌, ℕ, suc, Bool, true, List, [], ◌∷◌, Option, Some, None, refl, sym, ap, ◌∙◌, arith, inl, inr}, lemmas.Bool.cases_Bool}
 use Rattle.std.proofs.lemmas.Slice.Eq.{bytes_eq-Decides}
 use Rattle.std.specs.{Prelude.{find, Contains, option_map, option_and_then}, Str.bytes_eq}
 use Rattle.club_rows.specs.{Key.{key_of_row, row_of_key}, declared.{key.{Key.Key, KeyRow.KeyRow, OlderRoot.OlderRoot}, member.Member.Member}}
@@ -52,15 +52,12 @@ seen_is law club name key account request moment named owned =
     let its = found (λ (m : Member). bytes_eq m.name key.member) club.members account.member member.0 in
     let same : key.member ≡ account.member.name = sym ((bytes_eq-Decides account.member.name key.member).0 its.1) in
     let own = law club key there.0 in
-    let spent = subst (λ (m : List ℕ). spent_under key.name (bookings_of m club) ≡ spent_under key.name club.bookings) same own.spent in
-    let booked = subst (λ (m : List ℕ). option_and_then (λ (n : ℕ). booking_under key.name n (bookings_of m club)) (request_number request)
-    ≡ option_and_then (λ (n : ℕ). booking_under key.name n club.bookings) (request_number request)) same
-    (at_number club key own (request_number request)) in
+    let spent = rw same at own.spent in
+    let booked = rw same at (at_number club key own (request_number request)) in
     rw (named, member.0) cc
 
 pub with_older : (found : Option Key) (row : KeyRow) (older : Option OlderRoot) → Some row ≡ option_map row_of_key found
     → older ≡ option_and_then (λ (k : Key). k.older) found → Some (key_of_row row older) ≡ found
 with_older None row older h e = absurd cc
 with_older (Some key) row older h e =
-    let is : row ≡ row_of_key key = cc in
-    ap (λ (r : KeyRow). Some (key_of_row r older)) is ∙ ap (λ (o : Option OlderRoot). Some (key_of_row (row_of_key key) o)) e
+    let is : row ≡ row_of_key key = cc in rw (is, e) refl

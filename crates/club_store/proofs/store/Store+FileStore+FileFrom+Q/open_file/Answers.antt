@@ -1,8 +1,8 @@
-use Rattle.std.proofs.Common.{ℕ, List, [], ◌∷◌, inl, refl, subst, sym, ap, ap₂, ◌∙◌, arith, ◌≡◌, Bool, cond, inr, subst₂, ◌≢◌, Option, None}
+use Rattle.std.proofs.Common.{ℕ, List, [], ◌∷◌, inl, refl, subst, sym, ap, ap₂, ◌∙◌, arith, ◌≡◌, Bool, inr, ◌≢◌, Option, None}
 use Rattle.std.proofs.lemmas.Option.{IfSome_then}
 use Rattle.club_store.specs.{FailedOpening.{IsFailedOpening, busy}, Opening.{FailsFrom, LeavesFrom}, declared.failed_opening.FailedOpening.FailedOpening}
 use Rattle.sqlite.specs.{Files.file_state, Recovery.Image, State.HasCleanDisk, declared.{error.Error.Error, file.Leftover.Leftover}}
-use Rattle.sqlite_disk.specs.{Events.{Event, replay, settled}, History.MayLeave}
+use Rattle.sqlite_disk.specs.{History.MayLeave}
 use Rattle.club_core.specs.Club.{Club, empty_club}
 use Rattle.club_tables.specs.{Tables.IsLeftOf, Transaction.fault_by}
 use Rattle.club_store.proofs.CrashLemmas.{new_is_blank, the_one}
@@ -30,21 +30,9 @@ returns-in-Ok-adopt-clause-opened g c clean =
       fresh = λ none. the_one _ empty_club (again (empty_club ∷ []) (inl (was.committed, refl, new_is_blank _ was none found (opened.1 opened.0.is_open).1)));
     }
 
--- The bytes of the log, or of the database file if `is_log` is false, after the calls in `history`.
-abbrev seen_bytes : List ℕ → List ℕ → Bool → List Event → List ℕ
-seen_bytes log db is_log history = (replay (cond is_log log db) history).seen
-
--- A crash after the calls in `history` may leave the bytes `c` in the log, or in the database file
--- if `is_log` is false.
-abbrev MayLeaveOf : Bool → List ℕ → List ℕ → Bool → List Event → List ℕ → Type 0
-MayLeaveOf mixes log db is_log history c =
-    MayLeave mixes (replay (cond is_log log db) history).seen (replay (cond is_log log db) history).synced (replay (cond is_log log db) history).steps c
-
-leaves_same : (mixes : Bool) (log db : List ℕ) (is_log which : Bool) (history : List Event) (key : ℕ) → is_log ≡ which → history ≡ settled key ∷ []
-    → (c : List ℕ) → MayLeaveOf mixes log db is_log history c → c ≡ cond which log db
-leaves_same mixes log db is_log which history key is fresh =
-    subst₂ (λ (i : Bool) (h : List Event). (c : List ℕ) → MayLeaveOf mixes log db i h c → c ≡ cond which log db) (sym is) (sym fresh) (λ c may.
-    elim may [ inl same ↦ same | inr reached ↦ reached ])
+-- Without further calls, a crash leaves the bytes that a file had.
+leaves_same : (mixes : Bool) (bytes c : List ℕ) → MayLeave mixes bytes bytes [] c → c ≡ bytes
+leaves_same mixes bytes c may = elim may [ inl same ↦ same | inr reached ↦ reached ]
 
 by_left : {D : Type 0} {g : disk.Ghosts D} (P : FailedOpening D g → Type 0) (error : Error) (rest : Option (Leftover D g)) (left : FailedOpening D g)
     → IsFailedOpening error rest left → (error ≡ busy → P failed.InUse) → ((rest ≡ None → error ≢ busy) → P (failed.Files rest)) → P left
@@ -60,11 +48,7 @@ returns-in-Err-clause-fault g c = by_left (λ left. FailsFrom (image g.Q.Start.l
     (λ other. record {
       error = c.in-Err.error;
       without_files = λ none. let error_is = c.in-Err.ensures.unopened none in let not_busy = other none in grind arith;
-      cause = IfSome_then c.in-Err.left c.in-Err.ensures.cause (λ left it. (
-        it.0,
-        ap₂ image (ap₂ (seen_bytes g.Q.Start.log g.Q.Start.db) it.1.0 it.1.1) (ap₂ (seen_bytes g.Q.Start.log g.Q.Start.db) it.2.0 it.2.1),
-        λ clean. (it.3 clean).0,
-      ));
+      cause = IfSome_then c.in-Err.left c.in-Err.ensures.cause (λ left it. (it.0, rw (it.1.0, it.1.1, it.2.0, it.2.1) refl, λ clean. (it.3 clean).0));
       fault_is = c.fault_of.ensures;
     })
 
@@ -73,10 +57,10 @@ returns-in-Err-clause-refused g c = by_left (LeavesFrom (image g.Q.Start.log g.Q
     (λ is. tt)
     (λ other. IfSome_then c.in-Err.left c.in-Err.ensures.cause (λ left it. record {
       files = it.0;
-      held = ap₂ image (ap₂ (seen_bytes g.Q.Start.log g.Q.Start.db) it.1.0 it.1.1) (ap₂ (seen_bytes g.Q.Start.log g.Q.Start.db) it.2.0 it.2.1);
+      held = rw (it.1.0, it.1.1, it.2.0, it.2.1) refl;
       one_outcome = λ left may. ap₂ image
-          (leaves_same g.Q.Start.is_mixing g.Q.Start.log g.Q.Start.db _ _ _ _ it.1.0 it.1.1 left.log may.0)
-          (leaves_same g.Q.Start.is_mixing g.Q.Start.log g.Q.Start.db _ _ _ _ it.2.0 it.2.1 left.db may.1);
+          (leaves_same g.Q.Start.is_mixing g.Q.Start.log left.log (rw (it.1.0, it.1.1) at may.0))
+          (leaves_same g.Q.Start.is_mixing g.Q.Start.db left.db (rw (it.2.0, it.2.1) at may.1));
       leaves = λ clean. (it.3 clean).1;
     }))
 

@@ -3,8 +3,7 @@ use Rattle.sqlite.proofs.Callers.{memory_is_clean}
 use Rattle.club_store.proofs.store.Store+MemStore.open_in_memory.Goals as goal
 
 pub returns-in-Ok-adopt-clause-opened : goal.returns-in-Ok-adopt-clause-opened
-returns-in-Ok-adopt-clause-opened c =
-    c.in-Ok-adopt.ensures.empty (memory_is_clean c.in-Ok-adopt.store) c.in-Ok.ensures.empty
+returns-in-Ok-adopt-clause-opened c = c.in-Ok-adopt.ensures.empty (memory_is_clean c.in-Ok-adopt.store) c.in-Ok.ensures.empty
 
 pub returns-in-Err-adopt-clause-fault : goal.returns-in-Err-adopt-clause-fault
 returns-in-Err-adopt-clause-fault c =

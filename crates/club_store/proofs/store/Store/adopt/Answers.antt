@@ -52,5 +52,4 @@ returns-in-Err-clause-refused g c =
     }
 
 pub returns-in-Err-clause-fault : goal.returns-in-Err-clause-fault
-returns-in-Err-clause-fault g c idle clean =
-    (rw (c.over-tables.ensures, ← c.into_connection.ensures.same) at c.in-Err.ensures.opens).fault clean
+returns-in-Err-clause-fault g c idle clean = (rw (c.over-tables.ensures, ← c.into_connection.ensures.same) at c.in-Err.ensures.opens).fault clean
