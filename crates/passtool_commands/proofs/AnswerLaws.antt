@@ -38,8 +38,7 @@ module _ (readings : OneReadingEachText) where
     one_pass_written form pass = one_then _ _ (writings form pass) (λ text one other p q. sym p.0 ∙ q.0)
 
     pub answers_once : AnswersOnce
-    answers_once (Mint minting) bytes =
-        one_then _ _ (one_only (narrowing minting.caveats (new_pass minting))) (λ pass. one_pass_written minting.form pass)
+    answers_once (Mint minting) bytes = one_then _ _ (one_only (narrowing minting.caveats (new_pass minting))) (λ pass. one_pass_written minting.form pass)
     answers_once Show bytes = one_then _ _ (one_pass_read bytes) (λ read. one_only (Ok (Done, listing_text read.0 read.1)))
     answers_once (Narrow caveats) bytes =
         one_then _ _ (one_pass_read bytes) (λ read. one_then _ _ (one_only (narrowing caveats read.1)) (λ pass. one_pass_written read.0 pass))
@@ -48,10 +47,7 @@ module _ (readings : OneReadingEachText) where
 
   pub verify_decides_signed : VerifyDecidesSigned
   verify_decides_signed root bytes form pass read =
-      let answer : OutcomeText = (Done, with_line_feed (codes "signed")) in
-      let Leads : Result (Form × Plain) FormFault → Type 0 =
-      λ result. MatchResult result (λ read. IsVerdict root read.1 (Ok answer)) (λ fault. Ok answer ≡ Err fault)
-      in (
-        λ is. let verdict : IsVerdict root pass (Ok answer) = subst Leads (one_pass_read bytes is.0 (Ok (form, pass)) is.1 read) is.2 in verdict.0,
+      let answer : OutcomeText = (Done, with_line_feed (codes "signed")) in (
+        λ is. let verdict : IsVerdict root pass (Ok answer) = rw (one_pass_read bytes is.0 (Ok (form, pass)) is.1 read) at is.2 in verdict.0,
         λ signed. (Ok (form, pass), read, (signed, refl)),
       )

@@ -24,6 +24,5 @@ values_read reads name rows result is = record { is_understood = is_understood; 
 
 pub reads_once : RowsAnswerOnce Command OurBadValue → ReadsOnce ReadsCommand
 reads_once once name rows command result one other =
-    let Reads : (Text → Bool) → Type 0 = λ test. Answers (command_of test name rows) result in
     let alike = fun_ext (λ (text : Text). same_test _ _ (IsCaveatText text) (other.is_test text) (one.is_test text)) in
-    once (command_of one.is_understood name rows) command result one.answers (subst Reads alike other.answers)
+    once (command_of one.is_understood name rows) command result one.answers (rw alike at other.answers)

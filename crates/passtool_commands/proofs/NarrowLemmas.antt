@@ -12,8 +12,7 @@ texts = map (λ text. text.now)
 pub one_added : (xs : List (Bor (List ℕ))) (i : ℕ) (d : Bor (List ℕ)) (caveat : List ℕ) (pass now : Plain) → i < length xs
     → caveat ≡ (slice_index_or xs i d).now → now ≡ with_caveat caveat pass
     → with_caveats (texts (drop (i + 1) xs)) now ≡ with_caveats (texts (drop i xs)) pass
-one_added xs i d caveat pass now within is added =
-    rw (added, is, drop_more xs i d within, append_assoc) refl
+one_added xs i d caveat pass now within is added = rw (added, is, drop_more xs i d within, append_assoc) refl
 
 module _ (xs : List (Bor (List ℕ))) (i : ℕ) (pass now : Plain) (counted : length now.caveats ≡ length pass.caveats + i) where
   pub all_added : (few : length now.caveats ≤ max_caveats) → length xs ≤ i → i ≤ length xs

@@ -14,8 +14,7 @@ module _ (command : Command) (left left' held held' : Option (List ℕ)) (bytes 
   module _ (ending : OutcomeText) (is : IsAnswer command bytes (Ok ending)) where
     written : (outcome : Outcome) (text front : List ℕ) → outcome ≡ ending.0 → text ≡ ending.1 → Appends held held' front
         → Writes command left left' held held' (outcome, text) front
-    written outcome text front outcome_is text_is appends =
-        rw (outcome_is, text_is) (record { bytes = bytes; reads = reads; answers = is; appends = appends })
+    written outcome text front outcome_is text_is appends = rw (outcome_is, text_is) (record { bytes = bytes; reads = reads; answers = is; appends = appends })
 
     pub performed : (outcome : Outcome) (text : List ℕ) → outcome ≡ ending.0 → text ≡ ending.1 → Appends held held' text
         → Performs command left left' held held' (Ok outcome)
@@ -24,8 +23,7 @@ module _ (command : Command) (left left' held held' : Option (List ℕ)) (bytes 
     pub begun : (text : List ℕ) → text ≡ ending.1 → AppendsFront held held' text → WritesFront command left left' held held'
     begun text text_is appends = ((ending.0, text), appends.0, appends.1, written ending.0 text appends.0 refl text_is appends.2)
 
-  pub failed : (fault : FormFault) → UnlessMemory (IsAnswer command bytes) (Err fault)
-      → Performs command left left' held held' (Err (Pass fault))
+  pub failed : (fault : FormFault) → UnlessMemory (IsAnswer command bytes) (Err fault) → Performs command left left' held held' (Err (Pass fault))
   failed Memory is = tt
   failed fault is = (bytes, reads, is)
 

@@ -21,8 +21,7 @@ one_only expected one other is same = sym is ∙ same
 
 pub one_then : {A B : Type 0} (step : Results A) (rest : A → Results B) → HasOne step → ((value : A) → HasOne (rest value)) → HasOne (step >>= rest)
 one_then {A} {B} step rest first next one other p q =
-    let Leads : Result A FormFault → Type 0 = λ result. MatchResult result (λ value. rest value other) (λ fault. other ≡ Err fault) in
-    go p.0 p.2 (subst Leads (first q.0 p.0 q.1 p.1) q.2)
+    go p.0 p.2 (rw (first q.0 p.0 q.1 p.1) at q.2)
   where
     go : (result : Result A FormFault) → MatchResult result (λ value. rest value one) (λ fault. one ≡ Err fault)
         → MatchResult result (λ value. rest value other) (λ fault. other ≡ Err fault) → one ≡ other

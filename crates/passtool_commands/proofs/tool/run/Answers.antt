@@ -3,8 +3,7 @@ use Rattle.passtool_commands.proofs.RunLemmas.{performs_alone, performs_argument
 use Rattle.passtool_commands.proofs.tool.run.Goals as goal
 
 pub returns-in-Err-clause-arguments : goal.returns-in-Err-clause-arguments
-returns-in-Err-clause-arguments g c =
-    rw c.from.ensures (refused_arguments (map g.S.AsStr.text c.args.arguments.now) c.in-Err.fault c.in-Err.ensures)
+returns-in-Err-clause-arguments g c = rw c.from.ensures (refused_arguments (map g.S.AsStr.text c.args.arguments.now) c.in-Err.fault c.in-Err.ensures)
 
 pub returns-in-Err-clause-command : goal.returns-in-Err-clause-command
 returns-in-Err-clause-command g c = λ command ask.
