@@ -44,8 +44,7 @@ module _ {S C : Type 0} (to_come taken : S → Option (List ℕ)) (Shows : C →
 
   written_still : (old new : Accepted S C) → ArePut (IsWritten Shows Writes to_come) old new → new.read_failures ≡ old.read_failures
   written_still old _ calls.not_put = refl
-  written_still old new (calls.put_again result bytes mid _ before call) =
-      ap (λ (a : Accepted S C). a.read_failures) call.same ∙ written_still old mid before
+  written_still old new (calls.put_again result bytes mid _ before call) = ap (λ (a : Accepted S C). a.read_failures) call.same ∙ written_still old mid before
 
   ended_silently : (outcome : Result Reply AnswerFault) (bytes : List ℕ) (old new : Accepted S C) → IsEnded to_come taken outcome bytes old new
       → Keeps (taken old.stream) (taken new.stream) × (new.read_failures ≡ old.read_failures) × (new.write_failures ≡ old.write_failures)

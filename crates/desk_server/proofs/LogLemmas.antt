@@ -8,8 +8,7 @@ use Rattle.desk_server.specs.Served as served
 
 events_more : (turns : List Turn) (turn : Turn) → events_in (turns ++ turn ∷ []) ≡ events_in turns ++ (turn.meanwhile ++ turn.event ∷ [])
 events_more [] turn = append-nil (turn.meanwhile ++ turn.event ∷ [])
-events_more (first ∷ turns) turn =
-    rw (events_more turns turn) (sym (append_assoc (first.meanwhile ++ first.event ∷ []) _ _))
+events_more (first ∷ turns) turn = rw (events_more turns turn) (sym (append_assoc (first.meanwhile ++ first.event ∷ []) _ _))
 
 module _ {Log : Type 0} (Begins : Log → Log → Type 0) (Noted : Notes Log) (taken : Log → Option (List ℕ)) (failures : Log → ℕ)
     (keeps : (old new : Log) → Begins old new → (taken new ≡ taken old) × (failures new ≡ failures old))

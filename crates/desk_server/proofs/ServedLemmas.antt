@@ -43,8 +43,6 @@ module _ {Clock Desk Source Log : Type 0} {Gives : GivesMoment Clock} {Answers :
   pub one_call : (s' : Source) → CountsOn (waited s1) 1 (waited s') → CountsOn (waited s) (length first.turns + 1) (waited s')
   one_call s' waits fits = let before = first.called (omega arith) in let last = waits (omega arith) in omega arith
 
-module _ {Log : Type 0} {Begins : Log → Log → Type 0} {Noted : Notes Log} where
-  pub noted_alone : {log log' : Log} (begun : Log) (event : LogEvent) → IsBegun Begins Noted log event begun → Noted begun event log'
-      → IsNoted Begins Noted log (alone event) log'
-  noted_alone begun event begins notes =
-      record { begun = begun; awaited = begun; begins = begins; meanwhile = spec.no_note; notes = notes }
+pub noted_alone : {Log : Type 0} {Begins : Log → Log → Type 0} {Noted : Notes Log} {log log' : Log} (begun : Log) (event : LogEvent)
+    → IsBegun Begins Noted log event begun → Noted begun event log' → IsNoted Begins Noted log (alone event) log'
+noted_alone begun event begins notes = record { begun = begun; awaited = begun; begins = begins; meanwhile = spec.no_note; notes = notes }

@@ -41,17 +41,10 @@ loop-served-preserved-in-Client g c =
       fewer = omega arith;
       so_far = one_more so_far (record { meanwhile = exchange.meanwhile.events; event = event }) _ _ _ _ _ _ refl (omega arith) tt (
         next.failure_count,
-        record {
-          given = c.now.new.self;
-          left = exchange.left;
-          gives = c.in-Some.ensures;
-          commanded = exchange.meanwhile.commanded;
-          bytes = c.request.result.now;
-          written = exchange.written;
-          begins = c.of-line.ensures;
-          exchanged = rw (← c.request.ensures) at exchange.exchanged;
-          ended = (_, _, rw (← c.request.ensures) at exchange.talked);
-        },
+        let exchanged = rw (← c.request.ensures) at exchange.exchanged in
+            let talked = rw (← c.request.ensures) at exchange.talked in
+            let commanded = exchange.meanwhile.commanded in
+            search rules,
       )
           (let noted = exchange.meanwhile.noted in search rules)
           (one_call so_far _ next.waited);
