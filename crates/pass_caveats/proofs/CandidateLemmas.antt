@@ -4,7 +4,7 @@ use Rattle.pass_caveats.proofs.Common.{Facility, Kind, Hours, Days, Weekdays, Un
 use Rattle.pass_caveats.proofs.{Common.{candidate, actions_from, actions_of, weekdays_from, weekdays_of}, PartLemmas.names_again}
 use Rattle.std.proofs.lemmas.Fmt.{decimal_is_IsNumeral}
 use Rattle.club_values.specs.{Action.action_text, Day.{IsDay, day_text}, Weekday.weekdays, computed.TextOf.day_of}
-use Rattle.club_values.specs.declared.kind.Kind.TheVariants.{Court, Boat, Room}
+use Rattle.club_values.specs.declared.kind.Kind.TheVariants.{Court}
 use Rattle.pass_caveats.specs.{Actions.{all_actions, has_action, action_texts}, Weekdays.{weekday_text, has_weekday, weekday_texts}}
 use Rattle.pass_caveats.specs.declared.{actions.Actions.Actions as SomeActions, weekdays.Weekdays.Weekdays as SomeWeekdays}
 use Rattle.club_values.proofs.GuessLemmas.{two_again, day_of-day_text, moment_of-moment_text}
@@ -29,8 +29,7 @@ pub candidate-caveat_text : (caveat : Caveat) → IsCaveat caveat → candidate 
 unfolding candidate
 candidate-caveat_text (Facility names) h = ap Facility (names_again names h)
 candidate-caveat_text (Kind Court) h = refl
-candidate-caveat_text (Kind Boat) h = refl
-candidate-caveat_text (Kind Room) h = refl
+candidate-caveat_text (Kind kind) h = refl
 candidate-caveat_text (Hours from until) h = rw (two_again from, two_again until)
 candidate-caveat_text (Days first last) h = rw (day_of-day_text first (codes ".." ++ day_text last) h.0, second_day first last h.1)
 candidate-caveat_text (Weekdays set) h = ap Weekdays (weekdays_again set h)

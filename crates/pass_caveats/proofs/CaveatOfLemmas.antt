@@ -1,11 +1,11 @@
 -- Lemmas for the proof that the functions in `specs/computed/CaveatOf.antt` agree with the
 -- definitions in `specs/`.
-use Rattle.pass_caveats.proofs.{CandidateLemmas.candidate-caveat_text, Common.{◌≡◌, ◌↔◌, ℕ, ◌+◌, Bool, true, false, List, [], ◌∷◌, ◌++◌, length, map, ◌⊎◌}}
-use Rattle.pass_caveats.proofs.Common.{Option, Some, None, inl, inr, refl, sym, subst, ◌∙◌, arith, add-zero, option_or, All-head, All-tail, All-push, All-nil}
+use Rattle.pass_caveats.proofs.{CandidateLemmas.candidate-caveat_text, Common.{◌≡◌, ◌↔◌, ℕ, ◌+◌, List, [], ◌∷◌, ◌++◌, length, map, ◌⊎◌}}
+use Rattle.pass_caveats.proofs.Common.{Option, Some, None, inl, inr, refl, sym, ◌∙◌, arith, add-zero, option_or, All-head, All-tail, All-push, All-nil}
 use Rattle.pass_caveats.proofs.Common.{All-cons, append-nil, Caveat, Ask, CaveatFault, Understood, permits, candidate, spells, caveat_of, first_fault_from}
 use Rattle.pass_caveats.proofs.Common.{first_fault_of, Allows, Allowed, AreUnderstoodAs, IsUnknown, Denies, IsFaultAt, IsFirstFault, append_assoc}
 use Rattle.pass_caveats.proofs.DecisionLemmas.{Decides-spells, Decides-permits}
-use Rattle.std.proofs.lemmas.{Bool.{false_from_ne_true, both_ways}, List.append_assoc, Option.cond_some}
+use Rattle.std.proofs.lemmas.{Bool.{cases_Bool, false_from_ne_true, both_ways}, List.append_assoc, Option.cond_some}
 use Rattle.pass_caveats.specs.declared.fault.CaveatFault.TheVariants.{NotUnderstood, Denied}
 use Rattle.club_values.specs.Reading.{Reads}
 
@@ -16,8 +16,7 @@ caveat_of-understood text caveat h = grind (arith, candidate-caveat_text, Decide
 pub understood-caveat_of : (text : List ℕ) (caveat : Caveat) → caveat_of text ≡ Some caveat → Understood text caveat
 unfolding caveat_of
 understood-caveat_of text caveat e =
-    let is = cond_some (spells text (candidate text)) (candidate text) caveat e in
-    subst (Understood text) is.1 ((Decides-spells text (candidate text)).0 is.0)
+    let is = cond_some (spells text (candidate text)) (candidate text) caveat e in rw (← is.1) ((Decides-spells text (candidate text)).0 is.0)
 
 pub caveat_of-unknown : (text : List ℕ) → IsUnknown text → caveat_of text ≡ None
 unfolding caveat_of
@@ -37,11 +36,7 @@ passed n (text ∷ front) rest ask h =
     (passed (n + 1) front rest ask (All-tail (λ t. Allows t ask) text front h) ∙ rw next refl)
 
 all_passed : (n : ℕ) (texts : List (List ℕ)) (ask : Ask) → Allowed texts ask → first_fault_from n (map caveat_of texts) ask ≡ None
-all_passed n [] ask h = refl
-all_passed n (text ∷ texts) ask h =
-    let first = All-head (λ t. Allows t ask) text texts h in
-    rw (caveat_of-understood text first.0 first.1, (Decides-permits first.0 ask).1 first.2)
-    (all_passed (n + 1) texts ask (All-tail (λ t. Allows t ask) text texts h))
+all_passed n texts ask h = rw append-nil at (passed n texts [] ask h)
 
 pub is_first_fault : (texts : List (List ℕ)) (ask : Ask) (r : Option CaveatFault) → IsFirstFault texts ask r → r ≡ first_fault_of (map caveat_of texts) ask
 is_first_fault texts ask None h = sym (all_passed 1 texts ask h)
@@ -58,39 +53,35 @@ all_caveats_of [] [] h = refl
 all_caveats_of (text ∷ texts) (caveat ∷ caveats) h = grind (arith, reads_caveat_of, all_caveats_of texts caveats h.1)
 all_caveats_of texts caveats h = absurd h
 
-verdict_on : (text : List ℕ) (ask : Ask) (caveat : Caveat) (b : Bool) → Understood text caveat → permits caveat ask ≡ b →
-    Allows text ask ⊎ (IsUnknown text ⊎ Denies text ask)
-verdict_on text ask caveat true h e = inl (caveat, h, (Decides-permits caveat ask).0 e)
-verdict_on text ask caveat false h e = inr (inr (caveat, h, λ permitted. both_ways (permits caveat ask) e ((Decides-permits caveat ask).1 permitted)))
-
 verdict_by : (text : List ℕ) (ask : Ask) (found : Option Caveat) → caveat_of text ≡ found → Allows text ask ⊎ (IsUnknown text ⊎ Denies text ask)
 verdict_by text ask None e = inr (inl (λ caveat h. let t = caveat_of-understood text caveat h in cc))
-verdict_by text ask (Some caveat) e = verdict_on text ask caveat _ (understood-caveat_of text caveat e) refl
+verdict_by text ask (Some caveat) e =
+    let understood = understood-caveat_of text caveat e in
+    elim (cases_Bool (permits caveat ask)) [
+      | inl allowed ↦ inl (caveat, understood, (Decides-permits caveat ask).0 allowed)
+      | inr denied ↦ inr (inr (caveat, understood, λ permitted. both_ways (permits caveat ask) denied ((Decides-permits caveat ask).1 permitted)))
+    ]
 
 verdict : (text : List ℕ) (ask : Ask) → Allows text ask ⊎ (IsUnknown text ⊎ Denies text ask)
 verdict text ask = verdict_by text ask (caveat_of text) refl
 
 some_fault : (front texts : List (List ℕ)) (ask : Ask) → Allowed front ask → (r : Option CaveatFault) × IsFirstFault (front ++ texts) ask r
-some_fault front [] ask h = let P : List (List ℕ) → Type 0 = λ texts. Allowed texts ask in (None, subst P (sym (append-nil front)) h)
+some_fault front [] ask h = (None, rw append-nil h)
 some_fault front (text ∷ texts) ask h =
     elim (verdict text ask) [
       | inl allows ↦
           let found = some_fault (front ++ text ∷ []) texts ask (All-push (λ t. Allows t ask) front text h allows) in
-          let P : List (List ℕ) → Type 0 = λ all. IsFirstFault all ask found.0 in
-          (found.0, subst P (append_assoc front (text ∷ []) texts) found.1)
-      | inr (inl unknown) ↦ (
-        Some (NotUnderstood (length front + 1)),
-        record { front = front; text = text; rest = texts; place = refl; number = refl; before = h; fault = unknown },
-      )
+          (found.0, rw append_assoc at found.1)
+      | inr (inl unknown) ↦
+          (Some (NotUnderstood _), record { front = front; text = text; rest = texts; place = refl; number = refl; before = h; fault = unknown })
       | inr (inr denies) ↦
-          (Some (Denied (length front + 1)), record { front = front; text = text; rest = texts; place = refl; number = refl; before = h; fault = denies })
+          (Some (Denied _), record { front = front; text = text; rest = texts; place = refl; number = refl; before = h; fault = denies })
     ]
 
 pub first_fault_of-is_first : (texts : List (List ℕ)) (ask : Ask) → IsFirstFault texts ask (first_fault_of (map caveat_of texts) ask)
 first_fault_of-is_first texts ask =
     let found = some_fault [] texts ask (All-nil (λ t. Allows t ask)) in
-    let P : Option CaveatFault → Type 0 = λ r. IsFirstFault texts ask r in
-    subst P (is_first_fault texts ask found.0 found.1) found.1
+    rw (← is_first_fault texts ask found.0 found.1) found.1
 
 pub fault_of_one_more : (n : ℕ) (caveats : List (Option Caveat)) (caveat : Option Caveat) (ask : Ask) →
     first_fault_from n (caveats ++ caveat ∷ []) ask ≡ option_or (first_fault_from n caveats ask) (first_fault_from (n + length caveats) (caveat ∷ []) ask)
@@ -116,13 +107,10 @@ pub finds_fault_at : (text : List ℕ) (n : ℕ) (ask : Ask) (fault : Option Cav
     → IsFaultAt text n ask fault ↔ (fault ≡ first_fault_from n (caveat_of text ∷ []) ask)
 finds_fault_at text n ask fault =
     let there = fault_there text n ask in
-    let P : Option CaveatFault → Type 0 = λ r. IsFaultAt text n ask r in
-    (is_fault_at text n ask fault, λ e. subst P (is_fault_at text n ask there.0 there.1 ∙ sym e) there.1)
+    (is_fault_at text n ask fault, λ e. rw (e, ← is_fault_at text n ask there.0 there.1) there.1)
 
 pub none_where_allowed : (texts : List (List ℕ)) (ask : Ask) (fault : Option CaveatFault) → IsFirstFault texts ask fault → (fault ≡ None) ↔ Allowed texts ask
-none_where_allowed texts ask fault h =
-    let P : Option CaveatFault → Type 0 = λ r. IsFirstFault texts ask r in
-    ((λ e. subst P e h), (λ allowed. is_first_fault texts ask fault h ∙ all_passed 1 texts ask allowed))
+none_where_allowed texts ask fault h = ((λ e. rw e at h), (λ allowed. is_first_fault texts ask fault h ∙ all_passed 1 texts ask allowed))
 
 pub narrower : (texts more : List (List ℕ)) (ask : Ask) → Allowed (texts ++ more) ask → Allowed texts ask
 narrower [] more ask h = All-nil (λ t. Allows t ask)

@@ -56,13 +56,11 @@ abbrev pub Steps : List Bool → List (List ℕ) → List (List ℕ) → List (L
 Steps [] [] parts last = parts ≡ last
 Steps [] (word ∷ words) parts last = ⊥
 Steps (flag ∷ flags) [] parts last = ⊥
-Steps (flag ∷ flags) (word ∷ words) parts last =
-    (next : List (List ℕ)) × Skips word parts flag next × Steps flags words next last
+Steps (flag ∷ flags) (word ∷ words) parts last = (next : List (List ℕ)) × Skips word parts flag next × Steps flags words next last
 
 steps_take : (flags : List Bool) (words parts last : List (List ℕ)) → Steps flags words parts last → parts ≡ chosen flags words ++ last
 steps_take [] [] parts last e = e
-steps_take (flag ∷ flags) (word ∷ words) parts last s =
-    grind (arith, skip_takes word parts s.0 flag s.1, steps_take flags words s.0 last s.2)
+steps_take (flag ∷ flags) (word ∷ words) parts last s = grind (arith, skip_takes word parts s.0 flag s.1, steps_take flags words s.0 last s.2)
 steps_take flags words parts last e = absurd e
 
 steps_leave : (flags : List Bool) (words parts last : List (List ℕ)) → Steps flags words parts last → last ≡ left_after words parts

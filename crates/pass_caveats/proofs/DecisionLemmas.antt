@@ -1,11 +1,11 @@
 -- Lemmas for the proof that `permits` returns true if and only if the caveat allows the request.
-use Rattle.pass_caveats.proofs.{ChoiceLemmas.some_of, Common.{IsTrue, ◌↔◌, ◌≡◌, ◌≢◌, ℕ, ◌+◌, Bool, false, nat_lt, List, [], length, Option, Some, refl, arith}}
-use Rattle.pass_caveats.proofs.Common.{Decides, ap, ◌&&◌, Contains, IsSomeAnd, is_some, list_all, list_any, option_map_or, same_from_decides, Decides-like}
-use Rattle.pass_caveats.proofs.Common.{Decides-and, Decides-or, Decides-ltb, Decides-eqb, Decides-by_and, Decides-by_or, at_from_Contains, bytes_eq-Decides}
-use Rattle.pass_caveats.proofs.Common.{Caveat, Facility, Kind, Hours, Days, Weekdays, Until, Guests, Spend, Actions, Ask, IsName, AreNames, IsCaveat}
-use Rattle.pass_caveats.proofs.Common.{Understood, Permits, is_kind, permits, is_caveat, spells, nat_tests}
+use Rattle.pass_caveats.proofs.{ChoiceLemmas.some_of, Common.{IsTrue, ◌↔◌, ◌≡◌, ◌≢◌, ℕ, Bool, false, nat_lt, List, [], length, Option, refl, arith}}
+use Rattle.pass_caveats.proofs.Common.{Decides, ap, Contains, IsSomeAnd, list_all, list_any, option_map_or, same_from_decides, Decides-like}
+use Rattle.pass_caveats.proofs.Common.{Decides-and, Decides-ltb, Decides-by_and, Decides-by_or, at_from_Contains, bytes_eq-Decides}
+use Rattle.pass_caveats.proofs.Common.{Caveat, Facility, Ask, IsName, AreNames, IsCaveat}
+use Rattle.pass_caveats.proofs.Common.{Understood, Permits, permits, is_caveat, spells, nat_tests}
 use Rattle.std.specs.Str.{bytes_eq}
-use Rattle.club_values.specs.{computed.TextOf.is_name, declared.{kind.Kind.Kind as AKind, slot.Slot.Slot}}
+use Rattle.club_values.specs.{computed.TextOf.is_name, declared.{slot.Slot.Slot}}
 use Rattle.club_values.proofs.TestLemmas.{Decides-leb, Decides-is_name}
 
 Decides-are_names : (names : List (List ℕ)) → Decides (is_caveat (Facility names)) (AreNames names)
@@ -15,8 +15,7 @@ Decides-are_names names =
     (Decides-and _ _ (Decides-and _ _ (Decides-ltb 0 (length names)) (Decides-leb (length names) 8)) all)
 
 Decides-some : (texts : List (List ℕ)) → Decides (nat_lt 0 (length texts)) (texts ≢ [])
-Decides-some texts =
-    Decides-like _ (λ h e. absurd (omega (arith, ap (length {A = List ℕ}) e, h))) (some_of texts) (Decides-ltb 0 (length texts))
+Decides-some texts = Decides-like _ (λ h e. absurd (omega (arith, ap (length {A = List ℕ}) e, h))) (some_of texts) (Decides-ltb 0 (length texts))
 
 Decides-is_caveat : (caveat : Caveat) → Decides (is_caveat caveat) (IsCaveat caveat)
 Decides-is_caveat caveat = grind (arith, nat_tests, Decides-are_names, Decides-some)
@@ -28,10 +27,6 @@ Decides-slot : (slot : Option Slot) (p : Slot → Bool) (P : Slot → Type 0) �
     Decides (option_map_or p slot false) (IsSomeAnd slot P)
 Decides-slot slot p P h = grind (arith, h)
 
-Decides-kind_of_slot : (slot : Option Slot) (known : Option AKind) (kind : AKind) →
-    Decides (is_some slot && is_kind known kind) (IsSomeAnd slot (λ _. known ≡ Some kind))
-Decides-kind_of_slot slot known kind = grind arith
-
 Decides-has : (names : List (List ℕ)) (name : List ℕ) → Decides (list_any (λ n. bytes_eq n name) names) (Contains names name)
 Decides-has names name =
     Decides-like _ (λ h. (h.0, h.1, h.2 name)) (at_from_Contains names name)
@@ -40,14 +35,7 @@ Decides-has names name =
 pub Decides-permits : (caveat : Caveat) (ask : Ask) → Decides (permits caveat ask) (Permits caveat ask)
 unfolding permits
 Decides-permits (Facility names) ask = Decides-slot ask.slot _ _ (λ slot. Decides-has names slot.facility)
-Decides-permits (Kind kind) ask = Decides-kind_of_slot ask.slot ask.kind kind
-Decides-permits (Hours from until) ask = Decides-slot ask.slot _ _ (λ slot. Decides-and _ _ (Decides-leb from slot.hour) (Decides-ltb slot.hour until))
-Decides-permits (Days first last) ask = Decides-slot ask.slot _ _ (λ slot. Decides-and _ _ (Decides-leb first slot.day) (Decides-leb slot.day last))
-Decides-permits (Weekdays set) ask = Decides-slot ask.slot _ _ (λ slot. ((λ e. e), (λ e. e)))
-Decides-permits (Until moment) ask = Decides-ltb ask.moment moment
-Decides-permits (Guests n) ask = Decides-leb ask.guests n
-Decides-permits (Spend n) ask = Decides-or _ _ (Decides-eqb ask.owed 0) (Decides-leb (ask.spent + ask.owed) n)
-Decides-permits (Actions actions) ask = ((λ e. e), (λ e. e))
+Decides-permits caveat ask = grind (arith, nat_tests)
 
 pub same_as_permits : (caveat : Caveat) (ask : Ask) (r : Bool) → IsTrue r ↔ Permits caveat ask → r ≡ permits caveat ask
 same_as_permits caveat ask r h = same_from_decides r (permits caveat ask) h (Decides-permits caveat ask)

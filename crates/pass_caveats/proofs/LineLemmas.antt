@@ -1,6 +1,6 @@
 -- Lemmas for the proof that the parser of caveat lines agrees with the definition `SpellsCaveat`.
-use Rattle.pass_caveats.proofs.Common.{◌≡◌, ℕ, ◌<◌, ◌≤◌, List, [], ◌++◌, length, take, drop, Option, refl, sym, ap, subst, ◌∙◌, arith, codes, take-append-drop}
-use Rattle.pass_caveats.proofs.Common.{Facility, Kind, Hours, Days, Weekdays, Until, Guests, Spend, Actions, Caveat, SpellsCaveat, common_steps}
+use Rattle.pass_caveats.proofs.Common.{◌≡◌, ℕ, ◌<◌, ◌≤◌, List, [], ◌++◌, length, take, drop, Option, refl, sym, ap, ◌∙◌, arith, codes, take-append-drop}
+use Rattle.pass_caveats.proofs.Common.{rules, Facility, Kind, Hours, Days, Weekdays, Until, Guests, Spend, Actions, Caveat, SpellsCaveat, common_steps}
 use Rattle.std.proofs.lemmas.Fmt.{decimal_injective}
 use Rattle.club_values.specs.{Day.{SpellsDay, day_text}, Moment.SpellsMoment, Number.SpellsNumber, Reading.Reads, declared.kind.Kind.Kind as AKind}
 use Rattle.pass_caveats.specs.declared.{actions.Actions.Actions as SomeActions, weekdays.Weekdays.Weekdays as SomeWeekdays}
@@ -14,8 +14,7 @@ pub reads_until : (text rest : List ℕ) (r : Option ℕ) → text ≡ codes "un
 reads_until text rest r e h =
     reads_as (SpellsMoment rest) (λ moment. SpellsCaveat text (Until moment)) r h
     (λ n s. let is = spells-moment_text rest n s in record { real = is.1; spelling = e ∙ ap (λ (t : List ℕ). codes "until < " ++ t) is.0 })
-    (λ n s. let P : List ℕ → Type 0 = λ t. SpellsMoment t n in
-    subst P (sym (ap (drop 8) (sym e ∙ s.spelling))) (moment_text-spells n s.real))
+    (λ n s. rw (ap (drop 8) (sym e ∙ s.spelling)) (moment_text-spells n s.real))
 
 pub too_many_guests : (text rest : List ℕ) (n : ℕ) → text ≡ codes "guests <= " ++ rest → SpellsNumber rest n → 49 < n → (x : ℕ) → SpellsCaveat text (Guests x)
     → ⊥
@@ -34,25 +33,20 @@ dates_of text rest a b e h = grind (arith, common_steps, h.spelling)
 
 pub no_first_day : (text rest front : List ℕ) → text ≡ codes "days = " ++ rest → front ≡ take 10 rest → ((n : ℕ) → SpellsDay front n → ⊥) → (x : ℕ × ℕ) →
     SpellsCaveat text (Days x.0 x.1) → ⊥
-no_first_day text rest front e front_is never x h =
-    let P : List ℕ → Type 0 = λ t. SpellsDay t x.0 in
-    never x.0 (subst P (sym (front_is ∙ (dates_of text rest x.0 x.1 e h).first)) (day_text-spells x.0 h.real.0))
+no_first_day text rest front e front_is never x h = never x.0 (rw (front_is, (dates_of text rest x.0 x.1 e h).first) (day_text-spells x.0 h.real.0))
 
 pub no_dots : (text rest back : List ℕ) → text ≡ codes "days = " ++ rest → back ≡ drop 10 rest → ((last : List ℕ) → back ≡ codes ".." ++ last → ⊥) →
     (x : ℕ × ℕ) → SpellsCaveat text (Days x.0 x.1) → ⊥
-no_dots text rest back e back_is never x h =
-    never (day_text x.1) (back_is ∙ (dates_of text rest x.0 x.1 e h).second)
+no_dots text rest back e back_is never x h = never (day_text x.1) (back_is ∙ (dates_of text rest x.0 x.1 e h).second)
 
 second_is : (text rest back last : List ℕ) (a b : ℕ) → text ≡ codes "days = " ++ rest → back ≡ drop 10 rest → back ≡ codes ".." ++ last →
     SpellsCaveat text (Days a b) → last ≡ day_text b
-second_is text rest back last a b e back_is dots h =
-    ap (drop 2) (sym dots ∙ (back_is ∙ (dates_of text rest a b e h).second))
+second_is text rest back last a b e back_is dots h = ap (drop 2) (sym dots ∙ (back_is ∙ (dates_of text rest a b e h).second))
 
 pub no_second_day : (text rest back last : List ℕ) → text ≡ codes "days = " ++ rest → back ≡ drop 10 rest → back ≡ codes ".." ++ last →
     ((n : ℕ) → SpellsDay last n → ⊥) → (x : ℕ × ℕ) → SpellsCaveat text (Days x.0 x.1) → ⊥
 no_second_day text rest back last e back_is dots never x h =
-    let P : List ℕ → Type 0 = λ t. SpellsDay t x.1 in
-    never x.1 (subst P (sym (second_is text rest back last x.0 x.1 e back_is dots h)) (day_text-spells x.1 h.real.1))
+    never x.1 (rw (second_is text rest back last x.0 x.1 e back_is dots h) (day_text-spells x.1 h.real.1))
 
 pub spells_days : (text rest front back last : List ℕ) (a b : ℕ) → text ≡ codes "days = " ++ rest → front ≡ take 10 rest → back ≡ drop 10 rest →
     back ≡ codes ".." ++ last → SpellsDay front a → SpellsDay last b → a ≤ b → SpellsCaveat text (Days a b)
@@ -60,10 +54,7 @@ spells_days text rest front back last a b e front_is back_is dots s t le =
     let first = spells-day_text front a s in
     let second = spells-day_text last b t in
     let both : front ++ back ≡ rest = rw (front_is, back_is) (take-append-drop 10 rest) in
-    record {
-      real = (s.within, t.within, le);
-      spelling = rw (e, ← both, dots, first, second) refl;
-    }
+    record { real = (s.within, t.within, le); spelling = rw (e, ← both, dots, first, second) refl }
 
 pub days_fall : (text rest front back last : List ℕ) (a b : ℕ) → text ≡ codes "days = " ++ rest → front ≡ take 10 rest → back ≡ drop 10 rest →
     back ≡ codes ".." ++ last → SpellsDay front a → SpellsDay last b → b < a → (x : ℕ × ℕ) → SpellsCaveat text (Days x.0 x.1) → ⊥
@@ -79,12 +70,6 @@ pub no_line : (text : List ℕ) → ((x : List (List ℕ)) → SpellsCaveat text
     → ((x : SomeWeekdays) → SpellsCaveat text (Weekdays x) → ⊥) →
     ((x : ℕ) → SpellsCaveat text (Until x) → ⊥) → ((x : ℕ) → SpellsCaveat text (Guests x) → ⊥) → ((x : ℕ) → SpellsCaveat text (Spend x) → ⊥) →
     ((x : SomeActions) → SpellsCaveat text (Actions x) → ⊥) → (caveat : Caveat) → SpellsCaveat text caveat → ⊥
-no_line text f k h d w u g s a (Facility names) = f names
-no_line text f k h d w u g s a (Kind kind) = k kind
-no_line text f k h d w u g s a (Hours from until) = h (from, until)
-no_line text f k h d w u g s a (Days first last) = d (first, last)
-no_line text f k h d w u g s a (Weekdays set) = w set
-no_line text f k h d w u g s a (Until moment) = u moment
-no_line text f k h d w u g s a (Guests n) = g n
-no_line text f k h d w u g s a (Spend n) = s n
-no_line text f k h d w u g s a (Actions actions) = a actions
+no_line text f k h d w u g s a (Hours from until) is = h (from, until) is
+no_line text f k h d w u g s a (Days first last) is = d (first, last) is
+no_line text f k h d w u g s a caveat is = search rules

@@ -1,6 +1,6 @@
 -- Lemmas for the proofs about a key's earlier spending and the first fault.
 use Rattle.pass_caveats.proofs.{CandidateLemmas.one_caveat, Common.{◌≡◌, ℕ, ◌+◌, ◌-◌, ◌≤◌, ◌==◌, ◌||◌, true, false, cond, nat_le, List, [], ◌∷◌, Option, Some}}
-use Rattle.pass_caveats.proofs.Common.{None, refl, subst, arith, All, IfSome, All-head, All-tail, nat_tests, Ask, Caveat, Spend, IsCaveat, Permits, Understood}
+use Rattle.pass_caveats.proofs.Common.{None, refl, arith, All, IfSome, All-head, All-tail, nat_tests, Ask, Caveat, Spend, IsCaveat, Permits, Understood}
 use Rattle.pass_caveats.proofs.{Common.{permits, first_fault_from, common_steps}, DecisionLemmas.Decides-permits}
 use Rattle.pass_caveats.specs.{Spending.{HoldsWithin, IsWithin, LimitsNoMore, after_spending, slack_under}, declared.fault.CaveatFault.TheVariants.Denied}
 use Rattle.club_values.specs.Number.{number_limit}
@@ -77,6 +77,6 @@ module _ (text : List ℕ) (n : ℕ) (ask : Ask) (caveat : Caveat) (understood :
         (caveat, understood, (Decides-permits caveat (after_spending spent ask)).0 ((permits_within caveat ask spent allows).1 h));
     beyond = λ spent h allowed.
         let same = one_caveat text allowed.0 caveat allowed.1 understood in
-        let permitted = subst (λ (c : Caveat). Permits c (after_spending spent ask)) same allowed.2 in
+        let permitted = rw same at allowed.2 in
         h ((permits_within caveat ask spent allows).0 ((Decides-permits caveat (after_spending spent ask)).1 permitted));
   }

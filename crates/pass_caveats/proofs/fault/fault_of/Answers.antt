@@ -17,6 +17,4 @@ loop-index-preserved c =
 
 pub returns : goal.returns
 returns c =
-    let texts = map vec_items c.args.caveats.now in
-    let whole = take_all c.loop-index.index texts (omega (arith, length-map c.args.caveats.now vec_items)) in
-    rw whole at c.loop-index.invariant
+    rw (take_all c.loop-index.index (map vec_items c.args.caveats.now) (omega (arith, length-map c.args.caveats.now vec_items))) at c.loop-index.invariant

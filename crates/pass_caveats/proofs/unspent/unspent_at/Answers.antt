@@ -1,5 +1,5 @@
-use Rattle.pass_caveats.proofs.{Common.{◌≡◌, ℕ, true, false, Option, None, sym, subst, permits}, SpendingLemmas.{holds_allowed, holds_denied}}
-use Rattle.pass_caveats.specs.Spending.{HoldsWithin, after_spending}
+use Rattle.pass_caveats.proofs.{Common.{◌≡◌, true, false, permits}, SpendingLemmas.{holds_allowed, holds_denied}}
+use Rattle.pass_caveats.specs.Spending.{after_spending}
 use Rattle.pass_caveats.proofs.unspent.unspent_at.Goals as goal
 
 pub returns-then-not-allows : goal.returns-then-not-allows
@@ -10,8 +10,4 @@ returns-then-not-allows c =
 pub returns : goal.returns
 returns c =
     let allows : permits c.in-Some.caveat (after_spending 0 c.args.ask.now) ≡ true = cc in
-    let text = c.args.text.now in
-    let n = c.args.number in
-    let ask = c.args.ask.now in
-    subst (λ (slack : Option ℕ). HoldsWithin text n ask None slack) (sym c.slack_of.ensures)
-    (holds_allowed text n ask c.in-Some.caveat c.in-Some.ensures.understood allows)
+    rw c.slack_of.ensures (holds_allowed c.args.text.now c.args.number c.args.ask.now c.in-Some.caveat c.in-Some.ensures.understood allows)

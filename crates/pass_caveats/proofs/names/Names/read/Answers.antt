@@ -4,20 +4,11 @@ use Rattle.pass_caveats.proofs.names.Names.read.Goals.{else-are_all_names-via-el
 use Rattle.pass_caveats.proofs.names.Names.read.Goals as goal
 
 pub invariant_of-result : goal.invariant_of-result
-invariant_of-result c =
-    record {
-      some = some_part c.args.text.now;
-      few = omega arith;
-      each_is_name = c.are_all_names.ensures.0 c.if-are_all_names.true;
-    }
+invariant_of-result c = record { some = some_part c.args.text.now; few = omega arith; each_is_name = c.are_all_names.ensures.0 c.if-are_all_names.true }
 
 pub returns-then-count_of_parts-le-MAX_NAMES : goal.returns-then-count_of_parts-le-MAX_NAMES
 returns-then-count_of_parts-le-MAX_NAMES c = (
-  record {
-    some = some_part c.args.text.now;
-    few = omega arith;
-    each_is_name = c.are_all_names.ensures.0 c.if-are_all_names.true;
-  },
+  record { some = some_part c.args.text.now; few = omega arith; each_is_name = c.are_all_names.ensures.0 c.if-are_all_names.true },
   sym (joined-parts_of c.args.text.now),
 )
 
