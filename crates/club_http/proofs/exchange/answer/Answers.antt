@@ -5,6 +5,5 @@ use Rattle.club_http.proofs.exchange.answer.Goals as goal
 
 pub returns-clause-exchanged : goal.returns-clause-exchanged
 returns-clause-exchanged g c =
-    exchanged_to_all _ _ _ _ _ _ (c.respond.new.desk ≡ c.args.desk.now)
-    (Appends (g.W.Outlet.taken c.args.writer.now) (g.W.Outlet.taken c.respond.new.writer))
-    c.whole_keeps_its_reading.ensures c.body_stays.ensures c.in-Some.ensures.received _ c.respond.ensures.exchanged
+    exchanged_to_all _ _ _ _ _ _ c.whole_keeps_its_reading.ensures c.body_stays.ensures c.in-Some.ensures.received (c.respond.new.desk ≡ c.args.desk.now)
+    (Appends (g.W.Outlet.taken c.args.writer.now) (g.W.Outlet.taken c.respond.new.writer)) _ c.respond.ensures.exchanged

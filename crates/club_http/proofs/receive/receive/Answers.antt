@@ -2,18 +2,12 @@ use Rattle.std.proofs.Common.{◌≡◌, ◌<◌, ◌≤◌, ◌+◌, ◌-◌, [
 use Rattle.std.proofs.{KnownBytes.{Consumes-kept, Consumes-nil, Consumes-trans}, lemmas.{Grind.common_steps, List.take-take, Slice.take-put_mid_below}}
 use borrow.Rule.Slice.PartMut.{put_mid}
 use Rattle.club_http.specs.Calls.{nothing, more}
-use Rattle.club_http.proofs.{ReceivedLemmas.{filled, within_request, not_so}, receive.receive.Goals.After-fill}
+use Rattle.club_http.proofs.{ReceivedLemmas.{filled, within_request, not_so, stops}, receive.receive.Goals.After-fill}
 use Rattle.club_http.proofs.receive.receive.Given as given
 use Rattle.club_http.proofs.receive.receive.Goals as goal
 
 pub loop-reader-init : goal.loop-reader-init
-loop-reader-init g c = record {
-  within = omega arith;
-  came = Consumes-nil _;
-  covers = c.requires.begins;
-  gave = nothing;
-  counted = refl;
-}
+loop-reader-init g c = record { within = omega arith; came = Consumes-nil _; covers = c.requires.begins; gave = nothing; counted = refl }
 
 -- A call of `fill` leaves the earlier bytes of the buffer unchanged.
 before : (g : given.Over) (c : After-fill g)
@@ -27,11 +21,7 @@ pub returns-clause-received : goal.returns-clause-received
 returns-clause-received g c = let inv = c.loop-reader.invariant in (
   inv.within,
   inv.covers,
-  record {
-    came = inv.came;
-    within = within_request _ _ inv.within;
-    ends = inl (c.is_whole.ensures.whole.0 c.loop-reader-test.false);
-  },
+  record { came = inv.came; within = within_request _ _ inv.within; ends = inl (c.is_whole.ensures.whole.0 c.loop-reader-test.false) },
 )
 
 pub returns-in-None-clause-cut_off : goal.returns-in-None-clause-cut_off
@@ -49,17 +39,8 @@ returns-in-None-clause-cut_off g c =
 pub returns-in-None-clause-calls : goal.returns-in-None-clause-calls
 returns-in-None-clause-calls g c =
     let inv = c.loop-reader.invariant in
-    rw (before g (goal.at.returns-in-None-clause-calls g c).After-fill) (record {
-      within = within_request _ _ inv.within;
-      calls =
-          inr (record {
-            mid = c.loop-reader.reader;
-            room = c.fill.new.room;
-            gave = inv.gave;
-            not_whole = not_so _ _ c.loop-reader-test.true c.is_whole.ensures.whole;
-            none = inr c.in-None.ensures.called;
-          });
-    })
+    rw (before g (goal.at.returns-in-None-clause-calls g c).After-fill)
+    (stops (within_request _ _ inv.within) inv.gave (not_so _ _ c.loop-reader-test.true c.is_whole.ensures.whole) (inr c.in-None.ensures.called))
 
 pub returns-in-Some-eq0-clause-received : goal.returns-in-Some-eq0-clause-received
 returns-in-Some-eq0-clause-received g c =
@@ -81,17 +62,9 @@ returns-in-Some-eq0-clause-received g c =
 pub returns-in-Some-eq0-clause-calls : goal.returns-in-Some-eq0-clause-calls
 returns-in-Some-eq0-clause-calls g c =
     let inv = c.loop-reader.invariant in
-    rw (before g (goal.at.returns-in-Some-eq0-clause-calls g c).After-fill) (record {
-      within = within_request _ _ inv.within;
-      calls =
-          inr (record {
-            mid = c.loop-reader.reader;
-            room = c.fill.new.room;
-            gave = inv.gave;
-            not_whole = not_so _ _ c.loop-reader-test.true c.is_whole.ensures.whole;
-            none = inl (rw c.in-Some-eq0.field-0-test at c.in-Some-eq0.ensures.called);
-          });
-    })
+    let called = rw c.in-Some-eq0.field-0-test at c.in-Some-eq0.ensures.called in
+    rw (before g (goal.at.returns-in-Some-eq0-clause-calls g c).After-fill)
+    (stops (within_request _ _ inv.within) inv.gave (not_so _ _ c.loop-reader-test.true c.is_whole.ensures.whole) (inl called))
 
 pub go_on-requires-clause-before : goal.go_on-requires-clause-before
 go_on-requires-clause-before g c =

@@ -4,12 +4,7 @@ use Rattle.club_http.specs.Calls.{not_put, put_again}
 use Rattle.club_http.proofs.send.put_all.Goals as goal
 
 pub loop-sent-init : goal.loop-sent-init
-loop-sent-init g c = record {
-  within = omega arith;
-  put = Appends-nil _;
-  counted = refl;
-  calls = not_put;
-}
+loop-sent-init g c = record { within = omega arith; put = Appends-nil _; counted = refl; calls = not_put }
 
 pub loop-sent-preserved : goal.loop-sent-preserved
 loop-sent-preserved g c =
