@@ -1,9 +1,9 @@
 -- Proofs of the laws about the answers of commands.
-use Rattle.std.proofs.Common.{◌≡◌, ◌∙◌, ℕ, List, Result, Ok, Err, MatchResult, refl, sym, ap, subst, arith, codes}
+use Rattle.std.proofs.Common.{◌≡◌, ◌∙◌, ℕ, List, Ok, Err, refl, sym, ap, arith, codes}
 use Rattle.std.proofs.lemmas.{Bool.Decides.nat_tests, List.Sums.fold-append}
 use Rattle.std.specs.Io.BufRead.{strip_last}
 use Rattle.pass_mac.specs.{Chain.{derived_key, extended_signature}, Hmac.hmac}
-use Rattle.pass_forms.specs.{Pass.{Plain}, declared.{fault.FormFault.FormFault, form.Form.Form}}
+use Rattle.pass_forms.specs.{Pass.{Plain}, declared.{form.Form.Form}}
 use Rattle.pass_json.specs.Laws.{OneReadingEachText, OneWritingEachForm}
 use Rattle.passtool_commands.specs.Answer.{IsVerdict, OutcomeText, ReadsPass, WritesPass, narrowing, new_pass, with_caveats}
 use Rattle.passtool_commands.specs.{Laws.{AnswersOnce, MintSigns, NarrowingKeepsSigned, VerifyDecidesSigned}, Listing.{listing_text, with_line_feed}}

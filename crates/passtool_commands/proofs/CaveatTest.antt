@@ -1,15 +1,10 @@
 -- Lemmas for the proof that arguments ask for at most one command.
-use Rattle.std.proofs.{Common.{◌≡◌, ◌↔◌, Bool, true, false, IsTrue, is_some, List, Option, Some, None, Result, refl, sym, ap, subst}, Math.Path.fun_ext}
+use Rattle.std.proofs.{Common.{◌≡◌, IsTrue, is_some, List, Option, Some, None, Result, refl, ap}, Math.Path.fun_ext, lemmas.Bool.Decides.same_from_decides}
 use Rattle.clap.specs.Words.{Row, Text}
 use Rattle.command_line.specs.{Job.Answers, JobLaws.{RowsAnswerOnce, ReadsOnce}, declared.errors.ArgumentsFault.ArgumentsFault}
 use Rattle.pass_caveats.specs.{Laws.ReadsWhatIsUnderstood, computed.CaveatOf.caveat_of, declared.caveat.Caveat.Caveat}
 use Rattle.passtool_commands.specs.{Arguments.{IsCaveatTest, IsCaveatText, ReadsCommand, command_of}, computed.Arguments.is_understood}
 use Rattle.passtool_commands.specs.declared.{answer.BadValue.BadValue as OurBadValue, command.Command.Command, table.Name.Name}
-
-same_test : (a b : Bool) (P : Type 0) → IsTrue a ↔ P → IsTrue b ↔ P → a ≡ b
-same_test true b P h k = sym (k.1 (h.0 refl))
-same_test false true P h k = h.1 (k.0 refl)
-same_test false false P h k = refl
 
 pub is_test : ReadsWhatIsUnderstood → IsCaveatTest is_understood
 is_test reads text = (found (caveat_of text) refl, λ is. ap is_some ((reads text is.0).0 is.1))
@@ -24,5 +19,5 @@ values_read reads name rows result is = record { is_understood = is_understood; 
 
 pub reads_once : RowsAnswerOnce Command OurBadValue → ReadsOnce ReadsCommand
 reads_once once name rows command result one other =
-    let alike = fun_ext (λ (text : Text). same_test _ _ (IsCaveatText text) (other.is_test text) (one.is_test text)) in
+    let alike = fun_ext (λ (text : Text). same_from_decides _ _ (other.is_test text) (one.is_test text)) in
     once (command_of one.is_understood name rows) command result one.answers (rw alike at other.answers)

@@ -1,6 +1,6 @@
 -- Lemmas for adding caveats to a pass one by one.
-use Rattle.std.proofs.Common.{◌≡◌, ◌∙◌, ℕ, ◌+◌, ◌<◌, ◌≤◌, List, [], ◌∷◌, length, map, drop, Result, Ok, Err, IsOk, inl, inr, ap, sym, refl, append_assoc, arith}
-use Rattle.std.proofs.{Math.ListN.drop_of_length-le, lemmas.{Bool.{cases_lt, le-ltb, lt-ltb}, List.{append-nil, drop_more, length-append, length-map}}}
+use Rattle.std.proofs.Common.{◌≡◌, ◌∙◌, ℕ, ◌+◌, ◌<◌, ◌≤◌, List, [], ◌∷◌, length, map, drop, Result, Ok, Err, IsOk, ap, sym, refl, append_assoc, arith}
+use Rattle.std.proofs.{Math.ListN.drop_of_length-le, lemmas.{Bool.{le-ltb, lt-ltb}, List.{append-nil, drop_more, length-append, length-map}}}
 use Rattle.std.specs.{Borrow.Bor, List.slice_index_or}
 use Rattle.pass_forms.specs.{Pass.Plain, Reading.{UnlessMemory, max_caveats}, Writing.{IsNarrowingFault, with_caveat}, declared.fault.FormFault.FormFault}
 use Rattle.pass_forms.specs.declared.fault.FormFault.TheVariants.{TooMany, Memory}
@@ -34,8 +34,7 @@ module _ (xs : List (Bor (List ℕ))) (i : ℕ) (pass now : Plain) (counted : le
   one_refused _ h full within = absurd h
 
 pub counted_on : (r : Result Unit FormFault) (n : ℕ) → IsOk r → (max_caveats ≤ n → r ≡ Err TooMany) → n < max_caveats
-counted_on (Ok x) n ok full = elim (cases_lt n max_caveats) [ inl less ↦ less | inr least ↦ let bad : Ok x ≡ Err TooMany = full least in cc ]
-counted_on (Err e) n ok full = cc ok
+counted_on r n ok full = grind (arith, full)
 
 pub grown : (caveat : List ℕ) (pass now : Plain) → now ≡ with_caveat caveat pass → length now.caveats ≡ length pass.caveats + 1
 grown caveat pass now added = ap (λ (p : Plain). length p.caveats) added ∙ length-append pass.caveats (caveat ∷ [])

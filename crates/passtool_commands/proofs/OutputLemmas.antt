@@ -1,18 +1,16 @@
 -- Lemmas for writing a pass.
-use Rattle.std.proofs.{Common.{◌≡◌, ℕ, List, Ok, Err, ap, sym, arith}, lemmas.Grind.common_steps}
+use Rattle.std.proofs.{Common.{◌≡◌, ℕ, List, Ok, Err, ap, sym, arith, rules}, lemmas.Grind.common_steps}
 use Rattle.std.specs.Io.BufRead.{strip_last}
 use Rattle.pass_forms.specs.{Pass.Plain, Reading.UnlessMemory, Writing.{IsV1Text, IsV2Text, IsWritableText, IsWriteFault, IsWriting}}
-use Rattle.pass_forms.specs.declared.{fault.FormFault.{FormFault, TheVariants.{TooLong, TooMany, Memory}}, form.Form.{Form, TheVariants.{V1, V2, Json}}}
+use Rattle.pass_forms.specs.declared.{fault.FormFault.{FormFault, TheVariants.{Memory}}, form.Form.{Form, TheVariants.{V1, V2, Json}}}
 use Rattle.pass_json.specs.{AnyForm.{IsAnyReading, IsRefusedIn, IsTextIn}, JsonWriting.IsJsonText}
 use Rattle.passtool_commands.specs.{Answer.{AnswersText, OutcomeText, WritesPass}, Listing.with_line_feed, declared.answer.Outcome.TheVariants.Done}
 use Rattle.passtool_commands.proofs.StepLemmas.{fails}
 
 fault_of_writing : (IsText : Plain → List ℕ → Type 0) (pass : Plain) (fault : FormFault) → IsWriteFault IsText pass fault
     → UnlessMemory (IsWriting IsText pass) (Err fault)
-fault_of_writing IsText pass TooLong is = is
-fault_of_writing IsText pass TooMany is = is
 fault_of_writing IsText pass Memory is = tt
-fault_of_writing IsText pass fault is = absurd is
+fault_of_writing IsText pass fault is = search rules
 
 refused_writing : (form : Form) (pass : Plain) (fault : FormFault) → IsRefusedIn form pass fault → UnlessMemory (IsWriting (IsTextIn form) pass) (Err fault)
 refused_writing V1 pass fault is = fault_of_writing IsV1Text pass fault is

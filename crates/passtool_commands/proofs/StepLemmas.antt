@@ -1,5 +1,5 @@
 -- Lemmas about `>>=`, which joins two steps of a command. Each of the two steps may fail.
-use Rattle.std.proofs.Common.{◌≡◌, ◌∙◌, Result, Ok, Err, MatchResult, refl, sym, subst}
+use Rattle.std.proofs.Common.{◌≡◌, ◌∙◌, Result, Ok, Err, MatchResult, refl, sym}
 use Rattle.pass_forms.specs.{Reading.UnlessMemory, declared.fault.FormFault.{FormFault, TheVariants.Memory}}
 use Rattle.passtool_commands.specs.Answer.{IsOnly, Results, ◌>>=◌}
 
