@@ -5,18 +5,17 @@ pub use Rattle.std.proofs.Common.{option_and_then, ◌-◌, IsTrue, ◌⊎◌, O
 pub use Rattle.std.proofs.Common.{◌<◌, min, vec_capacity, vec_len}
 pub use Rattle.std.proofs.lemmas.List.{map-append, length-append, take-append-drop, length-map, length-take, take_more}
 pub use Rattle.std.proofs.lemmas.List.Elements.{All-head, All-nil, All-tail, All-cons, All-append, All-weaker, All-contains_itself, All-contains, All-push}
-pub use Rattle.std.proofs.lemmas.Option.{same_Some, option_and_then_some}
 pub use Rattle.std.specs.Str.{bytes_eq}
 pub use Rattle.base64.specs.GeneralPurpose.{IsBytes}
-pub use Rattle.club_core.specs.Answer.{verdict_in, ask_of, answer_by_view, owed_at, answer_to}
+pub use Rattle.club_core.specs.Answer.{verdict_in, ask_of, answer_by_view, owed_at}
 pub use Rattle.club_core.specs.Basis.{basis_under, view_of, account_named, Basis, slot_use, view_in, basis_of, key_of, state_of}
-pub use Rattle.club_core.specs.{Club.{Club, IsSound, key_named, bookings_of, member_named, empty_club, facility_named}, Events.IsEvent, Office.office_verdict}
+pub use Rattle.club_core.specs.{Club.{Club, IsSound, key_named, bookings_of, member_named, empty_club}, Events.IsEvent, Office.office_verdict}
 pub use Rattle.club_core.specs.Pass.{Words, Pass, is_signed_under, IsSignedUnder}
-pub use Rattle.club_core.specs.Run.{Commanded, Asked, after_change, Event, command_outcome, step, replies_of, done_answer, ToMember, ToOffice}
+pub use Rattle.club_core.specs.Run.{Commanded, Asked, after_change, Event, step, replies_of, done_answer, ToMember, ToOffice}
 pub use Rattle.club_core.specs.{Store.{IsRead, KeepsClub, ReadsStore}, Sums.{spent_under, booking_under, count_to_come, cost_of}, declared.change.Change.Change}
 pub use Rattle.club_core.specs.declared.{refusal.Refusal.TheVariants.{Unavailable, KeyRevoked, NotVerified}, reply.Reply.Reply, request.Request.Request}
 pub use Rattle.club_core.specs.declared.{store.StoreFault.StoreFault, verdict.Verdict.Verdict, view.View.View}
-pub use Rattle.club_laws.specs.Failed.{IsRun, has_failed, IsStep, LeavesOutFailed, is_unavailable, NeverUnavailable}
+pub use Rattle.club_laws.specs.Failed.{IsRun, has_failed, IsStep, LeavesOutFailed, NeverUnavailable}
 pub use Rattle.club_laws.specs.SingleRequest.{words_with, DependsOnTheBasisAlone, MoreCaveatsNeverOpenMore, RefusesWithoutABasis, ServesOnlyTheEntitled}
 pub use Rattle.club_rows.specs.{Key.{row_of_key, key_of_row, older_root_at}, declared.key.{Key.Key, KeyRow.KeyRow}}
 pub use Rattle.pass_caveats.specs.{Fault.{first_fault_from, Allowed, Allows, first_fault_of, IsFaultAt}, Laws.{ReadsWhatIsUnderstood, FindsTheFaultAt}}
@@ -27,12 +26,12 @@ unfoldable pub use Rattle.pass_forms.specs.computed.Pass.{is_signed}
 pub use Rattle.pass_json.specs.{AnyForm.{IsAnyReading, IsReadingInForm, SpellsForm}, Laws.{ReadsAnyFormExactly, ReadsWhatIsWrapped}}
 pub use Rattle.pass_json.specs.computed.AnyForm.{reading, reading_in_form}
 pub use Rattle.club_gate.specs.{DecodedPass.{AreWordsOf, IsDecoded, IsSeenAs}, Desk.{Steps, HasFailed, IsDecidedBy, IsAnsweredBy, IsRefusedBy, others_after}}
-pub use Rattle.club_gate.specs.{Desk.{FitsIfAny, change_by, change_of, DecidesOrFails, FailsAt}, Events.{IsEventOfBytes, AreEventsOf, IsEventOf}}
+pub use Rattle.club_gate.specs.{Desk.{FitsIfAny, change_of, DecidesOrFails, FailsAt}, Events.{IsEventOfBytes, AreEventsOf, IsEventOf}}
 pub use Rattle.club_gate.specs.{Identifier.{key_in, FindsNames}, Laws.{Decodes, SeesEvents, SeenAlike, NamesItsRows}, Minted.identifier_of}
 pub use Rattle.club_gate.specs.Reading.{IsOnRecord, IsBlindPass, AgreesOnRecord}
 pub use Rattle.club_gate.specs.Response.{unavailable, desk_presentation, reply_or_unavailable, answer_or_fault, is_failure, office_reply_of, response_of}
 pub use Rattle.club_gate.specs.Runs.{IsFollowed, responses_of, MayBeLeft, DeskResponse, events_answered, IsLawfulRun, LeavesClub, FailedLast, MakesNoChange}
-pub use Rattle.club_gate.specs.{Runs.{Conserves, IsAnsweredRun, IsOnce, club_left, AreHandled}, Verify.{signer_of, OfItsPass, ReadsOrLacksMemory}}
+pub use Rattle.club_gate.specs.{Runs.{Conserves, IsAnsweredRun, IsOnce, club_left, AreHandled}, Verify.{signer_of, OfItsPass}}
 pub use Rattle.club_gate.specs.computed.DecodedPass.{decoded_words, machine_events, machine_pass, without_form, decoded_or_fault, decoded_pass, machine_event}
 pub use Rattle.club_gate.specs.computed.DecodedPass.{words_in_form}
 unfoldable pub use Rattle.club_gate.specs.Identifier.{key_name_in}

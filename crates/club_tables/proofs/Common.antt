@@ -16,7 +16,7 @@ pub use Rattle.std.{specs.Cmp.{unsigned_Decides, IsTotalOrder, int_cmp_is, Equal
 pub use Rattle.std.proofs.lemmas.Slice.Eq.{bytes_eq-Decides}
 pub use Rattle.std.{specs.{Option.{option_or, option_to_list}, Prelude.{unwrap_or, max, is_some}, Str.bytes_eq}, proofs.lemmas.List.Quantifiers.all_pairs_push}
 pub use Rattle.std.proofs.lemmas.{Bool.Decides.nat_tests, Cmp.{nat_list_eq_equiv, tied_itself, ranked, nat_cmp_total, nat_list_cmp_total, on_total, then_total}}
-pub use Rattle.club_core.specs.After.{credited_member, after, cancelled_booking, revoked_key, rotated_key, good_until, is_marked, debited_member}
+pub use Rattle.club_core.specs.After.{credited_member, after, cancelled_booking, revoked_key, rotated_key, good_until, debited_member}
 pub use Rattle.club_core.specs.{After.{facility_with_numbers, closed_but, member_with_quota}, declared.{store.StoreFault.StoreFault, slot_use.SlotUse.SlotUse}}
 pub use Rattle.club_core.specs.{Store.{IsOwnedBy, IsTrueOf, IsToCancel, FitsClub, HasRoot, HasFacility}, declared.store.StoreFault.TheVariants.Storage}
 pub use Rattle.club_core.specs.{Basis.slot_use, Sums.{booking_under, cost_of, taken_in, is_in, is_under, is_to_come, count_to_come, is_at, most_taken_in}}

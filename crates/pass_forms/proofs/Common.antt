@@ -2,7 +2,7 @@
 pub use Rattle.std.proofs.Common.{arith, ◌≡◌, ℕ, List, length, refl, [], ◌≤◌, ◌∙◌, ◌++◌, ◌∷◌, ap, sym, append_assoc, ◌+◌, rules, suc, ◌<◌, Bool, map, subst}
 pub use Rattle.std.proofs.Common.{◌↔◌, zero, ◌/◌, true, false, ◌*◌, ltb, inl, inr, ◌-◌, take, drop, ◌^◌, Result, Ok, cond, ◌%◌, slice_index, Option, None, Err}
 pub use Rattle.std.proofs.Common.{Some, ◌⊎◌, ◌==◌, ◌||◌, option_map, not, if◌then◌else◌, replicate, IfSome, is_some, codes, ◌&&◌, leb, Vec, Global, fold, IsOk}
-pub use Rattle.std.proofs.{Common.MatchResult, lemmas.Bool.{lt-ltb, le-ltb, cases_lt, and_parts, or_parts, cases_Bool, leb-true, ltb-false, ltb-true}}
+pub use Rattle.std.proofs.{Common.MatchResult, lemmas.Bool.{lt-ltb, le-ltb, cases_lt, and_parts, or_parts, cases_Bool, leb-true}}
 pub use Rattle.std.proofs.lemmas.{Bool.Decides.{nat_tests, Decides-eqb}, Grind.{common_steps, elements}, List.{length-append, append-nil, take-append-drop}}
 pub use Rattle.std.proofs.lemmas.List.{length-map, get_or-drop, drop-take, take-take, take_at, drop_at, length-take, length-drop}
 pub use Rattle.std.proofs.lemmas.Option.{same_Some, cond_some, some_pair_parts}

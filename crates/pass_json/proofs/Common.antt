@@ -8,7 +8,7 @@ pub use Rattle.std.specs.{List.{list_any, AllByRecursion, list_all}, Option.{opt
 pub use Rattle.base64.specs.GeneralPurpose.{encode_of, IsBytes}
 pub use Rattle.pass_forms.specs.Envelope.{IsUnwrapped, IsBase64, Wraps, starts_with_brace}
 pub use Rattle.pass_forms.specs.Laws.{FromBase64IsBase64, ReadsTextsExactly, ComputesSpelled, TextsReadBack, WritesExactly, AnswersExactly, WrapsOne}
-pub use Rattle.pass_forms.specs.Pass.{Plain, WidePass, WideCaveat, as_wide_pass, is_third_party, first_party_caveat, widened_caveat}
+pub use Rattle.pass_forms.specs.Pass.{Plain, WidePass, WideCaveat, as_wide_pass, widened_caveat}
 pub use Rattle.pass_forms.specs.Reading.{IsReadAs, max_text_len, UnlessMemory, max_caveats}
 pub use Rattle.pass_forms.specs.{Writing.{HasBytes, IsReadBack, IsWritableText, IsWriting, FailsAs, v1_bytes, v2_bytes}, declared.fault.FormFault.FormFault}
 pub use Rattle.pass_forms.specs.declared.{fault.FormFault.TheVariants.{TooLong, Malformed, TooMany, Memory}, form.Form.{Form, TheVariants.{V1, V2, Json}}}
