@@ -62,7 +62,10 @@ static COMMANDS: [(&[u8], u8); 19] = [
     (br#"[null,"clubdesk","add-member","club","amy","5"]"#, 2),
     (br#"[["","clubdesk","add-member","club","amy","5"]]"#, 2),
     (br#"{"":["clubdesk","add-member","club","amy","5"]}"#, 2),
-    (b"[\"\",\"clubdesk\",\"add-member\",\"club\",\"am\xff\",\"5\"]", 2),
+    (
+        b"[\"\",\"clubdesk\",\"add-member\",\"club\",\"am\xff\",\"5\"]",
+        2,
+    ),
     (b"5\0\0clubdesk\0add-member\0club\0amy\05\0", 2),
     (b"[]", 2),
     (br#"[""]"#, 2),
@@ -72,9 +75,15 @@ static COMMANDS: [(&[u8], u8); 19] = [
     (br#"["","clubdesk","serve","club","--port","0"]"#, 2),
     (br#"["","clubdesk","add-member","club","amy","none"]"#, 3),
     (br#"["","clubdesk","add-member","club","a\u0000","5"]"#, 3),
-    (b"[\"\",\"clubdesk\",\"add-member\",\"club\",\"\xc3\x84\",\"5\"]", 3),
+    (
+        b"[\"\",\"clubdesk\",\"add-member\",\"club\",\"\xc3\x84\",\"5\"]",
+        3,
+    ),
     (WHOLE, 0),
-    (br#" [ "", "clubdesk", "add-member", "club", "a\u006dy", "5" ] "#, 1),
+    (
+        br#" [ "", "clubdesk", "add-member", "club", "a\u006dy", "5" ] "#,
+        1,
+    ),
 ];
 
 fn hand_over<S: ClubStore + Drop>(rt: &HostRuntime, store: S) -> Result<(), Fail> {
