@@ -1,11 +1,12 @@
 -- Defines how a change edits the club's rows.
-use Rattle.std.specs.{Prelude.{ℕ, ◌+◌, ◌-◌, ◌==◌, ◌&&◌, ◌||◌, not, Bool, List, [], ◌∷◌, ◌++◌, map, filter, Some, if◌then◌else◌}, Str.bytes_eq}
-use Rattle.club_values.specs.declared.slot.Slot.{Slot}
+use Rattle.std.specs.Prelude.{ℕ, ◌+◌, ◌-◌, ◌==◌, ◌&&◌, ◌||◌, not, Bool, List, [], ◌∷◌, ◌++◌, map, filter, Some, if◌then◌else◌, ◌≡◌, ◌≤◌, ◌<◌, ◌^◌, true, false}
+use Rattle.std.specs.{Prelude.None, Str.bytes_eq}
+use Rattle.club_values.specs.{declared.slot.Slot.Slot, Moment.IsMoment}
 use Rattle.club_rows.specs.{Booking.same_slot, declared.{booking.Booking.Booking, facility.Facility.Facility, key.{Key.Key, OlderRoot.OlderRoot}}}
-use Rattle.club_rows.specs.declared.member.Member.{Member}
-use Rattle.club_core.specs.{Club.Club, Sums.is_under, declared.change.Change.{Change, TheVariants.{InsertMember, AddCredit, TakeCredit, InsertFacility}}}
-use Rattle.club_core.specs.declared.change.Change.TheVariants.{ReplaceNumbers, InsertKey, MarkRevoked, ReplaceRoot, MarkClosed, MarkOpen, ReplaceQuota}
-use Rattle.club_core.specs.declared.change.Change.TheVariants.{InsertBooking, MarkCancelled}
+use Rattle.club_rows.specs.{declared.member.Member.Member, Limits.{IsRoot, quota_limit}, Rows.{IsMember, IsFacility, IsKey, IsSlot, IsBooking}}
+use Rattle.club_core.specs.{Club.{Club, is_key_of}, Sums.is_under, declared.change.Change.{Change, TheVariants.{InsertMember, AddCredit, TakeCredit}}}
+use Rattle.club_core.specs.declared.change.Change.TheVariants.{InsertFacility, ReplaceNumbers, InsertKey, MarkRevoked, ReplaceRoot, MarkClosed, MarkOpen}
+use Rattle.club_core.specs.{declared.change.Change.TheVariants.{ReplaceQuota, InsertBooking, MarkCancelled}, Office.are_limits}
 
 -- A member's row after a credit. Only the row of the member with this name changes.
 abbrev pub credited_member : List ℕ → ℕ → Member → Member
@@ -78,3 +79,53 @@ after (MarkClosed slot) club = record club { closed = club.closed ++ slot ∷ []
 after (MarkOpen slot) club = record club { closed = closed_but slot club.closed }
 after (InsertBooking booking member) club = record club { bookings = club.bookings ++ booking ∷ [] }
 after (MarkCancelled booking member refund) club = record club { bookings = map (cancelled_booking booking.key booking.number refund) club.bookings }
+
+-- The values of a change are within their limits. A new key must have no older root, because the
+-- statement that inserts a key doesn't store an older root.
+abbrev pub InLimits : Change → Type 0
+InLimits (InsertMember member) = IsMember member
+InLimits (AddCredit name points) = points < 2 ^ 32
+InLimits (TakeCredit name points) = points < 2 ^ 32
+InLimits (ReplaceQuota name quota) = quota ≤ quota_limit
+InLimits (InsertFacility facility) = IsFacility facility
+InLimits (ReplaceNumbers name places price opens shuts) = are_limits places price opens shuts ≡ true
+InLimits (InsertKey key) = IsKey key × (key.older ≡ None)
+InLimits (MarkRevoked name) = Unit {0}
+InLimits (ReplaceRoot key former root until) = IsRoot root × IsMoment until
+InLimits (MarkClosed slot) = IsSlot slot
+InLimits (MarkOpen slot) = IsSlot slot
+InLimits (InsertBooking booking member) = IsBooking booking
+InLimits (MarkCancelled booking member refund) = refund ≤ booking.charge
+
+-- Whether a change by the office affects the member's part of the club. The member's part contains
+-- the member's row, keys and bookings, and all facilities.
+abbrev pub is_own : List ℕ → Club → Change → Bool
+is_own name club (InsertMember member) = bytes_eq member.name name
+is_own name club (AddCredit member points) = bytes_eq member name
+is_own name club (TakeCredit member points) = bytes_eq member name
+is_own name club (ReplaceQuota member quota) = bytes_eq member name
+is_own name club (InsertFacility facility) = true
+is_own name club (ReplaceNumbers facility places price opens shuts) = true
+is_own name club (InsertKey key) = bytes_eq key.member name
+is_own name club (MarkRevoked key) = is_key_of name club key
+is_own name club (ReplaceRoot key former root until) = is_key_of name club key
+is_own name club (MarkClosed slot) = false
+is_own name club (MarkOpen slot) = false
+is_own name club (InsertBooking booking member) = false
+is_own name club (MarkCancelled booking member refund) = is_key_of name club booking.key
+
+-- Whether the change adds a row.
+abbrev pub is_growth : Change → Bool
+is_growth (InsertMember member) = true
+is_growth (AddCredit member points) = false
+is_growth (TakeCredit member points) = false
+is_growth (ReplaceQuota member quota) = false
+is_growth (InsertFacility facility) = true
+is_growth (ReplaceNumbers facility places price opens shuts) = false
+is_growth (InsertKey key) = true
+is_growth (MarkRevoked key) = false
+is_growth (ReplaceRoot key former root until) = false
+is_growth (MarkClosed slot) = true
+is_growth (MarkOpen slot) = false
+is_growth (InsertBooking booking member) = true
+is_growth (MarkCancelled booking member refund) = false

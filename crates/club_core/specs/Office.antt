@@ -1,17 +1,33 @@
 -- Defines how the rules decide the office's commands. Each decision is a list of conditions with
 -- results. The first true condition determines the result.
 use Rattle.std.specs.{Prelude.{ℕ, ◌+◌, ◌&&◌, not, Bool, false, List, [], ◌∷◌, nat_lt, nat_le, is_some, Option, Some, None, Result, Ok, Err}, Str.bytes_eq}
-use Rattle.club_values.specs.declared.slot.Slot.{Slot}
-use Rattle.club_rows.specs.{Facility.is_open_at, Limits.{credited_limit, quota_limit, places_limit, price_limit, shutting_limit}}
-use Rattle.club_rows.specs.declared.{booking.Booking.Booking, facility.Facility.Facility, key.Key.Key, member.Member.Member}
+use Rattle.club_values.specs.{declared.slot.Slot.Slot, Moment.IsMoment, Name.IsName}
+use Rattle.club_rows.specs.{Facility.is_open_at, Limits.{credited_limit, quota_limit, places_limit, price_limit, shutting_limit, IsBookingNumber, IsRoot}}
+use Rattle.club_rows.specs.{declared.{booking.Booking.Booking, facility.Facility.Facility, key.Key.Key, member.Member.Member}, Rows.IsSlot}
 use Rattle.club_core.specs.{Basis.{account_named, slot_use}, Club.{Club, member_named, facility_named, key_named}, Lines.{line_if, first_of}}
 use Rattle.club_core.specs.{Sums.{booking_under, most_taken_in}, declared.{account.MemberAccount.MemberAccount, change.Change.Change}}
 use Rattle.club_core.specs.declared.change.Change.TheVariants.{InsertMember, AddCredit, TakeCredit, InsertFacility, ReplaceNumbers, InsertKey, MarkRevoked}
 use Rattle.club_core.specs.declared.{change.Change.TheVariants.{ReplaceRoot, MarkClosed, MarkOpen, MarkCancelled, ReplaceQuota}, command.Command.Command}
 use Rattle.club_core.specs.declared.command.Command.TheVariants.{AddMember, Credit, Debit, AddFacility, SetFacility, AddKey, RevokeKey, RotateKey}
-use Rattle.club_core.specs.declared.command.{Command.TheVariants.{CancelBooking, CloseSlot, OpenSlot, SetQuota}, OfficeFault.OfficeFault}
-use Rattle.club_core.specs.declared.{command.OfficeFault.TheVariants.{Exists, Unknown, OutOfRange, SlotInUse}, command_view.CommandView.CommandView}
-use Rattle.club_core.specs.declared.slot_use.SlotUse.{SlotUse}
+use Rattle.club_core.specs.declared.command.{Command.TheVariants.{CancelBooking, CloseSlot, OpenSlot, SetQuota}, OfficeFault.{OfficeFault, TheVariants.Exists}}
+use Rattle.club_core.specs.declared.{command.OfficeFault.TheVariants.{Unknown, OutOfRange, SlotInUse}, command.CommandView.CommandView}
+use Rattle.club_core.specs.declared.{slot_use.SlotUse.SlotUse, command.OfficeAnswer.{OfficeAnswer, TheVariants.{Done, NewKey}}}
+
+-- Each name, slot, booking number, root and moment of the command is within its limits.
+-- `command_verdict` checks the other numbers.
+abbrev pub IsCommand : Command → Type 0
+IsCommand (AddMember name quota) = IsName name
+IsCommand (Credit member points) = IsName member
+IsCommand (Debit member points) = IsName member
+IsCommand (SetQuota member quota) = IsName member
+IsCommand (AddFacility name kind places price opens shuts) = IsName name
+IsCommand (SetFacility name places price opens shuts) = IsName name
+IsCommand (AddKey name member root) = IsName name × IsName member × IsRoot root
+IsCommand (RevokeKey name) = IsName name
+IsCommand (RotateKey name root until) = IsName name × IsRoot root × IsMoment until
+IsCommand (CancelBooking key number) = IsName key × IsBookingNumber number
+IsCommand (CloseSlot slot) = IsSlot slot
+IsCommand (OpenSlot slot) = IsSlot slot
 
 -- A command's view that has only these rows.
 abbrev pub rows_seen : Option Member → Option Key → Option Facility → CommandView
@@ -125,3 +141,19 @@ command_verdict view (OpenSlot slot) = first_of (line_if (not (is_some view.faci
 -- A club's decision on a command.
 abbrev pub office_verdict : Club → Command → Result (Option Change) OfficeFault
 office_verdict club command = command_verdict (command_view club command) command
+
+-- The answer to a command that succeeded. If the command sets a key's root, the answer contains the
+-- key's name and root, which determine the signatures of passes.
+abbrev pub done_answer : Command → OfficeAnswer
+done_answer (AddMember name quota) = Done
+done_answer (Credit member points) = Done
+done_answer (Debit member points) = Done
+done_answer (SetQuota member quota) = Done
+done_answer (AddFacility name kind places price opens shuts) = Done
+done_answer (SetFacility name places price opens shuts) = Done
+done_answer (AddKey name member root) = NewKey name root
+done_answer (RevokeKey name) = Done
+done_answer (RotateKey name root until) = NewKey name root
+done_answer (CancelBooking key number) = Done
+done_answer (CloseSlot slot) = Done
+done_answer (OpenSlot slot) = Done

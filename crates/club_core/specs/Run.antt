@@ -1,9 +1,7 @@
 -- Defines the club as a state machine, with its steps and its runs.
 use Rattle.std.specs.Prelude.{ℕ, List, [], ◌∷◌, Option, Some, None, Result, Ok, Err}
-use Rattle.club_core.specs.{After.after, Answer.verdict_in, Club.Club, Office.office_verdict, Pass.Words, declared.change.Change.Change}
-use Rattle.club_core.specs.declared.command.Command.{Command, TheVariants.{AddMember, Credit, Debit, AddFacility, SetFacility, AddKey, RevokeKey, RotateKey}}
-use Rattle.club_core.specs.declared.command.{Command.TheVariants.{CancelBooking, CloseSlot, OpenSlot, SetQuota}, OfficeAnswer.OfficeAnswer}
-use Rattle.club_core.specs.declared.{command.{OfficeAnswer.TheVariants.{Done, NewKey, NotDone}, OfficeFault.OfficeFault}, reply.Reply.Reply}
+use Rattle.club_core.specs.{After.after, Answer.verdict_in, Club.Club, Office.{office_verdict, done_answer}, Pass.Words, declared.change.Change.Change}
+use Rattle.club_core.specs.declared.{command.{Command.Command, OfficeAnswer.{OfficeAnswer, TheVariants.NotDone}, OfficeFault.OfficeFault}, reply.Reply.Reply}
 use Rattle.club_core.specs.declared.verdict.Verdict.{Verdict}
 
 -- A request and the moment when the request comes, or a command of the office.
@@ -30,22 +28,6 @@ pub record Outcome : Type 0 where
 abbrev pub after_change : Option Change → Club → Club
 after_change None club = club
 after_change (Some change) club = after change club
-
--- The answer to a command that succeeded. If the command sets a key's root, the answer contains the
--- key's name and root, which determine the signatures of passes.
-abbrev pub done_answer : Command → OfficeAnswer
-done_answer (AddMember name quota) = Done
-done_answer (Credit member points) = Done
-done_answer (Debit member points) = Done
-done_answer (SetQuota member quota) = Done
-done_answer (AddFacility name kind places price opens shuts) = Done
-done_answer (SetFacility name places price opens shuts) = Done
-done_answer (AddKey name member root) = NewKey name root
-done_answer (RevokeKey name) = Done
-done_answer (RotateKey name root until) = NewKey name root
-done_answer (CancelBooking key number) = Done
-done_answer (CloseSlot slot) = Done
-done_answer (OpenSlot slot) = Done
 
 -- A command's answer, and the club after the command. A refused command leaves the club unchanged.
 -- A command without a change succeeds and leaves the club unchanged.

@@ -2,15 +2,13 @@
 -- keys and bookings, and all facilities. The events are the member's requests, and the office's
 -- changes to these rows. For each request, the event also states the number of persons in the slot,
 -- not counting the member's bookings, and whether the slot is closed.
-use Rattle.std.specs.Prelude.{ℕ, ◌+◌, not, Bool, true, false, List, [], ◌∷◌, ◌++◌, filter, Option, Some, None, Result, Ok, Err, option_map, if◌then◌else◌}
-use Rattle.std.specs.Str.{bytes_eq}
+use Rattle.std.specs.{Prelude.{ℕ, ◌+◌, not, List, [], ◌∷◌, ◌++◌, filter, Option, Some, None, Result, Ok, Err, option_map, if◌then◌else◌}, Str.bytes_eq}
 use Rattle.club_values.specs.declared.slot.Slot.{Slot}
 use Rattle.club_rows.specs.declared.{booking.Booking.Booking, member.Member.Member}
-use Rattle.club_core.specs.{After.after, Answer.answer_by_basis, Basis.{Basis, basis_of, slot_use_by}, Club.{Club, keys_of, is_key_of, bookings_of}}
+use Rattle.club_core.specs.{After.{after, is_own}, Answer.answer_by_basis, Basis.{Basis, basis_of, slot_use_by}, Club.{Club, keys_of, is_key_of, bookings_of}}
 use Rattle.club_core.specs.{Office.office_verdict, Pass.Words, Request.request_slot, Run.{Event, Asked, Commanded, step, after_change}}
-use Rattle.club_core.specs.declared.change.Change.{Change, TheVariants.{InsertMember, AddCredit, TakeCredit, InsertFacility, ReplaceNumbers, InsertKey}}
-use Rattle.club_core.specs.declared.change.Change.TheVariants.{MarkRevoked, ReplaceRoot, MarkClosed, MarkOpen, ReplaceQuota, InsertBooking, MarkCancelled}
-use Rattle.club_core.specs.declared.{command.OfficeFault.OfficeFault, reply.Reply.Reply, slot_use.SlotUse.SlotUse, verdict.Verdict.Verdict}
+use Rattle.club_core.specs.declared.{change.Change.Change, command.OfficeFault.OfficeFault, reply.Reply.Reply, slot_use.SlotUse.SlotUse}
+use Rattle.club_core.specs.declared.verdict.Verdict.{Verdict}
 
 abbrev pub bookings_of_others : List ℕ → Club → List Booking
 bookings_of_others member club = filter (λ (booking : Booking). not (is_key_of member club booking.key)) club.bookings
@@ -26,23 +24,6 @@ outside member club slot = slot_use_by (bookings_of_others member club) club slo
 pub data OwnEvent : Type 0 where
   OwnAsk : (words : Words) (moment : ℕ) (others : SlotUse) → OwnEvent
   OwnChange : (change : Change) → OwnEvent
-
--- Whether a change by the office affects the member's part of the club. The member's part contains
--- the member's row, keys and bookings, and all facilities.
-abbrev pub is_own : List ℕ → Club → Change → Bool
-is_own name club (InsertMember member) = bytes_eq member.name name
-is_own name club (AddCredit member points) = bytes_eq member name
-is_own name club (TakeCredit member points) = bytes_eq member name
-is_own name club (ReplaceQuota member quota) = bytes_eq member name
-is_own name club (InsertFacility facility) = true
-is_own name club (ReplaceNumbers facility places price opens shuts) = true
-is_own name club (InsertKey key) = bytes_eq key.member name
-is_own name club (MarkRevoked key) = is_key_of name club key
-is_own name club (ReplaceRoot key former root until) = is_key_of name club key
-is_own name club (MarkClosed slot) = false
-is_own name club (MarkOpen slot) = false
-is_own name club (InsertBooking booking member) = false
-is_own name club (MarkCancelled booking member refund) = is_key_of name club booking.key
 
 abbrev pub own_change : List ℕ → Club → Result (Option Change) OfficeFault → List OwnEvent
 own_change name club (Err fault) = []

@@ -1,9 +1,12 @@
-//! Defines the commands of the office, with their answers and faults.
+//! Defines the commands of the office, the rows and sums that decide them, and their answers and
+//! faults.
 
 ghost use Rattle.std.specs.Prelude.{◌≡◌};
 
+use crate::account::MemberAccount;
 use crate::request::slot_within;
-use club_rows::{BookingNumber, Root};
+use crate::slot_use::SlotUse;
+use club_rows::{Booking, BookingNumber, Facility, Key, Member, Root};
 use club_values::{Kind, Moment, Name, Slot};
 use std::error::Error;
 use std::fmt;
@@ -76,6 +79,23 @@ pub enum Command {
     OpenSlot(Slot),
 }
 
+/// The rows and sums that the rules need to decide a command. A field that the command doesn't need
+/// is `None` or 0. Only the command `CloseSlot` needs the field `slot`. For other commands,
+/// `slot.taken` is 0 and `slot.closed` is false.
+#[derive(Clone, Copy, Debug, PartialEq, Eq)]
+pub struct CommandView {
+    pub member: Option<Member>,
+    /// The member's row and balance, for the command `Debit`.
+    pub account: Option<MemberAccount>,
+    pub key: Option<Key>,
+    pub facility: Option<Facility>,
+    pub slot: SlotUse,
+    /// The highest number of persons in any slot of the facility, for the command `SetFacility`.
+    pub most_taken: u32,
+    /// The booking that the command `CancelBooking` names.
+    pub booking: Option<Booking>,
+}
+
 /// The reason why a command of the office is refused.
 #[derive(Clone, Copy, Debug, PartialEq, Eq)]
 pub enum OfficeFault {
@@ -110,7 +130,7 @@ impl fmt::Display for OfficeFault {
 impl Error for OfficeFault {}
 
 impl Command {
-    ghost use Rattle.club_core.specs.Events.{IsCommand};
+    ghost use Rattle.club_core.specs.Office.{IsCommand};
 
     /// Exists only for its contract, which states that the names, slots, roots, booking numbers and
     /// moments of a command are within their limits.
@@ -157,7 +177,7 @@ pub enum OfficeAnswer {
 }
 
 impl OfficeAnswer {
-    ghost use Rattle.club_core.specs.Run.{done_answer};
+    ghost use Rattle.club_core.specs.Office.{done_answer};
 
     /// Returns the answer to a command that succeeded.
     pub fn done(command: &Command) -> OfficeAnswer

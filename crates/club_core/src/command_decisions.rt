@@ -8,8 +8,7 @@ ghost use Rattle.club_core.specs.Office.{are_limits, are_points, command_verdict
 ghost use Rattle.club_core.specs.Office.{office_cancel_verdict};
 
 use crate::change::Change;
-use crate::command::{Command, MAX_POINTS, OfficeFault};
-use crate::command_view::CommandView;
+use crate::command::{Command, CommandView, MAX_POINTS, OfficeFault};
 use club_rows::{
     Facility, Key, LAST_HOUR, MAX_CREDITED, MAX_PLACES, MAX_PRICE, MAX_QUOTA, Member, Root,
 };

@@ -7,7 +7,6 @@ mod account;
 mod change;
 mod command;
 mod command_decisions;
-mod command_view;
 mod decisions;
 pub mod laws;
 mod pass_fault;
@@ -29,9 +28,8 @@ pub use club_rows::{
     LAST_HOUR, MAX_BOOKING_NUMBER, MAX_CHARGE, MAX_CREDITED, MAX_GUESTS, MAX_PLACES, MAX_PRICE,
     MAX_QUOTA, MAX_ROOT_LEN, MIN_ROOT_LEN, Member, OlderRoot, Root, slot_from_columns,
 };
-pub use command::{Command, MAX_POINTS, OfficeAnswer, OfficeFault};
+pub use command::{Command, CommandView, MAX_POINTS, OfficeAnswer, OfficeFault};
 pub use command_decisions::decide_command;
-pub use command_view::CommandView;
 pub use decisions::{decide, decide_account, decide_book, decide_cancel, decide_view};
 pub use pass_fault::PassFault;
 pub use refusal::{Refusal, Resource};

@@ -11,7 +11,8 @@ pub use Rattle.club_core.specs.Answer.{verdict_in, ask_of, answer_by_view, owed_
 pub use Rattle.club_core.specs.Basis.{basis_under, view_of, account_named, Basis, slot_use, view_in, basis_of, key_of, state_of}
 pub use Rattle.club_core.specs.{Club.{Club, IsSound, key_named, bookings_of, member_named, empty_club}, Events.IsEvent, Office.office_verdict}
 pub use Rattle.club_core.specs.Pass.{Words, Pass, is_signed_under, IsSignedUnder}
-pub use Rattle.club_core.specs.Run.{Commanded, Asked, after_change, Event, step, replies_of, done_answer, ToMember, ToOffice}
+pub use Rattle.club_core.specs.Run.{Commanded, Asked, after_change, Event, step, replies_of, ToMember, ToOffice}
+pub use Rattle.club_core.specs.Office.{done_answer}
 pub use Rattle.club_core.specs.{Store.{IsRead, KeepsClub, ReadsStore}, Sums.{spent_under, booking_under, count_to_come, cost_of}, declared.change.Change.Change}
 pub use Rattle.club_core.specs.declared.{refusal.Refusal.TheVariants.{Unavailable, KeyRevoked, NotVerified}, reply.Reply.Reply, request.Request.Request}
 pub use Rattle.club_core.specs.declared.{store.StoreFault.StoreFault, verdict.Verdict.Verdict, view.View.View}

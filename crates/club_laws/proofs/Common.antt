@@ -10,9 +10,11 @@ pub use Rattle.club_core.specs.{Acceptance.{IsAllowedBy, IsAcceptedIn, IsServed,
 pub use Rattle.club_core.specs.{After.{cancelled_booking, credited_member, debited_member, member_with_quota, facility_with_numbers}, Answer.verdict_in}
 pub use Rattle.club_core.specs.{Answer.{answer_to, ask_of, form_refusal, answer_by_basis}, Basis.{Basis, basis_of, view_of, key_of, state_of, club_account}}
 pub use Rattle.club_core.specs.{Basis.SlotState, Club.{Club, is_key_of, bookings_of, key_named, member_named, keys_of, IsSound, facility_named, empty_club}}
-pub use Rattle.club_core.specs.{Club.{is_closed, HasReferences}, Events.{IsEvent, IsCommand, IsRequest}, Laws.{TestsTheSignature, OwnBookings}}
+pub use Rattle.club_core.specs.{Club.{is_closed, HasReferences}, Events.{IsEvent, IsRequest}, Laws.{TestsTheSignature, OwnBookings}}
+pub use Rattle.club_core.specs.Office.{IsCommand}
 pub use Rattle.club_core.specs.{Office.{office_verdict, are_limits}, Pass.{Words, Pass, is_signed_under}, Request.{request_slot, request_number}, Run.step}
-pub use Rattle.club_core.specs.Run.{Event, Asked, Commanded, after_change, command_outcome, club_after, replies_of, ToMember, EventReply, ToOffice, done_answer}
+pub use Rattle.club_core.specs.Run.{Event, Asked, Commanded, after_change, command_outcome, club_after, replies_of, ToMember, EventReply, ToOffice}
+pub use Rattle.club_core.specs.Office.{done_answer}
 pub use Rattle.club_core.specs.{Run.{Outcome, Response, verdict_outcome}, Sums.{taken_in, booking_under, is_under, cost_of, is_in, balance_of}}
 pub use Rattle.club_core.specs.declared.change.Change.{Change, TheVariants.{InsertKey, MarkRevoked, ReplaceRoot, InsertBooking, MarkCancelled, InsertMember}}
 pub use Rattle.club_core.specs.declared.change.Change.TheVariants.{AddCredit, InsertFacility, MarkClosed, MarkOpen, ReplaceQuota, TakeCredit, ReplaceNumbers}

@@ -9,7 +9,8 @@ use std::alloc::AllocError;
 
 impl Club {
     ghost use Rattle.club_core.specs.After.{after};
-    ghost use Rattle.club_reference.specs.{Growth.is_growth, Widths.FitsWidths};
+    ghost use Rattle.club_reference.specs.Widths.FitsWidths;
+    ghost use Rattle.club_core.specs.After.{is_growth};
 
     /// Applies a change. Only a change that adds a row needs memory. If memory runs out, the club
     /// doesn't change.

@@ -56,7 +56,8 @@ pub use Rattle.club_tables.specs.{Answers.{OfOpen, IsCount, OfSlot, OfCosts, OfT
 pub use Rattle.club_tables.specs.{Statements.{select, is_given, in_order}, declared.texts.TheConstants.TAKE_CREDIT, Sheet.{AreBookings, ShowsDay}}
 pub use Rattle.club_tables.specs.{Fault.{Commits, FailsInTurn, FailsToRun, StopsAt, FailsToPrepare}, Opening.{HasOrGetsIndex, Understands, index_text}}
 pub use Rattle.club_tables.specs.Transaction.{IsIdle, MayCommit, fault_by, BoundStatement, transaction_start, IsKept, Ran, IsUnderstood, RanInTurn, Asked}
-pub use Rattle.club_tables.specs.{Transaction.{IsUntouched, bound_statement}, ReadsAndChanges.{InLimits, ReadsClub, ChangesClub, IsChangeFault, IsRunFault}}
+pub use Rattle.club_tables.specs.{Transaction.{IsUntouched, bound_statement}, ReadsAndChanges.{ReadsClub, ChangesClub, IsChangeFault, IsRunFault}}
+pub use Rattle.club_core.specs.After.{InLimits}
 pub use Rattle.club_tables.specs.{ChangeStatements.{used_values, statements_of, adding_booking, cancelling, AreStatementsOf, numbers_values}, Stored.older_by}
 pub use Rattle.club_tables.specs.{declared.row.MemberRow.MemberRow, Tables.without_olders}
 pub use Rattle.club_tables.specs.declared.texts.TheConstants.{CHARGE, SET_NUMBERS, TAKEN, VERSION, ADD_USED, MAKE_DESK, DROP_BOOKINGS_BY_KEY, OLDER_ROOT}

@@ -1,14 +1,10 @@
 -- This file defines the club that a connection represents, and the promises of reads and changes.
-use Rattle.std.specs.Prelude.{◌≡◌, ◌⊎◌, ℕ, ◌<◌, ◌≤◌, ◌^◌, List, ◌∷◌, All, None, Result, IfErr, OnErr, true}
+use Rattle.std.specs.Prelude.{◌≡◌, ◌⊎◌, ℕ, List, ◌∷◌, All, Result, IfErr, OnErr}
 use Rattle.sqlite.specs.{Held.{Held, state}, State.{HasCleanDisk, Survives}, Store.Ghosts}
-use Rattle.club_core.specs.{Club.{Club, IsSound}, Office.are_limits, Store.{Changes, FitsClub, KeepsClub, Returns}, declared.change.Change.Change}
-use Rattle.club_core.specs.declared.change.Change.TheVariants.{InsertMember, AddCredit, TakeCredit, ReplaceNumbers, InsertFacility, InsertKey, MarkRevoked}
-use Rattle.club_core.specs.declared.change.Change.TheVariants.{ReplaceRoot, MarkClosed, MarkOpen, ReplaceQuota, InsertBooking, MarkCancelled}
-use Rattle.club_core.specs.declared.store.StoreFault.{StoreFault, TheVariants.Storage}
-use Rattle.club_values.specs.Moment.{IsMoment}
-use Rattle.club_rows.specs.{Limits.{IsRoot, quota_limit}, Rows.{IsMember, IsFacility, IsKey, IsSlot, IsBooking}}
-use Rattle.club_tables.specs.{Answers.{IsAfterReadings, IsReadFault}, ChangeStatements.{AreStatementsOf, statements_of}, Fault.FailsToRun}
-use Rattle.club_tables.specs.{Tables.{Represents, RepresentsVersion1, RepresentsVersion2, IsFound}, Transaction.{BoundStatement, IsUntouched, MayCommit}}
+use Rattle.club_core.specs.{Club.{Club, IsSound}, Store.{Changes, FitsClub, KeepsClub, Returns}, declared.{change.Change.Change, store.StoreFault.StoreFault}}
+use Rattle.club_core.specs.{declared.store.StoreFault.TheVariants.Storage, After.InLimits}
+use Rattle.club_tables.specs.{Answers.{IsAfterReadings, IsReadFault}, ChangeStatements.{AreStatementsOf, statements_of}, Fault.FailsToRun, Tables.Represents}
+use Rattle.club_tables.specs.{Tables.{RepresentsVersion1, RepresentsVersion2, IsFound}, Transaction.{BoundStatement, IsUntouched, MayCommit}}
 
 abbrev pub represents_in : {S : Type 0} → Ghosts S → Held S → Club → List Club → Type 0
 represents_in g held = Represents (state g held)
@@ -44,23 +40,6 @@ pub record IsRunFault {S : Type 0} (g : Ghosts S) (fewest : ℕ) (statements : L
   pub from : Held S
   pub after : IsAfterReadings g old from
   pub failure : FailsToRun g fewest statements from new fault
-
--- The values of a change are within their limits. A new key must have no older root, because the
--- statement that inserts a key doesn't store an older root.
-abbrev pub InLimits : Change → Type 0
-InLimits (InsertMember member) = IsMember member
-InLimits (AddCredit name points) = points < 2 ^ 32
-InLimits (TakeCredit name points) = points < 2 ^ 32
-InLimits (ReplaceQuota name quota) = quota ≤ quota_limit
-InLimits (InsertFacility facility) = IsFacility facility
-InLimits (ReplaceNumbers name places price opens shuts) = are_limits places price opens shuts ≡ true
-InLimits (InsertKey key) = IsKey key × (key.older ≡ None)
-InLimits (MarkRevoked name) = Unit {0}
-InLimits (ReplaceRoot key former root until) = IsRoot root × IsMoment until
-InLimits (MarkClosed slot) = IsSlot slot
-InLimits (MarkOpen slot) = IsSlot slot
-InLimits (InsertBooking booking member) = IsBooking booking
-InLimits (MarkCancelled booking member refund) = refund ≤ booking.charge
 
 -- A change fails with this fault because a value is outside its limits, the database refuses a
 -- statement or the commit, or a statement writes no row.
