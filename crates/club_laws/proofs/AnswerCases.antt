@@ -4,16 +4,16 @@ use Rattle.club_laws.proofs.Common.{◌≡◌, ℕ, ◌+◌, ◌-◌, true, fals
 use Rattle.club_laws.proofs.Common.{◌==◌, nat_lt, bytes_eq, Slot, Member, Facility, Key, Booking, Verdict, Reply, Booked, Cancelled, Refused, Request}
 use Rattle.club_laws.proofs.Common.{same_slot, refund_at, Pass, Words, Club, facility_named, is_key_of, bookings_of, is_closed, key_named, member_named}
 use Rattle.club_laws.proofs.Common.{taken_in, balance_of, booking_under, Basis, basis_of, view_of, state_of, key_of, answer_to, verdict_in, request_slot}
-use Rattle.club_laws.proofs.Common.{Change, InsertMember, AddCredit, InsertFacility, InsertKey, MarkRevoked, ReplaceRoot, MarkClosed, MarkOpen, ReplaceQuota}
-use Rattle.club_laws.proofs.Common.{Command, AddMember, Credit, AddFacility, AddKey, RevokeKey, RotateKey, CloseSlot, OpenSlot, SetQuota, OfficeFault}
-use Rattle.club_laws.proofs.{Common.{office_verdict, are_limits}, FoundRows.{is_numbered, numbered, found_passes, found_is_there, find-filter, any_passes}}
-use Rattle.club_laws.proofs.FoundRows.{any-filter, named}
+use Rattle.club_laws.proofs.Common.{Change, InsertMember, AddCredit, InsertFacility, InsertKey, MarkRevoked, ReplaceRoot, MarkOpen, ReplaceQuota, Command}
+use Rattle.club_laws.proofs.Common.{AddMember, Credit, AddFacility, AddKey, RevokeKey, RotateKey, OpenSlot, SetQuota, OfficeFault, office_verdict, are_limits}
+use Rattle.club_laws.proofs.FoundRows.{is_numbered, numbered, found_passes, found_is_there, find-filter, any_passes, any-filter, named}
 use Rattle.club_core.specs.{Sums.most_taken_in, declared.pass_fault.PassFault.PassFault}
-use Rattle.club_rows.specs.Facility.{charge_of}
-use Rattle.std.proofs.lemmas.Bool.Decides.{nat_tests}
 use Rattle.club_core.specs.declared.refusal.Refusal.TheVariants as refusals
 use Rattle.club_core.specs.declared.request.Request.TheVariants as asked
 use Rattle.club_core.specs.Verdict as verdicts
+use Rattle.club_core.specs.declared.{change.Change.TheVariants.MarkClosed, command.Command.TheVariants.CloseSlot}
+use Rattle.club_rows.specs.Facility.{charge_of}
+use Rattle.std.proofs.lemmas.Bool.Decides.{nat_tests}
 
 abbrev pub basis_with : Club → Request → Key → Member → Basis
 basis_with club request key member =

@@ -17,8 +17,8 @@ pub use Rattle.club_core.specs.Run.{Event, Asked, Commanded, after_change, comma
 pub use Rattle.club_core.specs.Office.{done_answer}
 pub use Rattle.club_core.specs.{Run.{Outcome, Response, verdict_outcome}, Sums.{taken_in, booking_under, is_under, cost_of, is_in, balance_of}}
 pub use Rattle.club_core.specs.declared.change.Change.{Change, TheVariants.{InsertKey, MarkRevoked, ReplaceRoot, InsertBooking, MarkCancelled, InsertMember}}
-pub use Rattle.club_core.specs.declared.change.Change.TheVariants.{AddCredit, InsertFacility, MarkClosed, MarkOpen, ReplaceQuota, TakeCredit, ReplaceNumbers}
-pub use Rattle.club_core.specs.declared.command.Command.{Command, TheVariants.{RevokeKey, AddKey, RotateKey, AddMember, Credit, AddFacility, CloseSlot}}
+pub use Rattle.club_core.specs.declared.change.Change.TheVariants.{AddCredit, InsertFacility, MarkOpen, ReplaceQuota, TakeCredit, ReplaceNumbers}
+pub use Rattle.club_core.specs.declared.command.Command.{Command, TheVariants.{RevokeKey, AddKey, RotateKey, AddMember, Credit, AddFacility}}
 pub use Rattle.club_core.specs.declared.command.{Command.TheVariants.{OpenSlot, SetQuota, Debit, SetFacility, CancelBooking}, OfficeFault.OfficeFault}
 pub use Rattle.club_core.specs.declared.{reply.Reply.{Reply, TheVariants.{Booked, Cancelled, Refused}}, request.Request.Request, verdict.Verdict.Verdict}
 pub use Rattle.club_rows.specs.{Booking.{refund_at, same_slot, persons_of}, declared.{booking.Booking.Booking, facility.Facility.Facility, key.Key.Key}}

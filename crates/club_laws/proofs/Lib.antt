@@ -2,7 +2,6 @@ pub mod Common
 pub mod FoundRows
 pub mod AnswerCases
 pub mod KeptByRuns
-pub mod SoundChanges
 pub mod SoundSteps
 pub mod RepeatAnswers
 pub mod MemberAccounts

@@ -5,14 +5,13 @@ use Rattle.club_laws.proofs.Common.{CancelBooking, ReplaceNumbers, debited_membe
 use Rattle.club_laws.proofs.Common.{Option, Some, sym, ◌∙◌, arith, false, cond, filter, None, All, Contains, append-nil, refl, find, AllPairs, bytes_eq-Decides}
 use Rattle.club_laws.proofs.Common.{◌&&◌, ◌||◌, bytes_eq, list_any, list_any-append, Any-from_list_any, Key, Booking, Club, key_named, is_key_of, bookings_of}
 use Rattle.club_laws.proofs.Common.{keys_of, IsSound, Contains-push, All-contains, filter-append, All-push, All-map, Member, Change, InsertMember, AddCredit}
-use Rattle.club_laws.proofs.Common.{InsertFacility, InsertKey, MarkRevoked, ReplaceRoot, MarkClosed, MarkOpen, ReplaceQuota, InsertBooking, MarkCancelled}
-use Rattle.club_laws.proofs.Common.{after, credited_member, revoked_key, rotated_key, cancelled_booking, map-map, Verdict, Command, AddKey, RevokeKey}
-use Rattle.club_laws.proofs.{Common.{RotateKey, Event, Asked, Commanded, step, after_change, member_with_quota}, FilteredRows.{filter_same, filter_fixed}}
-use Rattle.club_laws.proofs.FilteredRows.{filter-map}
+use Rattle.club_laws.proofs.Common.{InsertFacility, InsertKey, MarkRevoked, ReplaceRoot, MarkOpen, ReplaceQuota, InsertBooking, MarkCancelled, after}
+use Rattle.club_laws.proofs.Common.{credited_member, revoked_key, rotated_key, cancelled_booking, map-map, Verdict, Command, AddKey, RevokeKey, RotateKey}
+use Rattle.club_laws.proofs.{Common.{Event, Asked, Commanded, step, after_change, member_with_quota}, FilteredRows.{filter_same, filter_fixed, filter-map}}
 use Rattle.club_laws.specs.Frame.{ChangesThePartAlike, part_after}
 use Rattle.std.proofs.{lemmas.List.{Folds.map_fixed, Quantifiers.all_pairs_push}, Common.bytes_eq}
 use Rattle.club_rows.specs.declared.key.OlderRoot.{OlderRoot}
-use Rattle.club_core.specs.Solo.{part_of}
+use Rattle.club_core.specs.{Solo.part_of, declared.change.Change.TheVariants.MarkClosed}
 
 -- Whether a key has this name and belongs to this member.
 abbrev pub is_own : List ℕ → List ℕ → Key → Bool

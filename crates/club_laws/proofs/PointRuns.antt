@@ -7,7 +7,8 @@ use Rattle.club_laws.proofs.{Common.{cost_of, taken_in, is_under, IsEvent, club_
 use Rattle.club_laws.proofs.{AnswerCases.{FindsNothing, change_of}, FirstCharges.{Tells, told_by_step}, FoundRows.{found_passes, at_found, is_numbered}}
 use Rattle.club_laws.proofs.{FoundRows.{numbered, named, none_named}, MemberAccounts.{is_among, keys_of_run, credit_of, credit_of_run}, PointMoves.points_of}
 use Rattle.club_laws.proofs.PointMoves.{counts, unseen_total, Seen, MovesCharge, charge_cancelled, charge_moves, refund_new, refund_moves, total, has_told}
-use Rattle.club_laws.proofs.{PointMoves.{MovesRefund, moves_again}, SoundSteps.{sound_step, sound_run}, SoundChanges.{nobody_in, covered}}
+use Rattle.club_laws.proofs.{PointMoves.{MovesRefund, moves_again}, SoundSteps.{sound_step, sound_run}}
+use Rattle.club_laws.proofs.SoundSteps.{nobody_in, covered}
 use Rattle.club_laws.specs.Conservation.{ConservesPoints, ConservesWithoutCorrections, IsNoCorrection, SoundClubsHavePlaces, NeverOverbooks}
 use Rattle.club_laws.specs.Points.{charge_told, refund_given, refunds_by, refunds_given, Entry, firsts, charge_of_reply, refund_of_reply, charges_of_replies}
 use Rattle.club_laws.specs.{Points.{refunds_of_replies, keys_given, debits_accepted, total_under}, Spending.{AccountsShowWhatIsUsed, SpendsWithinItsMember}}

@@ -3,7 +3,6 @@
 //! faster machines with the reference machine.
 #![tactic(auto)]
 
-mod apply;
 mod club;
 mod edits;
 pub mod laws;
@@ -12,7 +11,6 @@ mod rows;
 mod solo;
 mod step;
 mod sums;
-mod views;
 mod words;
 
 pub use club::Club;
