@@ -28,8 +28,8 @@ use crate::FailedOpening;
 use crate::failed_opening::failed_opening;
 use club_core::laws::own_bookings_suffice;
 use club_core::{Change, KeyView, MemberAccount, Request, SlotUse, StoreFault, View};
-use club_rows::{Booking, BookingNumber, Facility, Key, Member, OlderRoot, Root};
-use club_tables::{Rotation, Tables, fault_of};
+use club_rows::{Booking, BookingNumber, Facility, Key, Member, Root};
+use club_tables::{Tables, fault_of};
 use club_values::{Day, Moment, Name, Slot};
 use sqlite::{Alter, Connection, FileFrom, FileStore, MemStore, Start};
 use std::alloc::Global;
@@ -351,61 +351,31 @@ impl<S: Alter> Store<S> {
     pub fn apply(&mut self, change: &Change) -> Result<(), StoreFault>
         ensures makes { ChangesClub S.Store change.now self.old self.new result }
     {
-        match change {
-            Change::InsertMember(member) => self.insert_member(member),
-            Change::AddCredit { member, points } => self.add_credit(member, *points),
-            Change::TakeCredit { member, points } => self.tables.take_credit(member, *points),
-            Change::ReplaceQuota { member, quota } => self.tables.replace_quota(member, *quota),
-            Change::InsertFacility(facility) => self.insert_facility(facility),
-            Change::ReplaceNumbers {
-                facility,
-                places,
-                price,
-                opens,
-                shuts,
-            } => self
-                .tables
-                .replace_numbers(facility, *places, *price, *opens, *shuts),
-            Change::InsertKey(key) => self.insert_key(key),
-            Change::MarkRevoked { key } => self.revoke_key(key),
-            Change::ReplaceRoot {
-                key,
-                former,
-                root,
-                until,
-            } => self.replace_root(key, former, root, *until),
-            Change::MarkClosed(slot) => self.close_slot(slot),
-            Change::MarkOpen(slot) => self.tables.open_slot(slot),
-            Change::InsertBooking { booking, member } => self
-                .tables
-                .insert_booking(booking, member),
-            Change::MarkCancelled {
-                booking,
-                member,
-                refund,
-            } => self.tables.cancel_booking(booking, member, *refund),
-        }
+        self.tables.apply(change)
     }
 
     /// Inserts a member, in one transaction. Fails in the same cases as `apply`.
     pub fn insert_member(&mut self, member: &Member) -> Result<(), StoreFault>
         ensures makes { ChangesClub S.Store (InsertMember member.now) self.old self.new result }
     {
-        self.tables.insert_member(member)
+        self.apply(&Change::InsertMember(*member))
     }
 
     /// Adds points to a member's credit, in one transaction. Fails in the same cases as `apply`.
     pub fn add_credit(&mut self, member: &Name, points: u32) -> Result<(), StoreFault>
         ensures makes { ChangesClub S.Store (AddCredit member.now points) self.old self.new result }
     {
-        self.tables.add_credit(member, points)
+        self.apply(&Change::AddCredit {
+            member: *member,
+            points,
+        })
     }
 
     /// Inserts a facility, in one transaction. Fails in the same cases as `apply`.
     pub fn insert_facility(&mut self, facility: &Facility) -> Result<(), StoreFault>
         ensures makes { ChangesClub S.Store (InsertFacility facility.now) self.old self.new result }
     {
-        self.tables.insert_facility(facility)
+        self.apply(&Change::InsertFacility(*facility))
     }
 
     /// Inserts a key, in one transaction. Fails in the same cases as `apply`. Also fails with
@@ -413,14 +383,14 @@ impl<S: Alter> Store<S> {
     pub fn insert_key(&mut self, key: &Key) -> Result<(), StoreFault>
         ensures makes { ChangesClub S.Store (InsertKey key.now) self.old self.new result }
     {
-        self.tables.insert_key(key)
+        self.apply(&Change::InsertKey(*key))
     }
 
     /// Marks a key as revoked, in one transaction. Fails in the same cases as `apply`.
     pub fn revoke_key(&mut self, key: &Name) -> Result<(), StoreFault>
         ensures makes { ChangesClub S.Store (MarkRevoked key.now) self.old self.new result }
     {
-        self.tables.revoke_key(key)
+        self.apply(&Change::MarkRevoked { key: *key })
     }
 
     /// Sets a key's root, in one transaction. The previous root becomes the key's older root, and
@@ -436,21 +406,18 @@ impl<S: Alter> Store<S> {
         ensures makes { ChangesClub S.Store
             (ReplaceRoot key.now former.now root.now until) self.old self.new result }
     {
-        let rotation = Rotation {
+        self.apply(&Change::ReplaceRoot {
             key: *key,
+            former: *former,
             root: *root,
-            older: OlderRoot {
-                root: *former,
-                until,
-            },
-        };
-        self.tables.replace_root(&rotation)
+            until,
+        })
     }
 
     /// Marks a slot as closed, in one transaction. Fails in the same cases as `apply`.
     pub fn close_slot(&mut self, slot: &Slot) -> Result<(), StoreFault>
         ensures makes { ChangesClub S.Store (MarkClosed slot.now) self.old self.new result }
     {
-        self.tables.close_slot(slot)
+        self.apply(&Change::MarkClosed(*slot))
     }
 }

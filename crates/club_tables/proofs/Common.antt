@@ -22,7 +22,7 @@ pub use Rattle.club_core.specs.{Store.{IsOwnedBy, IsTrueOf, IsToCancel, FitsClub
 pub use Rattle.club_core.specs.{Basis.slot_use, Sums.{booking_under, cost_of, taken_in, is_in, is_under, is_to_come, count_to_come, is_at, most_taken_in}}
 pub use Rattle.club_core.specs.{Club.{Club, IsSound, is_key_of, key_named, member_named, facility_named, is_closed, empty_club, bookings_of}, Office.are_limits}
 pub use Rattle.club_core.specs.{KeyParts.older_root_of, Sheet.{AreRowsOf, Precedes, is_on}}
-pub use Rattle.club_core.specs.declared.change.Change.TheVariants.{InsertMember, AddCredit, InsertFacility, InsertKey, MarkRevoked, ReplaceRoot, MarkClosed}
+pub use Rattle.club_core.specs.declared.change.Change.TheVariants.{InsertMember, AddCredit, InsertFacility, InsertKey, MarkRevoked, ReplaceRoot}
 pub use Rattle.club_core.specs.declared.change.Change.{TheVariants.{MarkOpen, ReplaceQuota, InsertBooking, MarkCancelled, TakeCredit, ReplaceNumbers}, Change}
 pub use Rattle.club_rows.specs.{Booking.{same_slot, persons_of}, declared.{booking.Booking.Booking, key.{OlderRoot.OlderRoot, Key.Key}, member.Member.Member}}
 pub use Rattle.club_rows.specs.{Rows.{IsBooking, IsMember, IsFacility}, Limits.{credited_limit, places_limit, quota_limit}, declared.facility.Facility.Facility}

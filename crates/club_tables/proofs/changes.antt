@@ -5,9 +5,8 @@ pub mod ChangeLemmas
 pub mod ChargeLemmas
 pub mod CancelLemmas
 pub mod NumberLemmas
-pub mod StoredLemmas
 pub mod ObeyLemmas
-pub mod FoundLemmas
+pub mod StoredLemmas
 pub mod PlanLemmas
 pub mod FitLemmas
 pub mod WriteLemmas

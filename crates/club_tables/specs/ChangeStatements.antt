@@ -50,12 +50,10 @@ abbrev pub reopening : Slot → List BoundStatement
 reopening slot = (OPEN_SLOT.now, name_values slot) ∷ []
 
 -- Stores the key's older root, and then sets the key's new root. The second statement writes a row
--- only if the key's current root is the last value of `set`.
-abbrev pub rotating : Row → Row → List BoundStatement
-rotating put set = (PUT_OLDER_ROOT.now, put) ∷ (SET_ROOT.now, set) ∷ []
-
+-- only if the key's current root is `older.root`.
 abbrev pub replacing_root : List ℕ → List ℕ → OlderRoot → List BoundStatement
-replacing_root key root older = rotating (Text key ∷ older_root_values older) (Text key ∷ Blob root ∷ Blob older.root ∷ [])
+replacing_root key root older =
+    (PUT_OLDER_ROOT.now, Text key ∷ older_root_values older) ∷ (SET_ROOT.now, Text key ∷ Blob root ∷ Blob older.root ∷ []) ∷ []
 
 -- The parameters for adding to the points that a member has spent: the member, the added points,
 -- and the booking's key.
@@ -67,28 +65,24 @@ used_values member points key = Text member ∷ Int points ∷ Text key ∷ []
 abbrev pub charge_values : List ℕ → ℕ → List ℕ → Slot → Row
 charge_values member points key slot = Text member ∷ whole points ∷ Text key ∷ name_values slot
 
--- Three statements that insert a booking, add the booking's persons to the slot, and charge the
--- member.
-abbrev pub booking_with : Row → Row → Row → List BoundStatement
-booking_with booking taken charge = (ADD_BOOKING.now, booking) ∷ (ADD_TAKEN.now, taken) ∷ (CHARGE.now, charge) ∷ []
-
-abbrev pub cancelling_with : Row → Row → Row → List BoundStatement
-cancelling_with booking used taken = (CANCEL_BOOKING.now, booking) ∷ (ADD_USED.now, used) ∷ (ADD_TAKEN.now, taken) ∷ []
-
 -- Inserts a booking under a key of the member, adds the booking's persons to the slot, and charges
 -- the member. The last statement writes a row only if the slot has enough places.
 abbrev pub adding_booking : Booking → List ℕ → List BoundStatement
 adding_booking booking member =
-    booking_with (booking_values booking) (name_values booking.slot ++ Int (pos (persons_taken booking)) ∷ [])
-    (charge_values member (cost_of booking) booking.key booking.slot)
+    (ADD_BOOKING.now, booking_values booking)
+    ∷ (ADD_TAKEN.now, name_values booking.slot ++ Int (pos (persons_taken booking)) ∷ [])
+    ∷ (CHARGE.now, charge_values member (cost_of booking) booking.key booking.slot)
+    ∷ []
 
 -- Marks the member's booking as cancelled, if the stored booking has the values of `booking`.
 -- Subtracts the refund from the points that the member has spent, and the booking's persons from
 -- the slot's persons.
 abbrev pub cancelling : Booking → List ℕ → ℕ → List BoundStatement
 cancelling booking member refund =
-    cancelling_with (booking_values booking ++ whole refund ∷ []) (used_values member (neg_ℤ (pos refund)) booking.key)
-    (name_values booking.slot ++ Int (neg_ℤ (pos (persons_of booking))) ∷ [])
+    (CANCEL_BOOKING.now, booking_values booking ++ whole refund ∷ [])
+    ∷ (ADD_USED.now, used_values member (neg_ℤ (pos refund)) booking.key)
+    ∷ (ADD_TAKEN.now, name_values booking.slot ++ Int (neg_ℤ (pos (persons_of booking))) ∷ [])
+    ∷ []
 
 -- The statements of a change, with the values of their parameters.
 abbrev pub statements_of : Change → List BoundStatement

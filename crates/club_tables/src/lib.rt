@@ -14,7 +14,6 @@ mod texts;
 mod transaction;
 mod writes;
 
-pub use params::Rotation;
 pub use row::MemberRow;
 pub use tables::Tables;
 pub use transaction::{Statement, fault_of};

@@ -1,17 +1,16 @@
 //! Checks whether the values of a change are within their limits.
 
-ghost use Rattle.std.specs.Prelude.{◌≡◌, ◌≤◌, true, false};
+ghost use Rattle.std.specs.Prelude.{◌≡◌, true, false};
 ghost use Rattle.club_rows.specs.Limits.{IsRoot};
 ghost use Rattle.club_rows.specs.Rows.{IsMember, IsFacility, IsKey, IsSlot, IsBooking};
 ghost use Rattle.club_core.specs.Office.{are_limits};
 ghost use Rattle.club_values.specs.Moment.{IsMoment};
 
-use crate::params::Rotation;
 use club_rows::{
     Booking, Facility, Key, LAST_HOUR, MAX_CHARGE, MAX_CREDITED, MAX_PLACES, MAX_PRICE, MAX_QUOTA,
-    Member,
+    Member, Root,
 };
-use club_values::Slot;
+use club_values::{Moment, Slot};
 
 /// The highest number of free places in a slot after a booking. A booking takes at least one place.
 const MAX_LEFT: u32 = MAX_PLACES - 1;
@@ -73,12 +72,12 @@ pub(crate) fn slot_within(slot: &Slot)
 
 /// Proves that a rotation's new root and the moment `until` are within their limits. The types of
 /// these values guarantee the limits.
-pub(crate) fn rotation_within(rotation: &Rotation)
-    ensures root { IsRoot rotation.now.root }
-    ensures until { IsMoment rotation.now.older.until }
+pub(crate) fn rotation_within(root: &Root, until: Moment)
+    ensures root { IsRoot root.now }
+    ensures until { IsMoment until }
 {
-    let _root = rotation.root.as_bytes();
-    let _until = rotation.older.until.number();
+    let _root = root.as_bytes();
+    let _until = until.number();
 }
 
 pub(crate) fn is_booking(booking: &Booking) -> bool

@@ -7,12 +7,12 @@ ghost use Rattle.sqlite_value.specs.declared.value.Value.TheVariants.{Text as Te
 ghost use Rattle.sqlite_value.specs.declared.value.Value.TheVariants.{Blob as BlobValue};
 ghost use Rattle.club_values.specs.Moment.{minutes_a_day};
 ghost use Rattle.club_rows.specs.{Booking.persons_of, Columns.truth};
-ghost use Rattle.club_core.specs.Sums.{cost_of};
+ghost use Rattle.club_core.specs.{After.good_until, Sums.cost_of};
 ghost use Rattle.club_tables.specs.ChangeStatements.{charge_values, numbers_values};
 ghost use Rattle.club_tables.specs.Columns.{whole, facility_values, key_values, older_root_values};
 ghost use Rattle.club_tables.specs.{Columns.{booking_values, name_values}, Stored.persons_taken};
 
-use club_rows::{Booking, Facility, Key, Member, OlderRoot, Root};
+use club_rows::{Booking, Facility, Key, Member, Root};
 use club_values::{Moment, Name, Slot};
 use sqlite::types::ValueRef;
 
@@ -80,34 +80,32 @@ pub(crate) fn of_key(key: &Key) -> [ValueRef<'_>; 4]
     ]
 }
 
-/// The new root of a key, the former root, and the moment until which the former root is valid.
-#[derive(Clone, Copy)]
-pub struct Rotation {
-    pub key: Name,
-    pub root: Root,
-    pub older: OlderRoot,
+/// Returns a key's name.
+pub(crate) fn of_name(key: &Name) -> [ValueRef<'_>; 1]
+    ensures { bound result ≡ TextValue key.now ∷ [] }
+{
+    [ValueRef::Text(key.as_bytes())]
 }
 
 /// Returns a key's name, its older root, and the moment until which the older root is valid.
-pub(crate) fn of_older_root(rotation: &Rotation) -> [ValueRef<'_>; 3]
-    ensures { bound result ≡ TextValue rotation.now.key ∷ older_root_values rotation.now.older }
+pub(crate) fn of_older_root<'a>(key: &'a Name, former: &'a Root, until: Moment) -> [ValueRef<'a>; 3]
+    ensures { bound result ≡ TextValue key.now ∷ older_root_values (good_until until former.now) }
 {
     [
-        ValueRef::Text(rotation.key.as_bytes()),
-        ValueRef::Blob(rotation.older.root.as_bytes()),
-        ValueRef::Int(i64::from(rotation.older.until.number())),
+        ValueRef::Text(key.as_bytes()),
+        ValueRef::Blob(former.as_bytes()),
+        ValueRef::Int(i64::from(until.number())),
     ]
 }
 
 /// Returns a key's name, its new root, and its former root.
-pub(crate) fn of_root(rotation: &Rotation) -> [ValueRef<'_>; 3]
-    ensures { bound result ≡ TextValue rotation.now.key ∷ BlobValue rotation.now.root ∷ BlobValue
-        rotation.now.older.root ∷ [] }
+pub(crate) fn of_root<'a>(key: &'a Name, root: &'a Root, former: &'a Root) -> [ValueRef<'a>; 3]
+    ensures { bound result ≡ TextValue key.now ∷ BlobValue root.now ∷ BlobValue former.now ∷ [] }
 {
     [
-        ValueRef::Text(rotation.key.as_bytes()),
-        ValueRef::Blob(rotation.root.as_bytes()),
-        ValueRef::Blob(rotation.older.root.as_bytes()),
+        ValueRef::Text(key.as_bytes()),
+        ValueRef::Blob(root.as_bytes()),
+        ValueRef::Blob(former.as_bytes()),
     ]
 }
 
@@ -129,23 +127,13 @@ pub(crate) fn of_booking(booking: &Booking) -> [ValueRef<'_>; 10]
     ]
 }
 
-/// Returns a member's name, and a number of points to add or subtract.
-pub(crate) fn of_credit(member: &Name, points: u32) -> [ValueRef<'_>; 2]
-    ensures { bound result ≡ TextValue member.now ∷ whole points ∷ [] }
+/// Returns a member's name and a number.
+pub(crate) fn of_number(member: &Name, number: u32) -> [ValueRef<'_>; 2]
+    ensures { bound result ≡ TextValue member.now ∷ whole number ∷ [] }
 {
     [
         ValueRef::Text(member.as_bytes()),
-        ValueRef::Int(i64::from(points)),
-    ]
-}
-
-/// Returns a member's name and quota.
-pub(crate) fn of_quota(member: &Name, quota: u8) -> [ValueRef<'_>; 2]
-    ensures { bound result ≡ TextValue member.now ∷ whole quota ∷ [] }
-{
-    [
-        ValueRef::Text(member.as_bytes()),
-        ValueRef::Int(i64::from(quota)),
+        ValueRef::Int(i64::from(number)),
     ]
 }
 

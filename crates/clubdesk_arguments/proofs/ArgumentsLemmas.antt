@@ -2,7 +2,7 @@
 use Rattle.std.proofs.Common.{refl}
 use Rattle.clap.proofs.OnLiterals.{clap_on_literals}
 use Rattle.command_line.specs.Table.{IsGood}
-use Rattle.clubdesk_arguments.specs.Application.{clubdesk}
+use Rattle.clubdesk_arguments.specs.Arguments.{clubdesk}
 
 pub is_good : IsGood clubdesk
 unfolding clap_on_literals clubdesk

@@ -1,20 +1,109 @@
--- Defines the job that a run's arguments ask for.
+-- Defines the program's commands and options for `clap`, and the job that a run's arguments ask for.
+use Rattle.std.specs.Prelude.{List, [], ◌∷◌, ◌++◌, map, codes, ◌≡◌, ℕ, Bool, true, false, Option, Some, None, option_map, option_and_then, Result, Ok, Err}
 use Rattle.std.specs.{Borrow.Bor, Option.{ok_or, unwrap_or}}
-use Rattle.std.specs.Prelude.{◌≡◌, ℕ, Bool, true, false, List, Option, Some, None, option_map, option_and_then, Result, Ok, Err, codes}
-use Rattle.clap.specs.Words.{Row, Text, first_of}
-use Rattle.clap.specs.declared.error.kind.ErrorKind.TheVariants as kind
-use Rattle.command_line.specs.{Arguments.{is_set, value_in}, Job.{Answers, JobOf, ReadsJob, Refusal, bad_value, form_given, refused_as}}
+use Rattle.clap.specs.Words.{Rule, Text, Row, first_of}
+use Rattle.command_line.specs.{Application.{as_required, flag_named, form_or_v2, option_named, positional_named, with_default}, Table.Table, Arguments.is_set}
+use Rattle.command_line.specs.{Arguments.value_in, Job.{Answers, JobOf, ReadsJob, Refusal, bad_value, form_given, refused_as}}
 use Rattle.command_line.specs.declared.{errors.ArgumentsFault.ArgumentsFault, job.Asked.{Asked, TheVariants.Perform}}
-use Rattle.club_values.specs.declared.slot.Slot.{Slot}
-use Rattle.club_core.specs.declared.command.Command.TheVariants as office
-use Rattle.pass_forms.specs.declared.form.Form.{Form, TheVariants.V2}
-use Rattle.clubdesk_arguments.specs.{Application.clubdesk, JobModel.JobModel, Readers.{ReadExactly, Readers}}
+use Rattle.clubdesk_arguments.specs.{declared.table.CommandName.CommandName, JobModel.JobModel, Readers.{ReadExactly, Readers}}
 use Rattle.clubdesk_arguments.specs.Values.{booking_number_of, count_of, parse_number, patience_of, port_of, key_root_of}
-use Rattle.clubdesk_arguments.specs.declared.{table.CommandName.CommandName, task.{KeyChange.TheVariants.{Add, Rotate}, KeyCommand.KeyCommand}}
-use Rattle.clubdesk_arguments.specs.declared.task.{Task.TheVariants.{Give, Key, Sheet, ShowAccount, ShowSlot}, Work.Work}
-use Rattle.clubdesk_arguments.specs.declared.task.Work.TheVariants.{Office, Rootless, Serve}
+use Rattle.clubdesk_arguments.specs.declared.task.{KeyChange.TheVariants.{Add, Rotate}, KeyCommand.KeyCommand, Task.TheVariants.{Give, Key, Sheet, ShowAccount}}
+use Rattle.clubdesk_arguments.specs.declared.task.{Task.TheVariants.ShowSlot, Work.{Work, TheVariants.{Office, Rootless, Serve}}}
+use Rattle.club_values.specs.declared.slot.Slot.{Slot}
+use Rattle.pass_forms.specs.declared.form.Form.{Form, TheVariants.V2}
 use Rattle.club_clock.specs.{Zone.zone_of, declared.clock.Clock.{Clock, TheVariants.{Fixed, InZone}}}
+use Rattle.clap.specs.declared.error.kind.ErrorKind.TheVariants as kind
+use Rattle.club_core.specs.declared.command.Command.TheVariants as office
 use Rattle.clubdesk_arguments.specs.declared.table.CommandName.TheVariants as command
+
+-- The required positional arguments of a command. The first argument is FILE.
+abbrev pub positionals_over_file : List Text → List Rule
+positionals_over_file names = map (λ name. as_required (positional_named name)) (codes "FILE" ∷ names)
+
+-- The option `[--zone RULE]`. The default zone is UTC.
+abbrev pub zone_option : Rule
+zone_option = with_default (codes "UTC0") (option_named (codes "zone"))
+
+abbrev pub at_option : Rule
+at_option = option_named (codes "at")
+
+abbrev pub port_option : Rule
+port_option = as_required (option_named (codes "port"))
+
+abbrev pub count_option : Rule
+count_option = as_required (option_named (codes "count"))
+
+-- The option `[--patience SECONDS]`. The default is 10 seconds.
+abbrev pub patience_option : Rule
+patience_option = with_default (codes "10") (option_named (codes "patience"))
+
+-- The flag `--root-stdin`.
+abbrev pub root_flag : Rule
+root_flag = flag_named (codes "root-stdin")
+
+-- The flag `--log`.
+abbrev pub log_flag : Rule
+log_flag = flag_named (codes "log")
+
+abbrev slot_positionals : List Rule
+slot_positionals = positionals_over_file (codes "FACILITY" ∷ codes "DAY" ∷ codes "HOUR" ∷ [])
+
+-- The program's table of commands. Each positional argument is required, except in these two
+-- commands:
+-- - `add-key FILE KEY MEMBER [ROOT] [--root-stdin] [--form FORM]`
+-- - `rotate-key FILE KEY ROOT [MOMENT] [--root-stdin] [--form FORM]`
+--
+-- If `rotate-key` gets no argument `MOMENT`, the argument `ROOT` is the moment.
+--
+-- Two more commands have options:
+-- - `serve --port P --count N [--zone RULE] [--at MOMENT] [--patience SECONDS] [--log]`
+-- - `show-account [--zone RULE] [--at MOMENT]`
+unfoldable pub clubdesk : Table CommandName
+clubdesk = record {
+  title = codes "clubdesk";
+  entries =
+      record { command = command.AddMember; name = codes "add-member"; rules = positionals_over_file (codes "NAME" ∷ codes "QUOTA" ∷ []) }
+      ∷ record { command = command.Credit; name = codes "credit"; rules = positionals_over_file (codes "MEMBER" ∷ codes "POINTS" ∷ []) }
+      ∷ record { command = command.Debit; name = codes "debit"; rules = positionals_over_file (codes "MEMBER" ∷ codes "POINTS" ∷ []) }
+      ∷ record { command = command.SetQuota; name = codes "set-quota"; rules = positionals_over_file (codes "MEMBER" ∷ codes "QUOTA" ∷ []) }
+      ∷ record {
+        command = command.AddFacility;
+        name = codes "add-facility";
+        rules = positionals_over_file (codes "NAME" ∷ codes "KIND" ∷ codes "PLACES" ∷ codes "PRICE" ∷ codes "OPENS" ∷ codes "SHUTS" ∷ []);
+      }
+      ∷ record {
+        command = command.SetFacility;
+        name = codes "set-facility";
+        rules = positionals_over_file (codes "NAME" ∷ codes "PLACES" ∷ codes "PRICE" ∷ codes "OPENS" ∷ codes "SHUTS" ∷ []);
+      }
+      ∷ record {
+        command = command.AddKey;
+        name = codes "add-key";
+        rules = positionals_over_file (codes "KEY" ∷ codes "MEMBER" ∷ []) ++ (positional_named (codes "ROOT") ∷ root_flag ∷ form_or_v2 ∷ []);
+      }
+      ∷ record { command = command.RevokeKey; name = codes "revoke-key"; rules = positionals_over_file (codes "KEY" ∷ []) }
+      ∷ record {
+        command = command.RotateKey;
+        name = codes "rotate-key";
+        rules = positionals_over_file (codes "KEY" ∷ codes "ROOT-OR-MOMENT" ∷ []) ++ (positional_named (codes "MOMENT") ∷ root_flag ∷ form_or_v2 ∷ []);
+      }
+      ∷ record { command = command.CloseSlot; name = codes "close-slot"; rules = slot_positionals }
+      ∷ record { command = command.OpenSlot; name = codes "open-slot"; rules = slot_positionals }
+      ∷ record { command = command.CancelBooking; name = codes "cancel-booking"; rules = positionals_over_file (codes "KEY" ∷ codes "NUMBER" ∷ []) }
+      ∷ record { command = command.Sheet; name = codes "sheet"; rules = positionals_over_file (codes "DAY" ∷ []) }
+      ∷ record {
+        command = command.Serve;
+        name = codes "serve";
+        rules = positionals_over_file [] ++ (port_option ∷ count_option ∷ zone_option ∷ at_option ∷ patience_option ∷ log_flag ∷ []);
+      }
+      ∷ record {
+        command = command.ShowAccount;
+        name = codes "show-account";
+        rules = positionals_over_file (codes "KEY" ∷ []) ++ (zone_option ∷ at_option ∷ []);
+      }
+      ∷ record { command = command.ShowSlot; name = codes "show-slot"; rules = slot_positionals }
+      ∷ [];
+}
 
 -- The bind operator of `Option`, like `?` in code.
 infixl 10 ◌>>=◌

@@ -1,4 +1,3 @@
-pub mod Application
 pub mod Values
 pub mod JobModel
 pub mod Fault

@@ -1,6 +1,6 @@
 //! The commands and their arguments, with their help texts.
 
-ghost use Rattle.clubdesk_arguments.specs.Application.{clubdesk};
+ghost use Rattle.clubdesk_arguments.specs.Arguments.{clubdesk};
 
 use clap::Command;
 use command_line::{Argument, Commands, Program, Row, command_named, make_application};
@@ -370,12 +370,12 @@ static CLUBDESK: Program<CommandName> = Program {
 impl Commands for CommandName {
     ghost table = { clubdesk };
 
-    #[tactic(auto, using(crate::proofs::ArgumentsLemmas::is_good), unfolding(crate::specs::Application::clubdesk))]
+    #[tactic(auto, using(crate::proofs::ArgumentsLemmas::is_good), unfolding(crate::specs::Arguments::clubdesk))]
     fn application<'a>(alloc: Global) -> Result<Command<'a>, AllocError> {
         make_application(alloc, &CLUBDESK)
     }
 
-    #[tactic(auto, unfolding(crate::specs::Application::clubdesk))]
+    #[tactic(auto, unfolding(crate::specs::Arguments::clubdesk))]
     fn named(name: &str) -> Option<CommandName> {
         command_named(CLUBDESK.rows, name)
     }

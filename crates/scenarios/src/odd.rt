@@ -31,7 +31,7 @@ static AFTER_A_CLUB: [(&str, usize); 29] = [
     ("office  fly amy-1  done", 3),
     ("office  revoke-key  done", 3),
     ("office  revoke-key Amy  done", 3),
-    ("office  close-slot court-1 2026-02-29 18  done", 3),
+    ("office  open-slot court-1 2026-02-29 18  done", 3),
     ("office  add-key k amy 00  done", 3),
     ("office  revoke-key amy-1  dome", 3),
     ("office  revoke-key amy-1", 3),

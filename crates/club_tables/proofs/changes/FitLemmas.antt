@@ -2,21 +2,22 @@
 use Rattle.club_tables.proofs.Common.{◌≡◌, ◌≢◌, ℕ, ◌+◌, ◌≤◌, true, false, ◌&&◌, ◌==◌, List, ◌∷◌, map, Contains, All, refl, sym, ap, subst, ◌∙◌, arith, find}
 use Rattle.club_tables.proofs.Common.{Some, bytes_eq, bytes_eq-Decides, and_parts, nat_tests, AllByRecursion, All-from_recursion, all_from_map, Has, map-map}
 use Rattle.club_tables.proofs.Common.{Ghosts, Held, state, Database, HoldsClub, Ran, Club, Member, Facility, Key, Booking, SlotUse, MemberRow, InLimits}
-use Rattle.club_tables.proofs.Common.{InsertMember, AddCredit, InsertFacility, InsertKey, MarkRevoked, ReplaceRoot, MarkClosed, MarkOpen, ReplaceQuota}
-use Rattle.club_tables.proofs.Common.{InsertBooking, MarkCancelled, member_row, member_named, facility_named, cost_of, used_by, statements_of, FitsClub}
-use Rattle.club_tables.proofs.Common.{TakeCredit, ReplaceNumbers, all_weaker, Bool, BoundStatement, IsBooking, IsTrueOf, Option, Rows, State, adding_booking}
-use Rattle.club_tables.proofs.Common.{booking_under, good_until, neg_ℤ, option_map, pos, transaction_start, Add, Arith, Binary, Compare, binary, is_true, whole}
+use Rattle.club_tables.proofs.Common.{InsertMember, AddCredit, InsertFacility, InsertKey, MarkRevoked, ReplaceRoot, MarkOpen, ReplaceQuota, InsertBooking}
+use Rattle.club_tables.proofs.Common.{MarkCancelled, member_row, member_named, facility_named, cost_of, used_by, statements_of, FitsClub, TakeCredit}
+use Rattle.club_tables.proofs.Common.{ReplaceNumbers, all_weaker, Bool, BoundStatement, IsBooking, IsTrueOf, Option, Rows, State, adding_booking, booking_under}
+use Rattle.club_tables.proofs.Common.{good_until, neg_ℤ, option_map, pos, transaction_start, Add, Arith, Binary, Compare, binary, is_true, whole}
 use Rattle.club_tables.proofs.{Common.{cancelled_booking, Le, Change, SuitingChangesKeepSound}, changes.AddLemmas.{new_row, close_use, take_use, member_put}}
-use Rattle.club_tables.proofs.{changes.{CancelLemmas.{booking_cancelled, cancel_found}, ChargeLemmas.{Charged, charge_found, pays}}, lists.OwnerLemmas.all_last}
-use Rattle.club_tables.proofs.{queries.KeyLemmas.find_mapped, statements.MeansLemmas.WhenRan, changes.ChangeLemmas.{owned_key, quota_finds}}
-use Rattle.club_tables.proofs.{lists.KeyedRows.{slot_once, the_slot}, changes.NumberLemmas.{few_by_rows, numbers_finds}, statements.UpdateLemmas.one_found}
-use Rattle.club_tables.proofs.queries.MemberLemmas.{total}
 use Rattle.club_tables.proofs.changes.AddLemmas.{facility_put, key_put, slot_closed, slot_was_open, booking_put, older_represents, open_use, slot_opened}
-use Rattle.club_tables.proofs.changes.ChangeLemmas.{revoke_finds, root_finds, used_finds, whole_to, StoresKey, StoresMember, credit_finds, debit_finds, name_of}
-use Rattle.club_tables.proofs.changes.FoundLemmas.{enough_left, credited_little, spent_little, slot_placed, the_named, facility_there}
-use Rattle.club_tables.proofs.changes.PlanLemmas.{adds, filled_use, members_once, facilities_once, bookings_once, filled, filled_rows, keys_once}
-use Rattle.club_tables.proofs.changes.ObeyLemmas.{members_apart, facilities_apart, keys_apart, key_members, booking_facilities, bookings_apart}
+use Rattle.club_tables.proofs.{changes.{CancelLemmas.{booking_cancelled, cancel_found}, ChargeLemmas.{Charged, charge_found, pays}}, lists.OwnerLemmas.all_last}
+use Rattle.club_tables.proofs.{queries.KeyLemmas.find_mapped, statements.MeansLemmas.WhenRan, changes.ChangeLemmas.{owned_key, quota_finds, revoke_finds}}
+use Rattle.club_tables.proofs.changes.ChangeLemmas.{root_finds, used_finds, whole_to, StoresKey, StoresMember, credit_finds, debit_finds, name_of}
+use Rattle.club_tables.proofs.{lists.KeyedRows.{slot_once, the_slot}, changes.NumberLemmas.{few_by_rows, numbers_finds}, statements.UpdateLemmas.one_found}
+use Rattle.club_tables.proofs.{queries.MemberLemmas.total, changes.StoredLemmas.{enough_left, credited_little, spent_little, slot_placed, the_named}}
+use Rattle.club_tables.proofs.changes.{StoredLemmas.facility_there, PlanLemmas.{adds, filled_use, members_once, facilities_once, bookings_once, filled}}
+use Rattle.club_tables.proofs.changes.{PlanLemmas.{filled_rows, keys_once}, ObeyLemmas.{members_apart, facilities_apart, keys_apart, key_members}}
+use Rattle.club_tables.proofs.changes.ObeyLemmas.{booking_facilities, bookings_apart}
 use Rattle.club_laws.specs.SoundRuns.{Suits, SuitsBooking}
+use Rattle.club_core.specs.declared.change.Change.TheVariants.{MarkClosed}
 
 unnamed : {X : Type 0} (name : X → List ℕ) (n : List ℕ) (xs : List X) → AllByRecursion (λ x. bytes_eq n (name x) ≡ false) xs → All (λ x. name x ≢ n) xs
 unnamed name n xs apart = All-from_recursion (λ x. name x ≢ n) xs (all_weaker _ _ (λ x other e. grind (arith, bytes_eq-Decides)) xs apart)

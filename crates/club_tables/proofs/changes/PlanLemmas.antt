@@ -3,22 +3,23 @@ use Rattle.club_tables.proofs.Common.{◌≡◌, ℕ, ◌≤◌, pos, neg_ℤ, B
 use Rattle.club_tables.proofs.Common.{arith, recursion_from_All, All-contains, bytes_eq-Decides, find, option_map, bytes_eq, Database, Held, state, binary}
 use Rattle.club_tables.proofs.Common.{Arith, Add, cond, SlotUse, IsMember, Ghosts, Int, good_until, after, cancelled_booking, credited_member, Club}
 use Rattle.club_tables.proofs.Common.{member_named, key_named, IsOwnedBy, FitsClub, booking_under, cost_of, taken_in, InsertMember, AddCredit, InsertFacility}
-use Rattle.club_tables.proofs.Common.{InsertKey, MarkRevoked, ReplaceRoot, MarkClosed, MarkOpen, ReplaceQuota, InsertBooking, MarkCancelled, same_slot}
-use Rattle.club_tables.proofs.Common.{persons_of, IsBooking, Booking, Facility, Key, Member, Slot, statements_of, adding_booking, cancelling, whole}
-use Rattle.club_tables.proofs.Common.{name_values, Rows, member_row, used_by, persons_taken, IsStoredAs, HoldsClub, Ran, transaction_start, BoundStatement}
-use Rattle.club_tables.proofs.Common.{MemberRow, ADD_TAKEN, SlotRow, Has, has_found, has_contained, row_of, nat_le, nat_tests, unsigned_Decides, TakeCredit}
-use Rattle.club_tables.proofs.Common.{ReplaceNumbers, AllPairs, debited_member, facility_with_numbers, Change, member_with_quota, credited_limit}
-use Rattle.club_tables.proofs.{lists.OwnerLemmas.{all_last, owner_is}, changes.NumberLemmas.{few_in_rows, few_if_fits, facility_renumbered}}
-use Rattle.club_tables.proofs.changes.AddLemmas.{older_represents, put_older, take_use, booking_put, member_put, facility_put, key_put, slot_taken, slot_closed}
-use Rattle.club_tables.proofs.{changes.AddLemmas.slot_opened, queries.KeyLemmas.{same_slots, find_mapped, AreBookingsOnce}, statements.MeansLemmas.Steps}
-use Rattle.club_tables.proofs.{changes.ChargeLemmas.{Charged, member_charged}, statements.SelectLemmas.{pairs_mapped, contains_counts, find_some, found}}
+use Rattle.club_tables.proofs.Common.{InsertKey, MarkRevoked, ReplaceRoot, MarkOpen, ReplaceQuota, InsertBooking, MarkCancelled, same_slot, persons_of}
+use Rattle.club_tables.proofs.Common.{IsBooking, Booking, Facility, Key, Member, Slot, statements_of, adding_booking, cancelling, whole, name_values, Rows}
+use Rattle.club_tables.proofs.Common.{member_row, used_by, persons_taken, IsStoredAs, HoldsClub, Ran, transaction_start, BoundStatement, MemberRow, ADD_TAKEN}
+use Rattle.club_tables.proofs.Common.{SlotRow, Has, has_found, has_contained, row_of, nat_le, nat_tests, unsigned_Decides, TakeCredit, ReplaceNumbers, AllPairs}
+use Rattle.club_tables.proofs.{Common.{debited_member, facility_with_numbers, Change, member_with_quota, credited_limit}, lists.OwnerLemmas.all_last}
+use Rattle.club_tables.proofs.{lists.OwnerLemmas.owner_is, changes.{NumberLemmas.{few_in_rows, few_if_fits, facility_renumbered}, AddLemmas.older_represents}}
+use Rattle.club_tables.proofs.changes.AddLemmas.{put_older, take_use, booking_put, member_put, facility_put, key_put, slot_taken, slot_closed, slot_opened}
+use Rattle.club_tables.proofs.{queries.KeyLemmas.{same_slots, find_mapped, AreBookingsOnce}, statements.MeansLemmas.Steps, changes.ChargeLemmas.Charged}
+use Rattle.club_tables.proofs.{changes.ChargeLemmas.member_charged, statements.SelectLemmas.{pairs_mapped, contains_counts, find_some, found}}
 use Rattle.club_tables.proofs.changes.StoredLemmas.{bookings_stored, members_stored, facilities_stored, taken_more, member_stored, key_stored, revoke_stored}
-use Rattle.club_tables.proofs.{changes.StoredLemmas.{rotate_stored, close_stored, open_stored, used_more}, crashes.SurviveLemmas.{GoThrough, left_by}}
-use Rattle.club_tables.proofs.changes.FoundLemmas.{contains_mapped, minus, few_taken, put_there, few_persons, still_open, enough_if_fits, credited_little}
+use Rattle.club_tables.proofs.changes.StoredLemmas.{rotate_stored, close_stored, open_stored, used_more, contains_mapped, minus, few_taken, put_there}
+use Rattle.club_tables.proofs.{changes.StoredLemmas.{few_persons, still_open, enough_if_fits, credited_little}, crashes.SurviveLemmas.{GoThrough, left_by}}
 use Rattle.club_tables.proofs.changes.ChangeLemmas.{StoresMember, member_debited, member_credited, member_given, key_revoked, root_set, whole_to, AreKeysOnce}
 use Rattle.club_tables.proofs.{changes.ChangeLemmas.{StoresKey, name_of, member_used, AreNamedOnce, used_row}, lists.KeyedRows.{put_slot, use_put, same_itself}}
-use Rattle.club_tables.proofs.queries.MemberLemmas.{total}
-use Rattle.club_tables.proofs.changes.CancelLemmas.{booking_cancelled, there, used_back, taken_back, mapped_holds, used_less, taken_less}
+use Rattle.club_tables.proofs.{queries.MemberLemmas.total, changes.CancelLemmas.{booking_cancelled, there, used_back, taken_back, mapped_holds, used_less}}
+use Rattle.club_tables.proofs.changes.CancelLemmas.{taken_less}
+use Rattle.club_core.specs.declared.change.Change.TheVariants.{MarkClosed}
 
 module _ {S : Type 0} (g : Ghosts S) (old : Held S) (club : Club) (tables : HoldsClub (state g old).now club) where
   pub keys_once : AreKeysOnce tables.rows.keys

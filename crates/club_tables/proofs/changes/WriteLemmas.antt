@@ -84,19 +84,19 @@ changes {g = g} law change within {old = old} {new = new} {result = r} commits s
 
 -- Assume that a change has a value outside its limits, and that a change with such a value fits no
 -- club. Then a call that runs no statement and returns `Storage` satisfies `ChangesClub`.
-pub refuses : {S : Type 0} {g : Ghosts S} (change : Change) → ¬ InLimits change → ((club : Club) → FitsClub change club → InLimits change) → (held : Held S)
+pub refuses : {S : Type 0} {g : Ghosts S} (change : Change) → ¬ InLimits change → ((club : Club) → ¬ FitsClub change club) → (held : Held S)
     → ChangesClub g change held held (Err Storage)
-refuses {g = g} change out within_if_fits held = record {
+refuses {g = g} change out unfit held = record {
   was_clean = λ clean. clean;
   effect = λ clean club others represents. (
     λ sound. represents_by HoldsClub (state g held) (state g held) (λ _ is_open. (is_open, represents.idle clean is_open, refl)) (λ c. c) club others
         (after change club ∷ others) represents (λ c trees may. elim (represents.left c trees may) [ inl here ↦ inl here | inr there ↦ inr (inr there) ]),
-    λ unfit. represents,
+    λ _. represents,
   );
   no_change = kept_when_idle (state g held);
   survives = commits_nothing g 1 (AreStatementsOf change) held held (survives_itself (state g held));
   fault = λ clean. inr (out, refl);
-  fault_if_fits = λ clean club others represents fits. absurd (out (within_if_fits club fits));
+  fault_if_fits = λ clean club others represents fits. absurd (unfit club fits);
 }
 
 pub quota_if_fits : (name : List ℕ) (quota : ℕ) (club : Club) → FitsClub (ReplaceQuota name quota) club → quota ≤ quota_limit
