@@ -3,9 +3,8 @@
 ghost use Rattle.clap.specs.Words.{found_of, rows_of};
 ghost use Rattle.clubdesk_arguments.specs.Arguments.{ReadsValues};
 
-use crate::commands::work_of;
 use crate::laws::readers_are_exact;
-use crate::table::CommandName;
+use crate::table::{CommandName, work_of};
 use crate::task::Job;
 use clap::ArgMatches;
 use command_line::{ArgumentsFault, value_of};

@@ -2,7 +2,6 @@
 //! the faults with their exit statuses.
 #![tactic(auto)]
 
-mod commands;
 mod fault;
 mod job;
 pub mod laws;
