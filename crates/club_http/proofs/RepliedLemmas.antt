@@ -30,8 +30,8 @@ module _ {Desk : Type 0} (Answers : AnswerRelation Desk) (before after : Option 
       record { receives = received; reply_is = replied; to_all = to_all }
 
   pub exchanged_to_all : (Unasked : Type 0) (Writes : List ℕ → Type 0) (outcome : Result Reply AnswerFault)
-      → Exchanges (λ reply. IsReplied Answers bytes old reply new) ⊥ Writes outcome
-      → Exchanges (λ reply. Replies Answers before after bytes old reply new) Unasked Writes outcome
+      → Exchanges (record { decides = λ reply. IsReplied Answers bytes old reply new; unasked = ⊥; writes = Writes }) outcome
+      → Exchanges (record { decides = λ reply. Replies Answers before after bytes old reply new; unasked = Unasked; writes = Writes }) outcome
   exchanged_to_all Unasked Writes (Ok reply) (replied, written) = (replies reply replied, written)
   exchanged_to_all Unasked Writes (Err Read) never = absurd never
   exchanged_to_all Unasked Writes (Err (Write n)) (reply, replied, fewer, written) = (reply, replies reply replied, fewer, written)

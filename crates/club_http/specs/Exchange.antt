@@ -13,14 +13,20 @@ pub record Replies {Desk : Type 0} (Answers : AnswerRelation Desk) (before after
   -- The whole input, including the bytes that the exchange didn't read, would get the same reply.
   pub to_all : IfSome before (λ all. IsReplied Answers all old reply new)
 
+-- The parts of an exchange's effect: the desk decided on this reply, the exchange didn't ask the
+-- desk, and the exchange wrote these bytes.
+pub record Effects : Type 1 where
+  pub decides : Reply → Type 0
+  pub unasked : Type 0
+  pub writes : List ℕ → Type 0
+
 -- The effect of an exchange. If the exchange got a reply, the exchange wrote all or a prefix of the
 -- reply's text. If reading failed, the exchange didn't ask the desk.
-abbrev pub Exchanges :
-    (Reply → Type 0) → Type 0 → (List ℕ → Type 0) → Result Reply AnswerFault → Type 0
-Exchanges Decides Unasked Writes (Ok reply) = Decides reply × Writes (reply_text reply)
-Exchanges Decides Unasked Writes (Err Read) = Unasked
-Exchanges Decides Unasked Writes (Err (Write n)) =
-    (reply : Reply) × Decides reply × (n < length (reply_text reply)) × Writes (take n (reply_text reply))
+abbrev pub Exchanges : Effects → Result Reply AnswerFault → Type 0
+Exchanges effects (Ok reply) = effects.decides reply × effects.writes (reply_text reply)
+Exchanges effects (Err Read) = effects.unasked
+Exchanges effects (Err (Write n)) =
+    (reply : Reply) × effects.decides reply × (n < length (reply_text reply)) × effects.writes (take n (reply_text reply))
 
 -- The count of the reader's failures after an exchange.
 abbrev pub reader_failures : ℕ → Result Reply AnswerFault → ℕ

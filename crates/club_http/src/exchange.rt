@@ -34,12 +34,12 @@ pub fn answer<D: Responder, R: Inlet, W: Outlet>(
     reader: &mut R,
     writer: &mut W,
 ) -> Result<Reply, AnswerFault>
-    ensures exchanged { Exchanges
-        (λ reply. Replies (D.answers moment) (R.to_come reader.old) (R.to_come reader.new)
-        face.new desk.old reply desk.new)
-        (desk.new ≡ desk.old)
-        (Appends (W.taken writer.old) (W.taken writer.new))
-        result }
+    ensures exchanged { Exchanges (record {
+      decides = λ reply. Replies (D.answers moment) (R.to_come reader.old) (R.to_come reader.new)
+          face.new desk.old reply desk.new;
+      unasked = desk.new ≡ desk.old;
+      writes = Appends (W.taken writer.old) (W.taken writer.new);
+    }) result }
     ensures cut_off { result ≡ Err AnswerFault.Read
         → IsCutOff (R.to_come reader.old) (R.to_come reader.new) face.new
         × (writer.new ≡ writer.old) }

@@ -40,23 +40,6 @@ impl Model for Face {
         × (face.len ≤ max_request_len) };
 }
 
-/// Returns the reply to the bytes of a request. The scan must cover all of these bytes.
-fn reply_to<D: Responder>(
-    routes: &Routes,
-    bytes: &[u8],
-    scan: &HeadScan,
-    desk: &mut D,
-    moment: Moment,
-) -> Reply
-    requires { Covers scan.now bytes.now }
-    ensures { IsReplied (D.answers moment) bytes.now desk.old result desk.new }
-{
-    match words_by_scan(routes, bytes, scan) {
-        Ok(words) => desk.ask(moment, &words),
-        Err(refusal) => Reply::Refused(refusal),
-    }
-}
-
 impl Face {
     /// Makes a `Face` that has no request yet. The `Face` contains the desk's routes, and a buffer
     /// of `MAX_REQUEST_LEN` bytes.
@@ -119,7 +102,10 @@ impl Face {
         requires { Covers scan.now self.now }
         ensures { IsReplied (D.answers moment) self.now desk.old result desk.new }
     {
-        reply_to(&self.routes, self.request(), scan, desk, moment)
+        match words_by_scan(&self.routes, self.request(), scan) {
+            Ok(words) => desk.ask(moment, &words),
+            Err(refusal) => Reply::Refused(refusal),
+        }
     }
 
     /// Asks the desk for the reply to the last request, and writes the text of the reply. The scan
@@ -138,11 +124,11 @@ impl Face {
         writer: &mut W,
     ) -> Result<Reply, AnswerFault>
         requires { Covers scan.now self.now }
-        ensures exchanged { Exchanges
-            (λ reply. IsReplied (D.answers moment) self.now desk.old reply desk.new)
-            ⊥
-            (Appends (W.taken writer.old) (W.taken writer.new))
-            result }
+        ensures exchanged { Exchanges (record {
+          decides = λ reply. IsReplied (D.answers moment) self.now desk.old reply desk.new;
+          unasked = ⊥;
+          writes = Appends (W.taken writer.old) (W.taken writer.new);
+        }) result }
         ensures calls { ArePut W.puts writer.old writer.new }
         ensures writes { W.failures writer.new ≡ writer_failures (W.failures writer.old) result }
     {

@@ -62,7 +62,7 @@ impl<S: Alter> ClubStore for Store<S> {
     }
 
     fn apply(&mut self, change: &Change) -> Result<(), StoreFault> {
-        Store::apply(self, change)
+        self.tables.apply(change)
     }
 
     ghost sound = { λ store club others represents. represents.0 };

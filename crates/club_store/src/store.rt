@@ -2,27 +2,23 @@
 
 ghost use Rattle.std.specs.Prelude.{◌≡◌, ℕ, false, List, [], ◌∷◌, All, IsTrue, IfOk, IfErr, IfSome};
 ghost use Rattle.std.specs.Prelude.{option_and_then, IsErrAnd, codes};
-ghost use Rattle.sqlite.specs.{Files.file_state, Held.state, State.HasCleanDisk};
-ghost use Rattle.sqlite.specs.{Steps.{over_memory, IsFresh, IsEmpty}, View.IsClean};
-ghost use Rattle.sqlite.specs.WalFiles.{image_at};
+ghost use Rattle.sqlite.specs.{Files.file_state, Held.state, State.HasCleanDisk, Steps.over_memory};
+ghost use Rattle.sqlite.specs.{Steps.{IsFresh, IsEmpty}, View.IsClean, WalFiles.image_at};
 ghost use Rattle.club_core.specs.Basis.{account_named, key_view_in, slot_use, state_of};
-ghost use Rattle.club_core.specs.Club.{Club, bookings_of, empty_club, key_named, member_named};
-ghost use Rattle.club_core.specs.{Club.facility_named, Request.{request_number, request_slot}};
-ghost use Rattle.club_core.specs.Sheet.{AreRowsOf};
-ghost use Rattle.club_core.specs.Sums.{booking_under, count_to_come, most_taken_in, spent_under};
+ghost use Rattle.club_core.specs.Club.{Club, empty_club, key_named, member_named, facility_named};
+ghost use Rattle.club_core.specs.{Request.{request_number, request_slot}, Sheet.AreRowsOf};
+ghost use Rattle.club_core.specs.Sums.{booking_under};
 ghost use Rattle.club_core.specs.declared.change.Change.TheVariants.{InsertMember, AddCredit};
 ghost use Rattle.club_core.specs.declared.change.Change.TheVariants.{InsertFacility, InsertKey};
 ghost use Rattle.club_core.specs.declared.change.Change.TheVariants.{MarkRevoked, ReplaceRoot};
-ghost use Rattle.club_core.specs.declared.change.Change.TheVariants.{MarkClosed, MarkOpen};
-ghost use Rattle.club_core.specs.declared.change.Change.TheVariants.{TakeCredit, ReplaceNumbers};
-ghost use Rattle.club_core.specs.declared.change.Change.TheVariants.{ReplaceQuota};
+ghost use Rattle.club_core.specs.declared.change.Change.TheVariants.{MarkClosed};
 ghost use Rattle.club_rows.specs.Rows.{IsMember, IsFacility, IsKey, IsBooking};
 ghost use Rattle.club_store.specs.Crash.{LeavesOneOf, IsOpenedOn, RepresentsOne};
 ghost use Rattle.club_store.specs.{Limits.HasLimits, Opening.{FailsFrom, IsHandedBack}};
 ghost use Rattle.club_store.specs.Opening.{IsMemoryFault, LeavesFrom, OpensFrom, SurvivesOpening};
 ghost use Rattle.club_tables.specs.Opening.{AcceptsTables, IsOpeningFault};
-ghost use Rattle.club_tables.specs.ReadsAndChanges.{ReadsClub, ChangesClub};
-ghost use Rattle.club_tables.specs.Tables.{Represents, IsFound};
+ghost use Rattle.club_tables.specs.{ReadsAndChanges.{ReadsClub, ChangesClub}, Tables.Represents};
+ghost use Rattle.club_tables.specs.Tables.{IsFound};
 
 use crate::FailedOpening;
 use crate::failed_opening::failed_opening;

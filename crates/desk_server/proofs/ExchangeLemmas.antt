@@ -92,7 +92,11 @@ module _ {S C : Type 0} (to_come taken : S → Option (List ℕ)) (Shows : C →
       pub answered : (outcome : Result Reply AnswerFault) → Receives (to_come old.stream) (to_come heard.stream) bytes
           → heard.read_failures ≡ old.read_failures
           → ((reply : Reply) → IsReplied Answers bytes left reply desk' → IfSome (to_come old.stream) (λ all. IsReplied Answers all left reply desk'))
-          → Exchanges (λ reply. IsReplied Answers bytes left reply desk') ⊥ (Appends (taken heard.stream) (taken sent.stream)) outcome
+          → Exchanges (record {
+            decides = λ reply. IsReplied Answers bytes left reply desk';
+            unasked = ⊥;
+            writes = Appends (taken heard.stream) (taken sent.stream);
+          }) outcome
           → IsEnded to_come taken outcome bytes sent new → sent.write_failures ≡ writer_failures heard.write_failures outcome
           → ExchangesBetween Given Carries Begins Noted Answers (λ accepted. to_come accepted.stream) (Talks to_come taken Shows Reads Writes)
           bytes clock desk log old outcome clock' desk' log' new

@@ -45,11 +45,11 @@ HasTalked {Client} Talks bytes written outcome = (old : Client) × (new : Client
 --   the first `n` bytes of the reply's text.
 -- - If the reader failed, the desk is unchanged, and the exchange wrote nothing.
 abbrev pub IsExchanged : {Desk : Type 0} → AnswerRelation Desk → List ℕ → Desk → List ℕ → Result Reply AnswerFault → Desk → Type 0
-IsExchanged Answers bytes old written outcome new = Exchanges
-    (λ reply. IsReplied Answers bytes old reply new)
-    ((new ≡ old) × (written ≡ []))
-    (λ text. written ≡ text)
-    outcome
+IsExchanged Answers bytes old written outcome new = Exchanges (record {
+      decides = λ reply. IsReplied Answers bytes old reply new;
+      unasked = (new ≡ old) × (written ≡ []);
+      writes = λ text. written ≡ text;
+    }) outcome
 
 -- The effect that a connection of the office has on the desk. If a complete command came, the desk
 -- carried out the command exactly once, even if the office didn't read the answer. If no complete
