@@ -81,21 +81,33 @@ KeepsClub Represents old new = (club : Club) (others : List Club) → Represents
 abbrev pub Returns : {S A E : Type 0} → (S → Club → List Club → Type 0) → S → Result A E → (Club → A → Type 0) → Type 0
 Returns Represents old answer IsReturned = (club : Club) (others : List Club) → Represents old club others → IfOk answer (IsReturned club)
 
+-- The ghosts of a store, which each implementation of `ClubStore` defines.
+pub record StoreGhosts (S : Type 0) : Type 1 where
+  -- The disk has been clean until now.
+  pub is_clean : S → Type 0
+  -- Relates a store to its current club and to its list of crash states. After a crash, the store
+  -- contains the current club or one of the crash states.
+  pub represents : S → Club → List Club → Type 0
+  -- A call failed with this fault. The two states are the store's states before and after the call.
+  -- The option contains the change that the call tried to apply, or is `None` if the call tried to
+  -- read.
+  pub fails : Option Change → S → StoreFault → S → Type 0
+
 -- A successful read doesn't affect later failures. If a later call can fail in the state after the
 -- read, the call can fail in the same way in the state before the read. `wish` is the change that
 -- the later call tries to apply, or `None` if the later call reads.
-abbrev pub IsRead : {S : Type 0} → (Option Change → S → StoreFault → S → Type 0) → S → S → Type 0
-IsRead {S} Fails old new = (wish : Option Change) (fault : StoreFault) (later : S) → Fails wish new fault later → Fails wish old fault later
+abbrev pub IsRead : {S : Type 0} → StoreGhosts S → S → S → Type 0
+IsRead {S} ghosts old new =
+    (wish : Option Change) (fault : StoreFault) (later : S) → ghosts.fails wish new fault later → ghosts.fails wish old fault later
 
 -- The promises of a read if the disk is clean after the read:
 --
 -- - The disk was clean before the read.
 -- - The read changes neither the store's club nor the store's crash states.
 -- - If the read succeeds, its result matches the club, and the read doesn't affect later failures.
--- - If the read fails, the failure satisfies `Fails`.
-pub record ReadsStore {S A : Type 0} (IsClean : S → Type 0) (Represents : S → Club → List Club → Type 0)
-    (Fails : Option Change → S → StoreFault → S → Type 0) (old new : S) (result : Result A StoreFault) (IsReturned : Club → A → Type 0) : Type 0 where
-  pub was_clean : IsClean new → IsClean old
-  pub kept : IsClean new → KeepsClub Represents old new
-  pub returned : IsClean new → Returns Represents old result IsReturned
-  pub failed : IsClean new → MatchResult result (λ _. IsRead Fails old new) (λ fault. Fails None old fault new)
+-- - If the read fails, the failure satisfies `fails`.
+pub record ReadsStore {S A : Type 0} (ghosts : StoreGhosts S) (old new : S) (result : Result A StoreFault) (IsReturned : Club → A → Type 0) : Type 0 where
+  pub was_clean : ghosts.is_clean new → ghosts.is_clean old
+  pub kept : ghosts.is_clean new → KeepsClub ghosts.represents old new
+  pub returned : ghosts.is_clean new → Returns ghosts.represents old result IsReturned
+  pub failed : ghosts.is_clean new → MatchResult result (λ _. IsRead ghosts old new) (λ fault. ghosts.fails None old fault new)

@@ -37,80 +37,71 @@ impl Error for StoreFault {}
 /// disk is clean if each read returns the bytes that the store wrote, and only the store writes to
 /// the disk.
 pub trait ClubStore {
-    ghost use Rattle.std.specs.Prelude.{◌≡◌, ◌∷◌, All, IfErr, List, Option, Some, option_map};
+    ghost use Rattle.std.specs.Prelude.{◌≡◌, ◌∷◌, All, IfErr, List, Some, option_map};
     ghost use Rattle.club_core.specs.Basis.{account_named, slot_use};
     ghost use Rattle.club_core.specs.Club.{Club, IsSound, bookings_of, facility_named, key_named};
     ghost use Rattle.club_core.specs.{KeyParts.older_root_of, Sheet.AreRowsOf};
-    ghost use Rattle.club_core.specs.{Store.{Changes, ReadsStore}, Sums.booking_under};
+    ghost use Rattle.club_core.specs.{Store.{Changes, ReadsStore, StoreGhosts}, Sums.booking_under};
     ghost use Rattle.club_core.specs.Sums.{count_to_come, most_taken_in, spent_under};
     ghost use Rattle.club_core.specs.declared.{change.Change.Change, store.StoreFault.StoreFault};
     ghost use Rattle.club_rows.specs.Key.{row_of_key};
 
-    // Relates a store to its current club and to its list of crash states. After a crash, the store
-    // contains the current club or one of the crash states.
-    ghost represents: { Self → Club → List Club → Type 0 };
-
-    // The disk has been clean until now.
-    ghost disk_is_clean: { Self → Type 0 };
-
-    // A call failed with this fault. The two states are the store's states before and after the
-    // call. The option contains the change that the call tried to apply, or is `None` if the call
-    // tried to read.
-    ghost fails: { Option Change → Self → StoreFault → Self → Type 0 };
+    // Relates a store to its club, to its failures and to the state of its disk.
+    ghost ghosts: { StoreGhosts Self };
 
     /// Returns the row of the key with this name, or `None` if no key has this name.
     fn key_row(&mut self, name: &Name) -> Result<Option<KeyRow>, StoreFault>
-        ensures { ReadsStore disk_is_clean represents fails self.old self.new result
+        ensures { ReadsStore ghosts self.old self.new result
             (λ club row. row ≡ option_map row_of_key (key_named name.now club)) };
 
     /// Returns the older root of the key with this name: the key's root before the last rotation.
     /// Returns `None` if the key was never rotated, or if no key has this name.
     fn older_root(&mut self, name: &Name) -> Result<Option<OlderRoot>, StoreFault>
-        ensures { ReadsStore disk_is_clean represents fails self.old self.new result
+        ensures { ReadsStore ghosts self.old self.new result
             (λ club older. older ≡ older_root_of name.now club) };
 
     /// Returns the facility with this name, or `None` if no facility has this name.
     fn facility(&mut self, name: &Name) -> Result<Option<Facility>, StoreFault>
-        ensures { ReadsStore disk_is_clean represents fails self.old self.new result
+        ensures { ReadsStore ghosts self.old self.new result
             (λ club facility. facility ≡ facility_named name.now club) };
 
     /// Returns the number of persons in a slot, and whether the slot is closed.
     fn slot(&mut self, slot: &Slot) -> Result<SlotUse, StoreFault>
-        ensures { ReadsStore disk_is_clean represents fails self.old self.new result
+        ensures { ReadsStore ghosts self.old self.new result
             (λ club found. found ≡ slot_use club slot.now) };
 
     /// Returns the highest number of persons in any slot of the facility with this name, on any
     /// day. Returns 0 if the facility has no bookings.
     fn most_taken(&mut self, facility: &Name) -> Result<u32, StoreFault>
-        ensures { ReadsStore disk_is_clean represents fails self.old self.new result
+        ensures { ReadsStore ghosts self.old self.new result
             (λ club most. most ≡ most_taken_in facility.now club.bookings) };
 
     /// Returns the key's booking with this number, or `None` if the key has no such booking.
     fn booking(&mut self, key: &Name, number: BookingNumber) -> Result<Option<Booking>, StoreFault>
-        ensures { ReadsStore disk_is_clean represents fails self.old self.new result
+        ensures { ReadsStore ghosts self.old self.new result
             (λ club booking. booking ≡ booking_under key.now number club.bookings) };
 
     /// Returns the row and the balance of the member with this name, or `None` if no member has
     /// this name.
     fn account(&mut self, member: &Name) -> Result<Option<MemberAccount>, StoreFault>
-        ensures { ReadsStore disk_is_clean represents fails self.old self.new result
+        ensures { ReadsStore ghosts self.old self.new result
             (λ club account. account ≡ account_named member.now club) };
 
     /// Returns the number of a member's open bookings. An open booking isn't cancelled, and its
     /// slot begins after the given moment.
     fn open_count(&mut self, member: &Name, moment: Moment) -> Result<u64, StoreFault>
-        ensures { ReadsStore disk_is_clean represents fails self.old self.new result
+        ensures { ReadsStore ghosts self.old self.new result
             (λ club count. count ≡ count_to_come moment (bookings_of member.now club)) };
 
     /// Returns the points that a key has spent: the charges of the key's bookings minus the
     /// refunds.
     fn spent(&mut self, key: &Name) -> Result<u64, StoreFault>
-        ensures { ReadsStore disk_is_clean represents fails self.old self.new result
+        ensures { ReadsStore ghosts self.old self.new result
             (λ club spent. spent ≡ spent_under key.now club.bookings) };
 
     /// Returns the day's bookings that aren't cancelled, in the day sheet's order.
     fn day(&mut self, day: Day) -> Result<Vec<Booking>, StoreFault>
-        ensures { ReadsStore disk_is_clean represents fails self.old self.new result
+        ensures { ReadsStore ghosts self.old self.new result
             (λ club rows. AreRowsOf club day rows.items) };
 
     /// Applies a change.
@@ -120,14 +111,14 @@ pub trait ClubStore {
     /// and the store's club doesn't change. After a later crash, the store may nevertheless contain
     /// the changed club.
     fn apply(&mut self, change: &Change) -> Result<(), StoreFault>
-        ensures was_clean { disk_is_clean self.new → disk_is_clean self.old }
-        ensures changed { disk_is_clean self.new →
-            Changes represents change.now self.old self.new result }
-        ensures failed { disk_is_clean self.new → IfErr result
-            (λ fault. fails (Some change.now) self.old fault self.new) };
+        ensures was_clean { ghosts.is_clean self.new → ghosts.is_clean self.old }
+        ensures changed { ghosts.is_clean self.new →
+            Changes ghosts.represents change.now self.old self.new result }
+        ensures failed { ghosts.is_clean self.new → IfErr result
+            (λ fault. ghosts.fails (Some change.now) self.old fault self.new) };
 
     // The current club and each crash state satisfy the invariants of a club.
     ghost sound: { (store : Self) (club : Club) (others : List Club)
-        → represents store club others
+        → ghosts.represents store club others
         → All IsSound (club ∷ others) };
 }

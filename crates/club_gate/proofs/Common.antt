@@ -13,9 +13,9 @@ pub use Rattle.club_core.specs.{Club.{Club, IsSound, key_named, bookings_of, mem
 pub use Rattle.club_core.specs.Pass.{Words, Pass, is_signed_under, IsSignedUnder}
 pub use Rattle.club_core.specs.Run.{Commanded, Asked, after_change, Event, step, replies_of, ToMember, ToOffice}
 pub use Rattle.club_core.specs.Office.{done_answer}
-pub use Rattle.club_core.specs.{Store.{IsRead, KeepsClub, ReadsStore}, Sums.{spent_under, booking_under, count_to_come, cost_of}, declared.change.Change.Change}
+pub use Rattle.club_core.specs.{Store.{IsRead, KeepsClub, ReadsStore, StoreGhosts}, Sums.{spent_under, booking_under, count_to_come, cost_of}}
 pub use Rattle.club_core.specs.declared.{refusal.Refusal.TheVariants.{Unavailable, KeyRevoked, NotVerified}, reply.Reply.Reply, request.Request.Request}
-pub use Rattle.club_core.specs.declared.{store.StoreFault.StoreFault, verdict.Verdict.Verdict, view.View.View}
+pub use Rattle.club_core.specs.declared.{change.Change.Change, store.StoreFault.StoreFault, verdict.Verdict.Verdict, view.View.View}
 pub use Rattle.club_laws.specs.Failed.{IsRun, has_failed, IsStep, LeavesOutFailed, NeverUnavailable}
 pub use Rattle.club_laws.specs.SingleRequest.{words_with, DependsOnTheBasisAlone, MoreCaveatsNeverOpenMore, RefusesWithoutABasis, ServesOnlyTheEntitled}
 pub use Rattle.club_rows.specs.{Key.{row_of_key, key_of_row, older_root_at}, declared.key.{Key.Key, KeyRow.KeyRow}}

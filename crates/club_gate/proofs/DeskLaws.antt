@@ -1,5 +1,5 @@
 -- Lemmas for the proof that each reply of the desk satisfies the law of the desk.
-use Rattle.club_gate.proofs.Common.{All, List, None, Ok, Option, Result, Some, [], ap, arith, map, refl, sym, ℕ, ◌++◌, ◌∙◌, ◌∷◌, ◌≡◌, ◌≢◌, ◌⊎◌}
+use Rattle.club_gate.proofs.Common.{All, List, None, Ok, Option, Result, Some, [], ap, arith, map, refl, sym, ℕ, ◌++◌, ◌∙◌, ◌∷◌, ◌≡◌, ◌≢◌, ◌⊎◌, StoreGhosts}
 use Rattle.club_gate.proofs.Common.{All-cons, All-head, All-nil, All-tail, Allowed, Allows, Ask, Caveat, IsBytes, caveat_of, map-append, subst}
 use Rattle.club_gate.proofs.Common.{DecidesSigned, Form, FormFault, IsAnyReading, Key, Plain, ReadsAnyFormExactly, ReadsWhatIsUnderstood, Unavailable, reading}
 use Rattle.club_gate.proofs.Common.{Club, Pass, Reply, Request, Verdict, Words, ask_of, basis_of, basis_under, key_named, key_of, verdict_in, view_of}
@@ -9,10 +9,10 @@ use Rattle.club_gate.proofs.{Common.{AreWordsOf, Decodes, NamesItsRows, decoded_
 use Rattle.club_core.specs.{Acceptance.{IsAllowedBy, IsServed}, declared.pass_fault.PassFault.PassFault}
 use Rattle.club_gate.specs.Served.{EntitlesTo, IsLawful, IsNarrowedText}
 
-pub reply_or_failure : {S : Type 0} (Represents : S → Club → List Club → Type 0) (new : S) (club : Club) (others : List Club) (verdict : Verdict)
-    (reply : Reply) → IsDecidedBy Represents new club others verdict reply ⊎ HasFailed Represents new club others verdict reply
+pub reply_or_failure : {S : Type 0} (ghosts : StoreGhosts S) (new : S) (club : Club) (others : List Club) (verdict : Verdict)
+    (reply : Reply) → IsDecidedBy ghosts new club others verdict reply ⊎ HasFailed ghosts new club others verdict reply
     → reply ≢ unavailable → reply ≡ verdict.reply
-reply_or_failure Represents new club others verdict reply outcome some = grind arith
+reply_or_failure ghosts new club others verdict reply outcome some = grind arith
 
 -- The reply of the machine to a request with this text as its pass.
 abbrev pub reply_in : Club → List ℕ → Request → ℕ → Reply

@@ -2,7 +2,7 @@
 use Rattle.club_gate.proofs.Common.{All, Bool, List, None, Option, Some, [], arith, cond, false, inl, inr, length, refl, subst, sym, true, ◌++◌, ◌∷◌, ◌≡◌}
 use Rattle.club_gate.proofs.Common.{All-append, All-cons, All-contains_itself, All-nil, All-weaker, Change, Club, Event, append_assoc, length-append, step}
 use Rattle.club_gate.proofs.Common.{FailedLast, IsAnsweredBy, IsFollowed, IsRefusedBy, IsRun, IsStep, MakesNoChange, Steps, change_of, has_failed, others_after}
-use Rattle.club_gate.proofs.Common.{DeskResponse, MayBeLeft, desk_presentation, events_answered}
+use Rattle.club_gate.proofs.Common.{DeskResponse, MayBeLeft, desk_presentation, events_answered, StoreGhosts}
 
 kept_by : (club : Club) (event : Event) → change_of club event ≡ None → (step club event).club ≡ club
 kept_by club event h = grind arith
@@ -47,13 +47,13 @@ rest_beside : (events front rest : List Event) (event : Event) (responses before
     → length since ≡ length rest
 rest_beside events front rest event responses before since response place among beside e = grind (arith, length-append)
 
-module _ {S : Type 0} (Represents : S → Club → List Club → Type 0) where
-  pub followed_none : (now : S) (club : Club) (others : List Club) → Represents now club others → IsFollowed Represents now club others [] []
+module _ {S : Type 0} (ghosts : StoreGhosts S) where
+  pub followed_none : (now : S) (club : Club) (others : List Club) → ghosts.represents now club others → IsFollowed ghosts now club others [] []
   followed_none now club others h = grind (arith, All-weaker, All-nil, All-contains_itself)
 
   -- The next lemmas add one event to a list of handled events.
   module _ (now new : S) (club : Club) (others : List Club) (events : List Event) (responses : List DeskResponse) (event : Event) (one : DeskResponse)
-      (e : length responses ≡ length events) (f : IsFollowed Represents now club others events responses) where
+      (e : length responses ≡ length events) (f : IsFollowed ghosts now club others events responses) where
     abbrev all : List Event
     all = events ++ event ∷ []
 
@@ -76,7 +76,7 @@ module _ {S : Type 0} (Represents : S → Club → List Club → Type 0) where
         (all_with_more (none_by_answer f.last event one success is))
     left_by_answer success (Some change) is = All-nil (MayBeLeft club others (step f.last event).club all returned)
 
-    answered_more : IsAnsweredBy Represents new f.last f.left event one → IsFollowed Represents new club others all returned
+    answered_more : IsAnsweredBy ghosts new f.last f.left event one → IsFollowed ghosts new club others all returned
     answered_more a =
         let next = (step f.last event).club in
         record {
@@ -87,7 +87,7 @@ module _ {S : Type 0} (Represents : S → Club → List Club → Type 0) where
           each = left_by_answer a.success (change_of f.last event) refl;
         }
 
-    refused_more : IsRefusedBy Represents new f.last f.left event one → IsFollowed Represents new club others all returned
+    refused_more : IsRefusedBy ghosts new f.last f.left event one → IsFollowed ghosts new club others all returned
     refused_more r =
         let Left : Club → Type 0 = MayBeLeft club others f.last all returned in
         let ran = ran_more club f.last f.last events responses event one f.ran (inr (record { failure = r.failure; kept = refl })) in
@@ -116,5 +116,5 @@ module _ {S : Type 0} (Represents : S → Club → List Club → Type 0) where
           }
         ]
 
-    pub followed_more : Steps Represents now new event one → IsFollowed Represents new club others all returned
+    pub followed_more : Steps ghosts now new event one → IsFollowed ghosts new club others all returned
     followed_more steps = elim (steps f.last f.left f.represents) [ inl a ↦ answered_more a | inr r ↦ refused_more r ]

@@ -2,38 +2,37 @@
 use Rattle.club_gate.proofs.Common.{◌≡◌, inl, inr, List, All, Some, Result, Ok, Err, IfOk, OnOk, sym, subst, Club, empty_club, member_named, IsSound, IsEvent}
 use Rattle.club_gate.proofs.Common.{Event, replies_of, IsRun, LeavesOutFailed, AreEventsOf, IsEventOfBytes, SeesEvents, machine_events, Conserves}
 use Rattle.club_gate.proofs.Common.{IsAnsweredRun, IsFollowed, IsLawfulRun, IsOnce, LeavesClub, MayBeLeft, DeskResponse, events_answered, club_left}
-use Rattle.club_gate.proofs.Common.{desk_presentation}
+use Rattle.club_gate.proofs.Common.{desk_presentation, StoreGhosts}
 use Rattle.club_laws.specs.{Conservation.{IsConserved, SoundClubsHavePlaces}, RunsWithFailures.{ConservesWithFailures, SoloLawWithFailures}}
 use Rattle.club_laws.specs.RunsWithFailures.{SoloLawOfTwoWithFailures, SoundWithFailures, RepeatsServedReplies, RepeatsAfterOneMore, RepeatsWithFailures}
 use Rattle.club_laws.specs.RunsWithFailures.{CancellationsWithFailures}
 use Rattle.club_gate.specs.{Runs.ReturnsTheRecord, declared.event.{Event.Event as DeskEvent, OfficeReply.OfficeReply}}
 
-pub for_seen : {S T E : Type 0} (Represents : S → Club → List Club
-    → Type 0) (new : S) (club : Club) (others : List Club) (events : List DeskEvent) (r : Result T E)
+pub for_seen : {S T E : Type 0} (ghosts : StoreGhosts S) (new : S) (club : Club) (others : List Club) (events : List DeskEvent) (r : Result T E)
     (responses : T → List DeskResponse) (P : List Event → List DeskResponse → Type 0) → SeesEvents → OnOk r (All IsEventOfBytes events)
-    → OnOk r (All IsEvent (machine_events events)) → IfOk r (λ x. IsFollowed Represents new club others (machine_events events) (responses x))
-    → ((ts : List DeskResponse) → All IsEvent (machine_events events) → IsFollowed Represents new club others (machine_events events) ts
+    → OnOk r (All IsEvent (machine_events events)) → IfOk r (λ x. IsFollowed ghosts new club others (machine_events events) (responses x))
+    → ((ts : List DeskResponse) → All IsEvent (machine_events events) → IsFollowed ghosts new club others (machine_events events) ts
     → P (machine_events events) ts) → IfOk r (λ x. (seen : List Event) → AreEventsOf events seen → P seen (responses x))
-for_seen Represents new club others events (Ok x) responses P sees bytes within f rule = λ seen are.
+for_seen ghosts new club others events (Ok x) responses P sees bytes within f rule = λ seen are.
     subst (λ (es : List Event). P es (responses x)) ((sees events seen bytes).0 are) (rule (responses x) within f)
-for_seen Represents new club others events (Err e) responses P sees bytes within f rule = tt
+for_seen ghosts new club others events (Err e) responses P sees bytes within f rule = tt
 
-module _ {S : Type 0} (Represents : S → Club → List Club → Type 0) (new : S) (club : Club) (others : List Club) (events : List Event)
-    (responses : List DeskResponse) (leaves : LeavesOutFailed OfficeReply) (f : IsFollowed Represents new club others events responses) where
+module _ {S : Type 0} (ghosts : StoreGhosts S) (new : S) (club : Club) (others : List Club) (events : List Event)
+    (responses : List DeskResponse) (leaves : LeavesOutFailed OfficeReply) (f : IsFollowed ghosts new club others events responses) where
   left_by : f.last ≡ club_left club events responses
   left_by = (leaves desk_presentation club f.last events responses f.ran).left
 
   answered_by : IsAnsweredRun club events responses
   answered_by = subst (IsRun desk_presentation club events responses) left_by f.ran
 
-  pub leaves_club : RepeatsAfterOneMore OfficeReply → LeavesClub Represents new club others events responses
+  pub leaves_club : RepeatsAfterOneMore OfficeReply → LeavesClub ghosts.represents new club others events responses
   leaves_club law =
       let last = club_left club events responses in
       let again = law desk_presentation club last events responses answered_by in
       let At : Club → Type 0 = λ c. RepeatsServedReplies c events responses in
       record {
         left = f.left;
-        represents = subst (λ (c : Club). Represents new c f.left) left_by f.represents;
+        represents = subst (λ (c : Club). ghosts.represents new c f.left) left_by f.represents;
         each = subst (λ (c : Club). All (MayBeLeft club others c events responses) f.left) left_by f.each;
         again = λ now near. elim near [ inl same ↦ subst At (sym same) again.0 | inr one ↦ subst At (sym one.1) (again.1 one.0) ];
       }

@@ -4,8 +4,9 @@ use Rattle.std.specs.{Fmt.decimal, Prelude.{◌≡◌, ◌⊎◌, ℕ, Bool, tru
 use Rattle.std.specs.{Prelude.{Result, Ok, Err, String}, String.string_bytes}
 use Rattle.club_values.specs.{Day.day_text, Kind.kind_text, Moment.moment_text, declared.{kind.Kind.Kind, slot.Slot.Slot}}
 use Rattle.club_rows.specs.declared.key.{Key.Key, OlderRoot.OlderRoot}
-use Rattle.club_core.specs.{Basis.{slot_use, view_in}, Club.{Club, facility_named, key_named}, Store.{IsRead, KeepsClub}, Verdict.{account_verdict, verdict_of}}
-use Rattle.club_core.specs.declared.{change.Change.Change, command.OfficeFault.TheVariants.Unknown, reply.Reply.{Reply, TheVariants.{AccountShown, SlotShown}}}
+use Rattle.club_core.specs.{Basis.{slot_use, view_in}, Club.{Club, facility_named, key_named}, Store.{IsRead, KeepsClub, StoreGhosts}}
+use Rattle.club_core.specs.Verdict.{account_verdict, verdict_of}
+use Rattle.club_core.specs.declared.{command.OfficeFault.TheVariants.Unknown, reply.Reply.{Reply, TheVariants.{AccountShown, SlotShown}}}
 use Rattle.club_core.specs.declared.{store.StoreFault.{StoreFault, TheVariants.Memory}, view.View.View}
 use Rattle.club_core.specs.declared.reply.Reply.TheVariants as replies
 use Rattle.club_core.specs.declared.request.Request.TheVariants as asked
@@ -121,17 +122,16 @@ IsShowingFault fault = ⊥
 -- - The store failed while it read rows.
 -- - No key or facility has the name.
 -- - There was no memory for the text.
-abbrev pub FailsToShow : {S : Type 0} → (Option Change → S → StoreFault → S → Type 0) → S → S → Fault → Type 0
-FailsToShow Fails old new fault =
-    ((failure : StoreFault) × Fails None old failure new × (fault ≡ Store failure))
-    ⊎ (((fault ≡ Refused Unknown) ⊎ (fault ≡ Store Memory)) × IsRead Fails old new)
+abbrev pub FailsToShow : {S : Type 0} → StoreGhosts S → S → S → Fault → Type 0
+FailsToShow ghosts old new fault =
+    ((failure : StoreFault) × ghosts.fails None old failure new × (fault ≡ Store failure))
+    ⊎ (((fault ≡ Refused Unknown) ⊎ (fault ≡ Store Memory)) × IsRead ghosts old new)
 
 -- If the store's disk is clean after a listing, the listing didn't change the club. `IsSo` is then
 -- true for each club that the store represented before the listing.
-pub record ShowsClub {S A : Type 0} (IsClean : S → Type 0) (Represents : S → Club → List Club → Type 0)
-    (Fails : Option Change → S → StoreFault → S → Type 0) (old new : S) (result : Result A Fault) (IsSo : Club → Type 0) : Type 0 where
-  pub was_clean : IsClean new → IsClean old
-  pub kept : IsClean new → KeepsClub Represents old new
-  pub shown : OfItsClub IsClean Represents old new IsSo
+pub record ShowsClub {S A : Type 0} (ghosts : StoreGhosts S) (old new : S) (result : Result A Fault) (IsSo : Club → Type 0) : Type 0 where
+  pub was_clean : ghosts.is_clean new → ghosts.is_clean old
+  pub kept : ghosts.is_clean new → KeepsClub ghosts.represents old new
+  pub shown : OfItsClub ghosts old new IsSo
   pub faults : IfErr result IsShowingFault
-  pub failure : IsClean new → IfErr result (FailsToShow Fails old new)
+  pub failure : ghosts.is_clean new → IfErr result (FailsToShow ghosts old new)

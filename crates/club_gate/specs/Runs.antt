@@ -1,11 +1,11 @@
 -- The responses to a list of events, and the state of the store after the events. An event failed
 -- if its response is a fault of memory or storage.
-use Rattle.std.specs.Prelude.{◌≡◌, ◌⊎◌, ℕ, ◌≤◌, IsTrue, IsFalse, List, [], ◌∷◌, ◌++◌, length, map, sum_by, All, Contains, Option, Some, None}
+use Rattle.std.specs.Prelude.{◌≡◌, ◌⊎◌, ℕ, ◌≤◌, IsTrue, IsFalse, List, [], ◌∷◌, ◌++◌, length, map, sum_by, All, Contains, Some, None}
 use Rattle.club_values.specs.declared.slot.Slot.{Slot}
 use Rattle.club_rows.specs.declared.{booking.Booking.Booking, member.Member.Member}
-use Rattle.club_core.specs.{Acceptance.IsAcceptedIn, Basis.key_of, Club.{Club, empty_club, bookings_of, member_named, IsSound}, Pass.Words}
+use Rattle.club_core.specs.{Acceptance.IsAcceptedIn, Basis.key_of, Club.{Club, empty_club, bookings_of, member_named, IsSound}, Pass.Words, Store.StoreGhosts}
 use Rattle.club_core.specs.{Run.{Asked, step, replies_of, club_after, Response, ToMember}, Solo.{own_events, part_of, solo_replies}, Sums.cost_of}
-use Rattle.club_core.specs.declared.{change.Change.Change, reply.Reply.{Reply, TheVariants.Cancelled}, store.StoreFault.StoreFault}
+use Rattle.club_core.specs.declared.{reply.Reply.{Reply, TheVariants.Cancelled}}
 use Rattle.club_core.specs.declared.request.Request.TheVariants as asked
 use Rattle.club_core.specs.Run as machine
 use Rattle.club_laws.specs.{Conservation.{IsConserved, HasPlaces}, Failed.{has_failed, IsRun, answered_events, answers}}
@@ -175,19 +175,19 @@ pub record IsLawfulRun (club : Club) (events : List machine.Event) (responses : 
 
 -- If an event failed, the contract of `Desk::ask` or `Desk::office` allows the cause of the
 -- failure.
-abbrev pub EventFailsForCause : {S : Type 0} → (Option Change → S → StoreFault → S → Type 0) → S → S → Club → Event → EventReply → Type 0
-EventFailsForCause Fails old new club (events.Asked words moment) (Replied reply) =
-    FailsForCause Fails old new club words.pass.now words.request moment reply
-EventFailsForCause Fails old new club (events.Commanded command) (Answered reply) = NamesItsFault Fails old new club (machine.Commanded command) reply
-EventFailsForCause Fails old new club event reply = ⊥
+abbrev pub EventFailsForCause : {S : Type 0} → StoreGhosts S → S → S → Club → Event → EventReply → Type 0
+EventFailsForCause ghosts old new club (events.Asked words moment) (Replied reply) =
+    FailsForCause ghosts old new club words.pass.now words.request moment reply
+EventFailsForCause ghosts old new club (events.Commanded command) (Answered reply) = NamesItsFault ghosts old new club (machine.Commanded command) reply
+EventFailsForCause ghosts old new club event reply = ⊥
 
-module _ {S : Type 0} (IsClean : S → Type 0) (Represents : S → Club → List Club → Type 0) (Fails : Option Change → S → StoreFault → S → Type 0) where
+module _ {S : Type 0} (ghosts : StoreGhosts S) where
   -- The desk handled one event. `old` is the store before the event, and `new` is the store after
   -- the event.
   pub record IsHandled (old : S) (event : Event) (reply : EventReply) (new : S) : Type 0 where
-    pub was_clean : IsClean new → IsClean old
-    pub steps : IsClean new → (seen : machine.Event) × IsEventOf event seen × Steps Represents old new seen (response_of reply)
-    pub failed : OfItsClub IsClean Represents old new (λ club. EventFailsForCause Fails old new club event reply)
+    pub was_clean : ghosts.is_clean new → ghosts.is_clean old
+    pub steps : ghosts.is_clean new → (seen : machine.Event) × IsEventOf event seen × Steps ghosts old new seen (response_of reply)
+    pub failed : OfItsClub ghosts old new (λ club. EventFailsForCause ghosts old new club event reply)
 
   -- The desk handled the events in order. Each event starts with the store as the previous event
   -- left it.
@@ -197,10 +197,10 @@ module _ {S : Type 0} (IsClean : S → Type 0) (Represents : S → Club → List
         → IsHandled now event reply new → AreHandled old (events ++ event ∷ []) (replies ++ reply ∷ []) new
 
 -- The desk handled a list of events in order. Each event was answered or failed.
-pub record IsFollowed {S : Type 0} (Represents : S → Club → List Club → Type 0) (new : S) (club : Club) (others : List Club) (events : List machine.Event)
+pub record IsFollowed {S : Type 0} (ghosts : StoreGhosts S) (new : S) (club : Club) (others : List Club) (events : List machine.Event)
     (responses : List DeskResponse) : Type 0 where
   pub last : Club
   pub ran : IsRun desk_presentation club events responses last
   pub left : List Club
-  pub represents : Represents new last left
+  pub represents : ghosts.represents new last left
   pub each : All (MayBeLeft club others last events responses) left

@@ -2,8 +2,8 @@
 use Rattle.std.specs.Prelude.{◌≡◌, ◌⊎◌, ℕ, ◌≤◌, not, List, [], ◌∷◌, length, IfOk, Option, Some, None, Result, Ok, Err}
 use Rattle.pass_forms.specs.{FieldSource.{PassField, pass_fields}, Pass.Plain, Reading.max_caveats, declared.fault.FormFault.FormFault}
 use Rattle.club_rows.specs.{Key.row_of_key, declared.key.{Key.Key, KeyRow.KeyRow}}
-use Rattle.club_core.specs.{Answer.form_refusal, Lines.{line_if, first_of}, Pass.is_signed_under, Store.IsRead, Verdict.refusal_verdict}
-use Rattle.club_core.specs.declared.{change.Change.Change, refusal.Refusal.{Refusal, TheVariants.{KeyRevoked, NotVerified}}, store.StoreFault.StoreFault}
+use Rattle.club_core.specs.{Answer.form_refusal, Lines.{line_if, first_of}, Pass.is_signed_under, Store.{IsRead, StoreGhosts}, Verdict.refusal_verdict}
+use Rattle.club_core.specs.declared.{refusal.Refusal.{Refusal, TheVariants.{KeyRevoked, NotVerified}}, store.StoreFault.StoreFault}
 use Rattle.club_core.specs.declared.verdict.Verdict.{Verdict}
 use Rattle.club_gate.specs.{DecodedPass.fault_of, computed.DecodedPass.machine_pass}
 
@@ -21,9 +21,9 @@ signer_of pass moment (Some key) =
 
 -- A call returned a verdict, or failed with a fault. A fault has one of two causes. Either the
 -- store failed with this fault while it read rows, or the text is JSON and the store wasn't called.
-abbrev pub ReadsOrLacksMemory : {S : Type 0} → (Option Change → S → StoreFault → S → Type 0) → Type 0 → S → S → Result Verdict StoreFault → Type 0
-ReadsOrLacksMemory Fails IsJsonText old new (Ok verdict) = IsRead Fails old new
-ReadsOrLacksMemory Fails IsJsonText old new (Err fault) = Fails None old fault new ⊎ (IsJsonText × (new ≡ old))
+abbrev pub ReadsOrLacksMemory : {S : Type 0} → StoreGhosts S → Type 0 → S → S → Result Verdict StoreFault → Type 0
+ReadsOrLacksMemory ghosts IsJsonText old new (Ok verdict) = IsRead ghosts old new
+ReadsOrLacksMemory ghosts IsJsonText old new (Err fault) = ghosts.fails None old fault new ⊎ (IsJsonText × (new ≡ old))
 
 -- The result for a text that has this fault. The store wasn't called, and the club doesn't change.
 -- If the text is parsed without memory (`IsInPlace`), the result is always a refusal with this

@@ -111,14 +111,13 @@ impl<S: ClubStore> Desk<S> {
     /// in this function. If the store fails, the club is unchanged, but the change may still take
     /// effect after a crash.
     fn settle(&mut self, change: Option<Change>) -> Result<(), StoreFault>
-        ensures was_clean { S.disk_is_clean self.new → S.disk_is_clean self.old }
-        ensures settled { S.disk_is_clean self.new → (club : Club) (others : List Club)
-            → S.represents self.old club others
-            → FitsIfAny change club
-            → Settles S.represents self.new change result club others }
+        ensures was_clean { S.ghosts.is_clean self.new → S.ghosts.is_clean self.old }
+        ensures settled { S.ghosts.is_clean self.new → (club : Club) (others : List Club)
+            → S.ghosts.represents self.old club others → FitsIfAny change club
+            → Settles S.ghosts self.new change result club others }
         ensures nothing { change ≡ None → (result ≡ Ok tt) × (self.new ≡ self.old) }
-        ensures failed { S.disk_is_clean self.new → IfErr result
-            (λ fault. S.fails change self.old fault self.new) }
+        ensures failed { S.ghosts.is_clean self.new → IfErr result
+            (λ fault. S.ghosts.fails change self.old fault self.new) }
     {
         match change {
             Some(change) => self.store.apply(&change),
@@ -129,12 +128,12 @@ impl<S: ClubStore> Desk<S> {
     /// Decides a request at a moment, applies the resulting change, and returns the reply. Fails if
     /// memory ran out or storage failed.
     fn reply_to(&mut self, moment: Moment, words: &SentWords) -> Result<Reply, StoreFault>
-        ensures was_clean { S.disk_is_clean self.new → S.disk_is_clean self.old }
-        ensures steps { S.disk_is_clean self.new → DecidesOrFails S.represents self.old self.new
+        ensures was_clean { S.ghosts.is_clean self.new → S.ghosts.is_clean self.old }
+        ensures steps { S.ghosts.is_clean self.new → DecidesOrFails S.ghosts self.old self.new
             (decoded_words words.now.pass.now words.now.request) moment
             (reply_or_unavailable result) }
-        ensures failed { OfItsClub S.disk_is_clean S.represents self.old self.new
-            (λ club. FailsForCause S.fails self.old self.new club words.now.pass.now
+        ensures failed { OfItsClub S.ghosts self.old self.new
+            (λ club. FailsForCause S.ghosts self.old self.new club words.now.pass.now
             words.now.request moment (reply_or_unavailable result)) }
         ensures untouched { (fault : FormFault) → reading words.now.pass.now ≡ Err fault
             → self.new ≡ self.old }
@@ -154,7 +153,7 @@ impl<S: ClubStore> Desk<S> {
 
     /// Returns the member with this name, or `None` if the club has no such member.
     fn member(&mut self, name: &Name) -> Result<Option<Member>, StoreFault>
-        ensures { ReadsStore S.disk_is_clean S.represents S.fails self.old self.new result
+        ensures { ReadsStore S.ghosts self.old self.new result
             (λ club member. member ≡ member_named name.now club) }
     {
         match self.store.account(name)? {
@@ -166,7 +165,7 @@ impl<S: ClubStore> Desk<S> {
     /// Returns the key with this name, including its older root. Returns `None` if the club has no
     /// such key.
     pub(crate) fn key(&mut self, name: &Name) -> Result<Option<Key>, StoreFault>
-        ensures { ReadsStore S.disk_is_clean S.represents S.fails self.old self.new result
+        ensures { ReadsStore S.ghosts self.old self.new result
             (λ club key. key ≡ key_named name.now club) }
     {
         let Some(row) = self.store.key_row(name)? else {
@@ -178,7 +177,7 @@ impl<S: ClubStore> Desk<S> {
 
     /// Reads the rows that a command of the office depends on.
     fn command_view(&mut self, command: &Command) -> Result<CommandView, StoreFault>
-        ensures { ReadsStore S.disk_is_clean S.represents S.fails self.old self.new result
+        ensures { ReadsStore S.ghosts self.old self.new result
             (λ club view. view ≡ command_view club command.now) }
     {
         let mut view = nothing_seen();
@@ -217,12 +216,11 @@ impl<S: ClubStore> Desk<S> {
     /// Decides a command of the office, applies the resulting change, and returns the answer. Fails
     /// if memory ran out or storage failed.
     fn answer_to(&mut self, command: &Command) -> Result<OfficeAnswer, StoreFault>
-        ensures was_clean { S.disk_is_clean self.new → S.disk_is_clean self.old }
-        ensures steps { S.disk_is_clean self.new → Steps S.represents self.old self.new
+        ensures was_clean { S.ghosts.is_clean self.new → S.ghosts.is_clean self.old }
+        ensures steps { S.ghosts.is_clean self.new → Steps S.ghosts self.old self.new
             (machine.Commanded command.now) (ToOffice (answer_or_fault result)) }
-        ensures failed { OfItsClub S.disk_is_clean S.represents self.old self.new
-            (λ club. IfErr result
-            (FailsAt S.fails self.old self.new (change_of club (machine.Commanded command.now)))) }
+        ensures failed { OfItsClub S.ghosts self.old self.new (λ club. IfErr result
+            (FailsAt S.ghosts self.old self.new (change_of club (machine.Commanded command.now)))) }
     {
         changes_fit();
         command.within();
@@ -250,20 +248,20 @@ impl<S: ClubStore> Desk<S> {
     /// in JSON. In both cases the club is unchanged. If the store failed to write a change, the
     /// change may still take effect after a crash.
     pub fn ask(&mut self, moment: Moment, words: &SentWords) -> Reply
-        ensures was_clean { S.disk_is_clean self.new → S.disk_is_clean self.old }
+        ensures was_clean { S.ghosts.is_clean self.new → S.ghosts.is_clean self.old }
         // If the request didn't fail, the reply is the decision of the rules on the decoded text.
         // The store then represents the club after this decision. If the request failed, the store
         // represents the same club as before the request.
-        ensures steps { S.disk_is_clean self.new → (decoded : Words)
+        ensures steps { S.ghosts.is_clean self.new → (decoded : Words)
             × AreWordsOf words.now.pass.now words.now.request decoded
-            × DecidesOrFails S.represents self.old self.new decoded moment result }
-        ensures lawful { OfItsClub S.disk_is_clean S.represents self.old self.new
+            × DecidesOrFails S.ghosts self.old self.new decoded moment result }
+        ensures lawful { OfItsClub S.ghosts self.old self.new
             (λ club. IsLawful club words.now.pass.now words.now.request moment result) }
         // `Unavailable` means that the store failed, or that there was no memory to parse JSON. The
         // store can fail while it reads rows or applies the request's change. Parsing JSON leaves
         // the store unchanged.
-        ensures failed { OfItsClub S.disk_is_clean S.represents self.old self.new
-            (λ club. FailsForCause S.fails self.old self.new club words.now.pass.now
+        ensures failed { OfItsClub S.ghosts self.old self.new
+            (λ club. FailsForCause S.ghosts self.old self.new club words.now.pass.now
             words.now.request moment result) }
         // A text that isn't a pass leaves the store unchanged. The refusal of such a text needs
         // memory only if the text is JSON.
@@ -292,11 +290,11 @@ impl<S: ClubStore> Desk<S> {
     /// causes: memory ran out, or storage failed. If the store failed to write a change, the change
     /// may still take effect after a crash.
     pub fn office(&mut self, command: &Command) -> OfficeReply
-        ensures was_clean { S.disk_is_clean self.new → S.disk_is_clean self.old }
-        ensures steps { S.disk_is_clean self.new → Steps S.represents self.old self.new
+        ensures was_clean { S.ghosts.is_clean self.new → S.ghosts.is_clean self.old }
+        ensures steps { S.ghosts.is_clean self.new → Steps S.ghosts self.old self.new
             (machine.Commanded command.now) (ToOffice result) }
-        ensures failed { OfItsClub S.disk_is_clean S.represents self.old self.new
-            (λ club. NamesItsFault S.fails self.old self.new club (machine.Commanded command.now)
+        ensures failed { OfItsClub S.ghosts self.old self.new
+            (λ club. NamesItsFault S.ghosts self.old self.new club (machine.Commanded command.now)
             result) }
     {
         match self.answer_to(command) {
@@ -307,8 +305,7 @@ impl<S: ClubStore> Desk<S> {
 
     /// Answers an event: calls `ask` for a request and `office` for a command.
     pub(crate) fn event(&mut self, event: &Event) -> EventReply
-        ensures { IsHandled S.disk_is_clean S.represents S.fails self.old event.now result
-            self.new }
+        ensures { IsHandled S.ghosts self.old event.now result self.new }
     {
         match event {
             Event::Asked { words, moment } => EventReply::Replied(self.ask(*moment, words)),
@@ -323,13 +320,14 @@ impl<S: ClubStore> Desk<S> {
     ///
     /// Fails with `Store` if memory ran out or storage failed.
     pub fn sheet(&mut self, day: Day) -> Result<String, Fault>
-        ensures was_clean { S.disk_is_clean self.new → S.disk_is_clean self.old }
-        ensures kept { S.disk_is_clean self.new → KeepsClub S.represents self.old self.new }
-        ensures returned { S.disk_is_clean self.new → Returns S.represents self.old result
+        ensures was_clean { S.ghosts.is_clean self.new → S.ghosts.is_clean self.old }
+        ensures kept { S.ghosts.is_clean self.new →
+            KeepsClub S.ghosts.represents self.old self.new }
+        ensures returned { S.ghosts.is_clean self.new → Returns S.ghosts.represents self.old result
             (λ club text. IsSheet club day (string_bytes text)) }
         ensures faults { IfErr result IsStoreFault }
-        ensures failed { S.disk_is_clean self.new → IfErr result
-            (IsSheetFault S.fails self.old self.new) }
+        ensures failed { S.ghosts.is_clean self.new → IfErr result
+            (IsSheetFault S.ghosts self.old self.new) }
     {
         let rows = self.store.day(day)?;
         Ok(sheet_text(self.alloc, day, &rows)?)

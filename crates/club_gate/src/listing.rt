@@ -22,7 +22,7 @@ impl<S: ClubStore> Desk<S> {
     /// Fails with `Refused(Unknown)` if no key has the name, and with `Store` if memory ran out or
     /// storage failed.
     pub fn show_account(&mut self, key: &Name, moment: Moment) -> Result<String, Fault>
-        ensures { spec.ShowsClub S.disk_is_clean S.represents S.fails self.old self.new result
+        ensures { spec.ShowsClub S.ghosts self.old self.new result
             (λ club. spec.ReturnsListing (spec.account_listing club key.now moment) result) }
     {
         let Some((key, view)) = self.account_view(key, moment)? else {
@@ -40,7 +40,7 @@ impl<S: ClubStore> Desk<S> {
     /// Fails with `Refused(Unknown)` if the club has no such facility, and with `Store` if memory
     /// ran out or storage failed.
     pub fn show_slot(&mut self, slot: &Slot) -> Result<String, Fault>
-        ensures { spec.ShowsClub S.disk_is_clean S.represents S.fails self.old self.new result
+        ensures { spec.ShowsClub S.ghosts self.old self.new result
             (λ club. spec.ReturnsListing (spec.slot_listing club slot.now) result) }
     {
         let Some(reply) = self.slot_reply(slot)? else {
@@ -55,7 +55,7 @@ impl<S: ClubStore> Desk<S> {
         key: &Name,
         moment: Moment,
     ) -> Result<Option<(Key, View)>, StoreFault>
-        ensures { ReadsStore S.disk_is_clean S.represents S.fails self.old self.new result
+        ensures { ReadsStore S.ghosts self.old self.new result
             (λ club seen. seen ≡ spec.account_with_key club key.now moment) }
     {
         own_bookings_suffice();
@@ -71,7 +71,7 @@ impl<S: ClubStore> Desk<S> {
     // Returns the reply to a request to view a slot, or `None` if the facility is unknown. An
     // accepted request gets the same reply under every key.
     fn slot_reply(&mut self, slot: &Slot) -> Result<Option<Reply>, StoreFault>
-        ensures { ReadsStore S.disk_is_clean S.represents S.fails self.old self.new result
+        ensures { ReadsStore S.ghosts self.old self.new result
             (λ club reply. reply ≡ spec.slot_reply club slot.now) }
     {
         let Some(facility) = self.store.facility(&slot.facility)? else {

@@ -32,7 +32,7 @@ impl<S: ClubStore> Desk<S> {
         key: &KeyRow,
         request: &Request,
     ) -> Result<View, StoreFault>
-        ensures { ReadsStore S.disk_is_clean S.represents S.fails self.old self.new result
+        ensures { ReadsStore S.ghosts self.old self.new result
             (λ club view. OfItsPass (F.left source.now)
             (λ pass. AgreesOnRecord club key.now pass request.now view)) }
     {
@@ -60,7 +60,7 @@ impl<S: ClubStore> Desk<S> {
         key: &KeyRow,
         ask: &Ask,
     ) -> Result<Option<CaveatFault>, StoreFault>
-        ensures { ReadsStore S.disk_is_clean S.represents S.fails self.old self.new result
+        ensures { ReadsStore S.ghosts self.old self.new result
             (λ club fault. IsOnRecord club key.now → OfItsPass (F.left source.now) (λ pass. fault
             ≡ first_fault_of (map caveat_of pass.caveats)
             (after_spending (spent_under key.now.name club.bookings) ask.now))) }
@@ -79,7 +79,7 @@ impl<S: ClubStore> Desk<S> {
     /// Returns whether the member of a key has used at most `most` points. A result of `true`
     /// implies that the key has spent at most `most` points.
     fn has_spent_within(&mut self, key: &KeyRow, most: u64) -> Result<bool, StoreFault>
-        ensures { ReadsStore S.disk_is_clean S.represents S.fails self.old self.new result
+        ensures { ReadsStore S.ghosts self.old self.new result
             (λ club within. within ≡ true → IsOnRecord club key.now
             → spent_under key.now.name club.bookings ≤ most) }
     {
@@ -93,11 +93,10 @@ impl<S: ClubStore> Desk<S> {
 
     /// Returns the view with `taken` and `closed` set to the slot's values.
     fn with_slot(&mut self, view: View, slot: &Slot) -> Result<View, StoreFault>
-        ensures { ReadsStore S.disk_is_clean S.represents S.fails self.old self.new result
-            (λ club found. found ≡ record view {
-              taken = (slot_use club slot.now).taken;
-              closed = (slot_use club slot.now).closed;
-            }) }
+        ensures { ReadsStore S.ghosts self.old self.new result (λ club found. found ≡ record view {
+          taken = (slot_use club slot.now).taken;
+          closed = (slot_use club slot.now).closed;
+        }) }
     {
         let SlotUse { taken, closed } = self.store.slot(slot)?;
         Ok(View {
@@ -110,7 +109,7 @@ impl<S: ClubStore> Desk<S> {
     /// Adds the row, the balance and the number of open bookings of the key's member to the view.
     /// Returns `None` if the club has no such member.
     fn with_member(&mut self, view: View, moment: Moment) -> Result<Option<View>, StoreFault>
-        ensures { ReadsStore S.disk_is_clean S.represents S.fails self.old self.new result
+        ensures { ReadsStore S.ghosts self.old self.new result
             (λ club found. found ≡ option_map (λ account. record view {
               member = account.member;
               balance = account.balance;
@@ -137,7 +136,7 @@ impl<S: ClubStore> Desk<S> {
         view: View,
         moment: Moment,
     ) -> Result<Option<View>, StoreFault>
-        ensures { ReadsStore S.disk_is_clean S.represents S.fails self.old self.new result
+        ensures { ReadsStore S.ghosts self.old self.new result
             (λ club found. found ≡ option_map (λ account. record view {
               member = account.member;
               balance = account.balance;
@@ -162,7 +161,7 @@ impl<S: ClubStore> Desk<S> {
         request: &Request,
         moment: Moment,
     ) -> Result<Option<View>, StoreFault>
-        ensures { ReadsStore S.disk_is_clean S.represents S.fails self.old self.new result
+        ensures { ReadsStore S.ghosts self.old self.new result
             (λ club found. (pass : Plain) (key : RowOfKey) → IsOnRecord club key
             → AgreesOnRecord club key pass request.now view
             → answer_by_view found true None request.now moment

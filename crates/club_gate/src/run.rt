@@ -41,14 +41,14 @@ impl<S: ClubStore> Desk<S> {
     /// Fails if there is no memory for the replies. In this case no event was answered, and the
     /// desk is unchanged.
     pub fn run(&mut self, events: &[Event]) -> Result<Vec<EventReply>, AllocError>
-        ensures was_clean { S.disk_is_clean self.new → S.disk_is_clean self.old }
+        ensures was_clean { S.ghosts.is_clean self.new → S.ghosts.is_clean self.old }
         ensures err { OnErr result (self.new ≡ self.old) }
-        ensures lawful { S.disk_is_clean self.new → Returns S.represents self.old result
+        ensures lawful { S.ghosts.is_clean self.new → Returns S.ghosts.represents self.old result
             (λ club replies. (seen : List machine.Event) → AreEventsOf events.now seen
             → IsLawfulRun club seen (responses_of replies.items)) }
         // Each event was answered by one step of the rules' state machine, or failed. If an event
         // failed, the contract of `ask` or `office` allows the cause.
-        ensures handled { IfOk result (λ replies. AreHandled S.disk_is_clean S.represents S.fails
+        ensures handled { IfOk result (λ replies. AreHandled S.ghosts
             self.old events.now replies.items self.new) }
         // After a crash, the store has the club after the answered events, or the club after one
         // more event. The additional event failed after the last change of the run. If the run
@@ -56,10 +56,10 @@ impl<S: ClubStore> Desk<S> {
         // left. An accepted repeat of a served booking or cancellation gets the same reply and
         // changes nothing. This holds directly after the answered events, and also after one more
         // event.
-        ensures represents { S.disk_is_clean self.new → (club : Club) (others : List Club)
-            → S.represents self.old club others
+        ensures represents { S.ghosts.is_clean self.new → (club : Club) (others : List Club)
+            → S.ghosts.represents self.old club others
             → IfOk result (λ replies. (seen : List machine.Event) → AreEventsOf events.now seen
-            → LeavesClub S.represents self.new club others seen
+            → LeavesClub S.ghosts.represents self.new club others seen
             (responses_of replies.items)) }
     {
         sees_events();
@@ -77,15 +77,15 @@ impl<S: ClubStore> Desk<S> {
 
     /// Answers events in order, and returns the replies.
     fn follow(&mut self, events: &[Event]) -> Result<Vec<EventReply>, AllocError>
-        ensures was_clean { S.disk_is_clean self.new → S.disk_is_clean self.old }
+        ensures was_clean { S.ghosts.is_clean self.new → S.ghosts.is_clean self.old }
         ensures err { OnErr result (self.new ≡ self.old) }
         ensures within { OnOk result (All IsEvent (machine_events events.now)) }
         ensures bytes { OnOk result (All IsEventOfBytes events.now) }
-        ensures handled { IfOk result (λ replies. AreHandled S.disk_is_clean S.represents S.fails
+        ensures handled { IfOk result (λ replies. AreHandled S.ghosts
             self.old events.now replies.items self.new) }
-        ensures followed { S.disk_is_clean self.new → (club : Club) (others : List Club)
-            → S.represents self.old club others
-            → IfOk result (λ replies. IsFollowed S.represents self.new club others
+        ensures followed { S.ghosts.is_clean self.new → (club : Club) (others : List Club)
+            → S.ghosts.represents self.old club others
+            → IfOk result (λ replies. IsFollowed S.ghosts self.new club others
             (machine_events events.now) (responses_of replies.items)) }
     {
         decodes();

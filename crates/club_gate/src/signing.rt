@@ -30,7 +30,7 @@ impl<S: ClubStore> Desk<S> {
         row: &KeyRow,
         moment: Moment,
     ) -> Result<bool, StoreFault>
-        ensures { ReadsStore S.disk_is_clean S.represents S.fails self.old self.new result
+        ensures { ReadsStore S.ghosts self.old self.new result
             (λ club signed. (pass : Plain) (key : KeyOfClub) → identifier.now ≡ pass.identifier
             → F.left source.now ≡ drop 2 (pass_fields pass)
             → key_named key.name club ≡ Some key → row.now ≡ row_of_key key

@@ -90,7 +90,7 @@ fn verdict_of_fault(fault: FormFault) -> Result<Verdict, StoreFault>
 impl<S: ClubStore> Desk<S> {
     /// Returns the row of the key that an identifier names, or `None` if the club has no such key.
     fn key_row(&mut self, identifier: &[u8]) -> Result<Option<KeyRow>, StoreFault>
-        ensures { ReadsStore S.disk_is_clean S.represents S.fails self.old self.new result
+        ensures { ReadsStore S.ghosts self.old self.new result
             (λ club row. row ≡ option_map row_of_key (key_in club identifier.now)) }
     {
         match key_name_in(identifier) {
@@ -108,7 +108,7 @@ impl<S: ClubStore> Desk<S> {
         source: &F,
         moment: Moment,
     ) -> Result<Result<KeyRow, Refusal>, StoreFault>
-        ensures { ReadsStore S.disk_is_clean S.represents S.fails self.old self.new result
+        ensures { ReadsStore S.ghosts self.old self.new result
             (λ club signer. (pass : Plain) → F.left source.now ≡ pass_fields pass
             → signer ≡ signer_of pass moment (key_in club pass.identifier)) }
     {
@@ -139,7 +139,7 @@ impl<S: ClubStore> Desk<S> {
         request: &Request,
         moment: Moment,
     ) -> Result<Verdict, StoreFault>
-        ensures { ReadsStore S.disk_is_clean S.represents S.fails self.old self.new result
+        ensures { ReadsStore S.ghosts self.old self.new result
             (λ club verdict. OfItsPass (F.left source.now) (λ pass.
             signer_of pass moment (key_in club pass.identifier) ≡ Ok key.now
             → verdict ≡ verdict_in club (words_with (machine_pass pass) request.now) moment)) }
@@ -163,7 +163,7 @@ impl<S: ClubStore> Desk<S> {
         request: &Request,
         moment: Moment,
     ) -> Result<Verdict, StoreFault>
-        ensures { ReadsStore S.disk_is_clean S.represents S.fails self.old self.new result
+        ensures { ReadsStore S.ghosts self.old self.new result
             (λ club verdict. OfItsPass (F.left source.now) (λ pass.
             verdict ≡ verdict_in club (words_with (machine_pass pass) request.now) moment)) }
     {
@@ -183,15 +183,16 @@ impl<S: ClubStore> Desk<S> {
         request: &Request,
         moment: Moment,
     ) -> Result<Verdict, StoreFault>
-        ensures was_clean { S.disk_is_clean self.new → S.disk_is_clean self.old }
-        ensures kept { S.disk_is_clean self.new → KeepsClub S.represents self.old self.new }
-        ensures returned { S.disk_is_clean self.new → Returns S.represents self.old result
+        ensures was_clean { S.ghosts.is_clean self.new → S.ghosts.is_clean self.old }
+        ensures kept { S.ghosts.is_clean self.new →
+            KeepsClub S.ghosts.represents self.old self.new }
+        ensures returned { S.ghosts.is_clean self.new → Returns S.ghosts.represents self.old result
             (λ club verdict.
             verdict ≡ verdict_in club (words_in_form form bytes.now request.now) moment) }
         ensures refused { (fault : FaultOfForm) → reading_in_form form bytes.now ≡ Err fault
             → RefusesText self.old self.new (form ≢ Json) fault result }
-        ensures failed { S.disk_is_clean self.new
-            → ReadsOrLacksMemory S.fails (form ≡ Json) self.old self.new result }
+        ensures failed { S.ghosts.is_clean self.new
+            → ReadsOrLacksMemory S.ghosts (form ≡ Json) self.old self.new result }
     {
         reads_v1_exactly();
         reads_v2_exactly();
@@ -218,15 +219,16 @@ impl<S: ClubStore> Desk<S> {
         words: &SentWords,
         moment: Moment,
     ) -> Result<Verdict, StoreFault>
-        ensures was_clean { S.disk_is_clean self.new → S.disk_is_clean self.old }
-        ensures kept { S.disk_is_clean self.new → KeepsClub S.represents self.old self.new }
-        ensures returned { S.disk_is_clean self.new → Returns S.represents self.old result
+        ensures was_clean { S.ghosts.is_clean self.new → S.ghosts.is_clean self.old }
+        ensures kept { S.ghosts.is_clean self.new →
+            KeepsClub S.ghosts.represents self.old self.new }
+        ensures returned { S.ghosts.is_clean self.new → Returns S.ghosts.represents self.old result
             (λ club verdict. verdict
             ≡ verdict_in club (decoded_words words.now.pass.now words.now.request) moment) }
         ensures refused { (fault : FaultOfForm) → reading words.now.pass.now ≡ Err fault
             → RefusesText self.old self.new (¬ IsJson words.now.pass.now) fault result }
-        ensures failed { S.disk_is_clean self.new
-            → ReadsOrLacksMemory S.fails (IsJson words.now.pass.now) self.old self.new result }
+        ensures failed { S.ghosts.is_clean self.new
+            → ReadsOrLacksMemory S.ghosts (IsJson words.now.pass.now) self.old self.new result }
     {
         reads_by_bytes(words.pass);
         let mut room = [0; MAX_BYTES];

@@ -68,11 +68,11 @@ impl<S: ClubStore> Refusing<S> {
 }
 
 impl<S: ClubStore> ClubStore for Refusing<S> {
-    ghost represents = { λ store club others. ⊥ };
-
-    ghost disk_is_clean = { λ store. ⊥ };
-
-    ghost fails = { λ wish old fault new. ⊥ };
+    ghost ghosts = { record {
+      is_clean = λ store. ⊥;
+      represents = λ store club others. ⊥;
+      fails = λ wish old fault new. ⊥;
+    } };
 
     ghost sound = { λ store club others represents. absurd represents };
 

@@ -1,22 +1,19 @@
 -- The desk's reply to a decoded request.
-use Rattle.std.specs.Prelude.{◌≡◌, ℕ, List, Option, Err}
+use Rattle.std.specs.Prelude.{◌≡◌, ℕ, List, Err}
 use Rattle.pass_forms.specs.declared.fault.FormFault.{FormFault}
 use Rattle.pass_json.specs.AnyForm.{IsAnyReading}
-use Rattle.club_core.specs.{Club.Club, Pass.Words, declared.{change.Change.Change, reply.Reply.Reply, request.Request.Request, store.StoreFault.StoreFault}}
+use Rattle.club_core.specs.{Pass.Words, Store.StoreGhosts, declared.{reply.Reply.Reply, request.Request.Request}}
 use Rattle.club_gate.specs.{DecodedPass.AreWordsOf, Desk.{DecidesOrFails, FailsForCause, OfItsClub}, Served.{IsLawful, RefusesByFormFault}}
 
 -- If the store's disk is clean after the reply, the desk's reply and the store's new state obey the
 -- rules of the club. A disk is clean if every read returns the bytes that were written, and no
 -- other program writes to the disk.
-pub record AnswersBy {S : Type 0} (IsClean : S → Type 0)
-    (Represents : S → Club → List Club → Type 0)
-    (Fails : Option Change → S → StoreFault → S → Type 0) (moment : ℕ) (text : List ℕ)
-    (request : Request) (old : S) (reply : Reply) (new : S) : Type 0 where
-  pub was_clean : IsClean new → IsClean old
-  pub steps : IsClean new → (words : Words) × AreWordsOf text request words × DecidesOrFails Represents old new words moment reply
-  pub lawful : OfItsClub IsClean Represents old new (λ club. IsLawful club text request moment reply)
+pub record AnswersBy {S : Type 0} (ghosts : StoreGhosts S) (moment : ℕ) (text : List ℕ) (request : Request) (old : S) (reply : Reply) (new : S) : Type 0 where
+  pub was_clean : ghosts.is_clean new → ghosts.is_clean old
+  pub steps : ghosts.is_clean new → (words : Words) × AreWordsOf text request words × DecidesOrFails ghosts old new words moment reply
+  pub lawful : OfItsClub ghosts old new (λ club. IsLawful club text request moment reply)
   -- The reply is `Unavailable` only if the store failed, or if the text of the pass is JSON.
-  pub failed : OfItsClub IsClean Represents old new (λ club. FailsForCause Fails old new club text request moment reply)
+  pub failed : OfItsClub ghosts old new (λ club. FailsForCause ghosts old new club text request moment reply)
   -- If the text isn't a pass, the desk refuses the text and doesn't change the store. The refusal
   -- needs memory only if the text is JSON.
   pub no_change : (fault : FormFault) → IsAnyReading text (Err fault) → new ≡ old

@@ -11,7 +11,7 @@ use http_request::Words;
 impl<S: ClubStore> Responder for Desk<S> {
     ghost use Rattle.club_http.specs.Desk.{AnswersBy};
 
-    ghost answers = { AnswersBy S.disk_is_clean S.represents S.fails };
+    ghost answers = { AnswersBy S.ghosts };
 
     fn ask(&mut self, moment: Moment, words: &Words<'_>) -> Reply {
         Desk::ask(self, moment, words)

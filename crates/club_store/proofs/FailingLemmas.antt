@@ -4,7 +4,7 @@ use Rattle.std.proofs.{Common.{arith, [], ◌∷◌, Ok, Err}, lemmas.{List.Elem
 use Rattle.club_core.specs.{After.after, Club.{Club, IsSound}, Store.{Changes, ReadsStore}, declared.{change.Change.Change, store.StoreFault.StoreFault}}
 use Rattle.sqlite.specs.{Held.{Held, state}, State.HasCleanDisk, Store.Ghosts}
 use Rattle.club_tables.specs.ReadsAndChanges.{ChangesClub, ReadsClub, sound_in, represents_in}
-use Rattle.club_store.specs.Failing.{Fails}
+use Rattle.club_store.specs.Failing.{Fails, over_connection}
 use Rattle.club_store.proofs.ReadingLemmas.{change_fault, later_fault}
 
 fails_since : {S A : Type 0} {g : Ghosts S} {old new : Held S} {first : Result A StoreFault} {IsReturned : Club → A → Type 0}
@@ -14,7 +14,7 @@ fails_since reads clean None fault later it = later_fault clean reads it
 fails_since reads clean (Some change) fault later it = change_fault clean reads it
 
 pub reads_sound : {S A : Type 0} {g : Ghosts S} {old new : Held S} {result : Result A StoreFault} {IsReturned : Club → A → Type 0}
-    → ReadsClub g old new result IsReturned → ReadsStore (λ (held : Held S). HasCleanDisk (state g held)) (sound_in g) (Fails g) old new result IsReturned
+    → ReadsClub g old new result IsReturned → ReadsStore (over_connection g) old new result IsReturned
 reads_sound {result = result} reads = record {
   was_clean = omega (arith, reads.survives.clean);
   kept = λ clean club others represents. (represents.0, reads.kept clean club others represents.1);

@@ -1,8 +1,8 @@
--- Defines the faults of a store's calls.
+-- Defines the faults of a store's calls, and the store's ghosts.
 use Rattle.std.specs.Prelude.{List, Option, Some, None}
-use Rattle.sqlite.specs.{Held.Held, Store.Ghosts}
-use Rattle.club_core.specs.{Club.Club, Store.FitsClub, declared.{change.Change.Change, store.StoreFault.StoreFault}}
-use Rattle.club_tables.specs.{Answers.IsReadFault, ChangeStatements.statements_of, ReadsAndChanges.{IsChangeFault, IsRunFault, represents_in}}
+use Rattle.sqlite.specs.{Held.{Held, state}, State.HasCleanDisk, Store.Ghosts}
+use Rattle.club_core.specs.{Club.Club, Store.{FitsClub, StoreGhosts}, declared.{change.Change.Change, store.StoreFault.StoreFault}}
+use Rattle.club_tables.specs.{Answers.IsReadFault, ChangeStatements.statements_of, ReadsAndChanges.{IsChangeFault, IsRunFault, represents_in, sound_in}}
 
 -- A change failed with this fault. If the change fits the club, the fault comes from an error of
 -- the database, not from a statement that wrote no row.
@@ -16,3 +16,7 @@ pub record FailsToChange {S : Type 0} (g : Ghosts S) (change : Change) (old : He
 abbrev pub Fails : {S : Type 0} → Ghosts S → Option Change → Held S → StoreFault → Held S → Type 0
 Fails g None old fault new = IsReadFault g old new fault
 Fails g (Some change) old fault new = FailsToChange g change old fault new
+
+-- The ghosts of a store over a connection.
+abbrev pub over_connection : {S : Type 0} → Ghosts S → StoreGhosts (Held S)
+over_connection g = record { is_clean = λ held. HasCleanDisk (state g held); represents = sound_in g; fails = Fails g }

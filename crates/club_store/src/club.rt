@@ -7,15 +7,9 @@ use club_values::{Day, Moment, Name, Slot};
 use sqlite::Alter;
 
 impl<S: Alter> ClubStore for Store<S> {
-    ghost use Rattle.sqlite.specs.{Held.state, State.HasCleanDisk};
-    ghost use Rattle.club_tables.specs.ReadsAndChanges.{sound_in};
-    ghost use Rattle.club_store.specs.Failing.{Fails};
+    ghost use Rattle.club_store.specs.Failing.{over_connection};
 
-    ghost represents = { sound_in S.Store };
-
-    ghost disk_is_clean = { λ store. HasCleanDisk (state S.Store store) };
-
-    ghost fails = { Fails S.Store };
+    ghost ghosts = { over_connection S.Store };
 
     fn key_row(&mut self, name: &Name) -> Result<Option<KeyRow>, StoreFault> {
         self.tables.key(name)

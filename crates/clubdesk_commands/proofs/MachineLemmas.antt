@@ -2,15 +2,15 @@
 use Rattle.std.proofs.Common.{◌≡◌, ◌≢◌, ◌⊎◌, ℕ, false, List, Option, Some, None, Result, inl, inr, refl, ap}
 use Rattle.std.specs.{Prelude.String, declared.alloc.Global.Global}
 use Rattle.clap.specs.Words.{Text}
-use Rattle.club_core.specs.{Answer.verdict_in, Club.Club, Pass.Words, Run.{Event, Asked, Response, ToMember}, declared.change.Change.Change}
+use Rattle.club_core.specs.{Answer.verdict_in, Club.Club, Pass.Words, Run.{Event, Asked, Response, ToMember}, Store.StoreGhosts}
 use Rattle.club_core.specs.declared.{command.Command.Command, refusal.Refusal.TheVariants.Unavailable, reply.Reply.{Reply, TheVariants.Refused}}
-use Rattle.club_core.specs.declared.{request.Request.Request, store.StoreFault.StoreFault}
+use Rattle.club_core.specs.declared.request.Request.{Request}
 use Rattle.club_gate.specs.{Desk.{HasFailed, IsAnsweredBy, IsDecidedBy, IsRefusedBy, Steps}, Response.desk_presentation, declared.event.OfficeReply.OfficeReply}
 use Rattle.club_gate.specs.declared.fault.Fault.{Fault as DeskFault}
 use Rattle.club_http.specs.{Desk.AnswersBy}
 use Rattle.club_laws.specs.Failed.{IsStep, is_unavailable}
 use Rattle.clubdesk_arguments.specs.declared.{fault.Fault.Fault, task.{Service.Service, Task.{Task, TheVariants.{Give, Key, ShowAccount}}}}
-use Rattle.clubdesk_commands.specs.{Does.{DeskShows, Does, IsAnswered}, Machine.{Always, IsItself, machine_answers, machine_commands}}
+use Rattle.clubdesk_commands.specs.{Does.{DeskShows, Does, IsAnswered}, Machine.{itself, machine_answers, machine_commands}}
 use Rattle.clubdesk_commands.specs.{OfficeDesk.{CarriesOutBy, DoesArguments}, Run.{FollowsMachine, RunsServer}}
 use Rattle.clubdesk_commands.specs.Does as does
 use Rattle.clubdesk_commands.proofs.AlikeLemmas.{Simulates, run_alike, same, so}
@@ -20,7 +20,7 @@ use Rattle.desk_server.specs.{Served.{Turn}}
 use Rattle.desk_server.specs.declared.{office.{Answer.Answer}}
 
 machine_steps : (club next : Club) (event : Event) (response : Response OfficeReply) → IsStep desk_presentation club event response next
-    → Steps IsItself club next event response
+    → Steps itself club next event response
 machine_steps club next event response (inl answered) now others same =
     rw (← same) (inl (record { success = answered.success; reply = answered.reply; represents = answered.steps_club }))
 machine_steps club next event response (inr failed) now others same =
@@ -30,13 +30,13 @@ is_other : (reply : Reply) → reply ≢ Refused Unavailable → is_unavailable 
 is_other (Refused Unavailable) h = absurd (h refl)
 is_other reply h = refl
 
-module _ {S : Type 0} (Clean : S → Type 0) (Represents : S → Club → List Club → Type 0) where
+module _ {S : Type 0} (ghosts : StoreGhosts S) where
   -- The store represents the club.
   abbrev Holds : S → Club → Type 0
-  Holds store club = (others : List Club) × Represents store club others
+  Holds store club = (others : List Club) × ghosts.represents store club others
 
   one_step : (new : S) (club : Club) (others : List Club) (event : Event) (response : Response OfficeReply)
-      → IsAnsweredBy Represents new club others event response ⊎ IsRefusedBy Represents new club others event response
+      → IsAnsweredBy ghosts new club others event response ⊎ IsRefusedBy ghosts new club others event response
       → (next : Club) × Holds new next × IsStep desk_presentation club event response next
   one_step new club others event response (inl answered) =
       (_, (_, answered.represents), inl (record { success = answered.success; reply = answered.reply; steps_club = refl }))
@@ -45,17 +45,16 @@ module _ {S : Type 0} (Clean : S → Type 0) (Represents : S → Club → List C
       (club, left, inr (record { failure = refused.failure; kept = refl }))
 
   one_request : (new : S) (club : Club) (others : List Club) (words : Words) (moment : ℕ) (reply : Reply)
-      → IsDecidedBy Represents new club others (verdict_in club words moment) reply ⊎ HasFailed Represents new club others (verdict_in club words moment) reply
+      → IsDecidedBy ghosts new club others (verdict_in club words moment) reply ⊎ HasFailed ghosts new club others (verdict_in club words moment) reply
       → (next : Club) × Holds new next × IsStep desk_presentation club (Asked words moment) (ToMember reply) next
   one_request new club others words moment reply (inl decided) =
       one_step _ _ others _ _ (inl (record { success = is_other _ decided.available; reply = ap ToMember decided.reply_is; represents = decided.represents }))
   one_request new club others words moment reply (inr failed) =
       one_step _ _ others _ _ (inr (record { failure = ap is_unavailable failed.unavailable; represents = failed.represents }))
 
-  asked : (Fails : Option Change → S → StoreFault → S → Type 0) (moment : ℕ) (text : List ℕ) (request : Request) (old : S) (reply : Reply) (new : S)
-      → AnswersBy Clean Represents Fails moment text request old reply new
-      → Simulates Clean Holds old new (λ club next. machine_answers moment text request club reply next)
-  asked Fails moment text request old reply new answers = record {
+  asked : (moment : ℕ) (text : List ℕ) (request : Request) (old : S) (reply : Reply) (new : S) → AnswersBy ghosts moment text request old reply new
+      → Simulates ghosts.is_clean Holds old new (λ club next. machine_answers moment text request club reply next)
+  asked moment text request old reply new answers = record {
     was_clean = answers.was_clean;
     follows = λ clean club holds.
         let seen = answers.steps clean in
@@ -63,9 +62,8 @@ module _ {S : Type 0} (Clean : S → Type 0) (Represents : S → Club → List C
         (next.0, next.1, (seen.0, seen.1, next.2));
   }
 
-  answered : (command : Command) (IsText : List ℕ → Type 0) (answer : Result (List ℕ) Fault) {old new : S}
-      → IsAnswered Clean Represents command IsText answer old new
-      → Simulates Clean Holds old new (λ club next. IsAnswered Always IsItself command IsText answer club next)
+  answered : (command : Command) (IsText : List ℕ → Type 0) (answer : Result (List ℕ) Fault) {old new : S} → IsAnswered ghosts command IsText answer old new
+      → Simulates ghosts.is_clean Holds old new (λ club next. IsAnswered itself command IsText answer club next)
   answered command IsText answer (does.out_of_memory is kept) = same _ _ kept (λ club. does.out_of_memory is refl)
   answered command IsText answer (does.command_given text is given) = record {
     was_clean = given.was_clean;
@@ -83,7 +81,7 @@ module _ {S : Type 0} (Clean : S → Type 0) (Represents : S → Club → List C
   }
 
   desk_shown : (Shows : Club → Result (String Global) DeskFault → Type 0) (answer : Result (List ℕ) Fault) {old new : S}
-      → DeskShows Clean Represents Shows answer old new → Simulates Clean Holds old new (λ club next. DeskShows Always IsItself Shows answer club next)
+      → DeskShows ghosts Shows answer old new → Simulates ghosts.is_clean Holds old new (λ club next. DeskShows itself Shows answer club next)
   desk_shown Shows answer desk_shows = record {
     was_clean = desk_shows.was_clean;
     follows = λ clean club holds. (
@@ -99,8 +97,8 @@ module _ {S : Type 0} (Clean : S → Type 0) (Represents : S → Club → List C
     );
   }
 
-  done : (Given : Option Timestamp → Type 0) (task : Task) (answer : Result (List ℕ) Fault) {old new : S} → Does Clean Represents Given task answer old new
-      → Simulates Clean Holds old new (λ club next. Does Always IsItself Given task answer club next)
+  done : (Given : Option Timestamp → Type 0) (task : Task) (answer : Result (List ℕ) Fault) {old new : S} → Does ghosts Given task answer old new
+      → Simulates ghosts.is_clean Holds old new (λ club next. Does itself Given task answer club next)
   done Given (Give given) answer does = answered given _ answer does
   done Given (Key command root) answer does = answered _ _ answer does
   done Given (ShowAccount key clock) answer (None, shows, stopped) = same _ _ stopped.1 (λ club. (None, shows, (stopped.0, refl)))
@@ -109,8 +107,8 @@ module _ {S : Type 0} (Clean : S → Type 0) (Represents : S → Club → List C
   done Given _ answer desk_shows = desk_shown _ answer desk_shows
 
   with_arguments : (Given : Option Timestamp → Type 0) {root : Text} {arguments : List Text} {answer : Result (List ℕ) Fault} {old new : S}
-      → DoesArguments Clean Represents Given root arguments answer old new
-      → Simulates Clean Holds old new (λ club next. DoesArguments Always IsItself Given root arguments answer club next)
+      → DoesArguments ghosts Given root arguments answer old new
+      → Simulates ghosts.is_clean Holds old new (λ club next. DoesArguments itself Given root arguments answer club next)
   with_arguments Given (spec.task_done file task asks does) = so _ _ (done Given task _ does) (λ club next does. spec.task_done file task asks does)
   with_arguments Given (spec.key_done file command given asks is does) =
       so _ _ (done Given (Key command given) _ does) (λ club next does. spec.key_done file command given asks is does)
@@ -118,7 +116,7 @@ module _ {S : Type 0} (Clean : S → Type 0) (Represents : S → Club → List C
   with_arguments Given (spec.arguments_refused fault reads refused kept) = same _ _ kept (λ club. spec.arguments_refused fault reads refused refl)
 
   commanded : (Given : Option Timestamp → Type 0) (bytes : List ℕ) (old : S) (answer : Answer) (new : S)
-      → CarriesOutBy Clean Represents Given bytes old answer new → Simulates Clean Holds old new (λ club next. machine_commands Given bytes club answer next)
+      → CarriesOutBy ghosts Given bytes old answer new → Simulates ghosts.is_clean Holds old new (λ club next. machine_commands Given bytes club answer next)
   commanded Given bytes old answer new (spec.command_done root arguments result is does answers logged) =
       so _ _ (with_arguments Given does) (λ club next does. spec.command_done root arguments result is does answers logged)
   commanded Given bytes old answer new (spec.no_command none unnamed kept) = same _ _ kept (λ club. spec.no_command none unnamed refl)
@@ -127,11 +125,10 @@ module _ {S : Type 0} (Clean : S → Type 0) (Represents : S → Club → List C
   commanded Given bytes old answer new (spec.no_memory unnamed kept) = same _ _ kept (λ club. spec.no_memory unnamed refl)
 
   pub follows_machine : {Machine : Type 0} (Shows : Machine → Option Timestamp → Type 0) (machine : Machine)
-      (Fails : Option Change → S → StoreFault → S → Type 0)
       (service : Service) (turns : List Turn) (store left : S) (Noted : List Turn → Type 0) (result : Result Unit Fault)
-      → RunsServer Shows machine (AnswersBy Clean Represents Fails) (CarriesOutBy Clean Represents (Shows machine)) service turns store left Noted result
-      → FollowsMachine Clean Represents Shows machine service turns store left Noted result
-  follows_machine Shows machine Fails service turns store left Noted result runs clean club others represents =
-      let it = (run_alike _ _ _ machine_answers _ (machine_commands (Shows machine)) (asked Fails) (commanded (Shows machine)) Shows machine service turns Noted
+      → RunsServer Shows machine (AnswersBy ghosts) (CarriesOutBy ghosts (Shows machine)) service turns store left Noted result
+      → FollowsMachine ghosts Shows machine service turns store left Noted result
+  follows_machine Shows machine service turns store left Noted result runs clean club others represents =
+      let it = (run_alike _ _ _ machine_answers _ (machine_commands (Shows machine)) asked (commanded (Shows machine)) Shows machine service turns Noted
       result runs).follows clean club (others, represents) in
       (it.0, it.1.0, it.1.1, it.2)

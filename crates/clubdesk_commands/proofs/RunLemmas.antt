@@ -2,7 +2,7 @@
 use Rattle.std.proofs.Common.{◌≡◌, ℕ, List, Option, Result, Ok, Err, inr, map, rules}
 use Rattle.clap.specs.Words.{Text}
 use Rattle.jiff_core.specs.declared.timestamp.Timestamp.{Timestamp}
-use Rattle.club_core.specs.declared.store.{ClubStore.Ghosts as StoreWords, StoreFault.StoreFault}
+use Rattle.club_core.specs.{Store.StoreGhosts, declared.store.StoreFault.StoreFault}
 use Rattle.club_core.specs.declared.store.StoreFault.TheVariants as store
 use Rattle.desk_server.specs.{Served.Turn, declared.databases.{Databases.Ghosts as DatabasesWords, Visit.Ghosts as VisitWords}}
 use Rattle.clubdesk_arguments.specs.{Arguments.{AskFor, ReadsArguments}, Fault.fault_of_opening, JobModel.JobModel, declared.fault.Fault.Fault}
@@ -24,10 +24,10 @@ announces_well : (port : ℕ) (written : Stream) (result : Result Unit Fault) �
 announces_well port written (Ok done) wrote = tt
 announces_well port written (Err fault) wrote = search rules
 
-pub serves_well : {D S R V Machine : Type 0} {databases : DatabasesWords D S R V} {visits : VisitWords V} {stores : StoreWords S}
+pub serves_well : {D S R V Machine : Type 0} {databases : DatabasesWords D S R V} {visits : VisitWords V} {ghosts : StoreGhosts S}
     {Shows : Machine → Option Timestamp → Type 0} {machine : Machine} {file : Text} {old new : D} {written : Stream} {result : Result Unit Fault}
     {service : Service} {Noted : List Turn → Type 0}
-    → Serves databases visits stores Shows machine file service old new written Noted result → EndsWork written.no_change result
+    → Serves databases visits ghosts Shows machine file service old new written Noted result → EndsWork written.no_change result
 serves_well (spec.not_opened fault opens is kept nothing) = not_opened fault is kept
 serves_well (spec.no_door fault store between opens closes is kept nothing) = not_opened fault is kept
 serves_well (spec.server_done store left between turns opens serves follows announces closes) = announces_well _ _ _ announces

@@ -1,7 +1,7 @@
 -- Defines how each task of the office changes a desk, and how the program answers the task.
 use Rattle.std.specs.{Prelude.{◌≡◌, ℕ, List, [], ◌∷◌, ◌++◌, codes, Option, MatchOption, Result, Ok, Err, IfOk, String}, String.string_bytes}
 use Rattle.std.specs.declared.alloc.Global.{Global}
-use Rattle.club_core.specs.{Club.Club, Run.ToOffice, Sheet.IsSheet, Store.KeepsClub, declared.command.Command.Command}
+use Rattle.club_core.specs.{Club.Club, Run.ToOffice, Sheet.IsSheet, Store.{KeepsClub, StoreGhosts}, declared.command.Command.Command}
 use Rattle.club_core.specs.declared.command.Command.TheVariants as office
 use Rattle.club_core.specs.Run as machine
 use Rattle.club_gate.specs.{Desk.{OfItsClub, Steps}, Minted.{key_pass, minted_signature}, Listing.{ReturnsListing, account_listing, slot_listing}}
@@ -44,13 +44,13 @@ abbrev pub answer_of_desk : {Z : Type 0} → Result (String Z) DeskFault → Res
 answer_of_desk (Ok text) = Ok (string_bytes text)
 answer_of_desk (Err fault) = Err (fault_of_desk fault)
 
-module _ {S : Type 0} (Clean : S → Type 0) (Represents : S → Club → List Club → Type 0) where
+module _ {S : Type 0} (ghosts : StoreGhosts S) where
   -- The desk received a command and sent a reply. The answer is `text`, or a fault if the reply is
   -- a fault.
   pub record IsGiven (command : Command) (text : List ℕ) (answer : Result (List ℕ) Fault) (old new : S) : Type 0 where
     pub reply : OfficeReply
-    pub was_clean : Clean new → Clean old
-    pub steps : Clean new → Steps Represents old new (machine.Commanded command) (ToOffice reply)
+    pub was_clean : ghosts.is_clean new → ghosts.is_clean old
+    pub steps : ghosts.is_clean new → Steps ghosts old new (machine.Commanded command) (ToOffice reply)
     pub answers : GivesReply text answer reply
 
   -- The program makes the text of the answer before the desk receives the command. If memory for
@@ -62,10 +62,10 @@ module _ {S : Type 0} (Clean : S → Type 0) (Represents : S → Club → List C
   -- The answer is the listing or the sheet that the desk returned, or the program's fault for the
   -- desk's fault. The club is unchanged.
   pub record DeskShows (Shows : Club → Result (String Global) DeskFault → Type 0) (answer : Result (List ℕ) Fault) (old new : S) : Type 0 where
-    pub was_clean : Clean new → Clean old
-    pub kept : Clean new → KeepsClub Represents old new
+    pub was_clean : ghosts.is_clean new → ghosts.is_clean old
+    pub kept : ghosts.is_clean new → KeepsClub ghosts.represents old new
     pub returned : Result (String Global) DeskFault
-    pub shows : OfItsClub Clean Represents old new (λ club. Shows club returned)
+    pub shows : OfItsClub ghosts old new (λ club. Shows club returned)
     pub is : answer ≡ answer_of_desk returned
 
   -- The answer to a task of the office, and the effect of the task on a store. `Given` states which

@@ -2,7 +2,7 @@
 use Rattle.std.specs.{Prelude.{◌≡◌, ◌⊎◌, ℕ, List, [], ◌++◌, take, slice_get, codes, IfSome, Option, Some, None, Result, Ok, Err}, String.string_bytes}
 use Rattle.clap.specs.{Words.Text, declared.error.Error.Error}
 use Rattle.jiff_core.specs.declared.timestamp.Timestamp.{Timestamp}
-use Rattle.club_core.specs.Club.{Club}
+use Rattle.club_core.specs.Store.{StoreGhosts}
 use Rattle.club_http.specs.Replied.{AnswerRelation}
 use Rattle.desk_server.specs.{Served.CommandRelation, declared.office.Answer.Answer}
 use Rattle.command_line.specs.declared.{errors.ArgumentsFault.ArgumentsFault, job.Asked.TheVariants.ShowText}
@@ -40,16 +40,16 @@ pub data AskOther (arguments : List Text) : Type 0 where
   text_asked : (text : Error) → ReadsArguments arguments (Ok (ShowText text)) → AskOther arguments
   server_asked : (file : Text) (service : Service) → AskFor arguments file (Serve service) → AskOther arguments
 
-module _ {Store : Type 0} (Clean : Store → Type 0) (Represents : Store → Club → List Club → Type 0) (Given : Option Timestamp → Type 0) where
+module _ {Store : Type 0} (ghosts : StoreGhosts Store) (Given : Option Timestamp → Type 0) where
   -- The effect of a command with these arguments. If the arguments are valid, the command has the
   -- same effect and answer as in a run that opens the database itself. With `--root-stdin`, the
   -- key's new root is decoded from `root`. If the arguments or the root are invalid, the store is
   -- unchanged.
   pub data DoesArguments (root : Text) (arguments : List Text) (answer : Result (List ℕ) Fault) (old new : Store) : Type 0 where
-    task_done : (file : Text) (task : Task) → AskFor arguments file (Office task) → Does Clean Represents Given task answer old new
+    task_done : (file : Text) (task : Task) → AskFor arguments file (Office task) → Does ghosts Given task answer old new
         → DoesArguments root arguments answer old new
     key_done : (file : Text) (command : KeyCommand) (given : List ℕ) → AskFor arguments file (Rootless command) → root_in_input root ≡ Some given
-        → Does Clean Represents Given (Key command given) answer old new → DoesArguments root arguments answer old new
+        → Does ghosts Given (Key command given) answer old new → DoesArguments root arguments answer old new
     root_refused : (file : Text) (command : KeyCommand) → AskFor arguments file (Rootless command) → root_in_input root ≡ None → answer ≡ Err BadValue
         → new ≡ old → DoesArguments root arguments answer old new
     arguments_refused : (fault : ArgumentsFault Unit) → ReadsArguments arguments (Err fault) → answer ≡ Err (of_arguments fault) → new ≡ old

@@ -4,7 +4,7 @@ use Rattle.std.specs.Prelude.{◌≡◌, ◌≢◌, ◌⊎◌, ℕ, ◌≤◌, L
 use Rattle.std.specs.String.{string_bytes}
 use Rattle.clap.specs.{Words.Text, declared.error.Error.Error}
 use Rattle.hex.specs.Hex.{encode_lower}
-use Rattle.club_core.specs.{Club.Club, declared.store.{ClubStore.Ghosts as StoreWords, StoreFault.StoreFault}}
+use Rattle.club_core.specs.{Club.Club, Store.StoreGhosts, declared.store.StoreFault.StoreFault}
 use Rattle.club_http.specs.{Desk.AnswersBy, Replied.AnswerRelation}
 use Rattle.command_line.specs.{Output.AppendsFront, declared.{errors.ArgumentsFault.ArgumentsFault, job.Asked.TheVariants.ShowText}}
 use Rattle.desk_server.specs.{Databases.Giving, Served.{Ends, Turn}, declared.databases.Databases.Ghosts as DatabasesWords}
@@ -76,8 +76,7 @@ Announces asked written (Ok done) = IsAnnounced asked written
 Announces asked written (Err ClockOutOfRange) = IsAnnounced asked written
 Announces asked written (Err fault) = StopsBefore asked written fault
 
-module _ {Store Machine : Type 0} (Clean : Store → Type 0) (Represents : Store → Club → List Club → Type 0)
-    (Shows : Machine → Option Timestamp → Type 0) (machine : Machine)
+module _ {Store Machine : Type 0} (ghosts : StoreGhosts Store) (Shows : Machine → Option Timestamp → Type 0) (machine : Machine)
   where
     -- If the disk stayed clean, a server over the club takes the same turns as the server over the
     -- store. The server over the club returns the replies and answers of the club's state machine.
@@ -85,8 +84,8 @@ module _ {Store Machine : Type 0} (Clean : Store → Type 0) (Represents : Store
     -- final state of the server over the club.
     abbrev pub FollowsMachine : Service → List Turn → Store → Store → (List Turn → Type 0) → Result Unit Fault → Type 0
     FollowsMachine service turns store left Noted result =
-        Clean left → (club : Club) (others : List Club) → Represents store club others
-        → (last : Club) × (still : List Club) × Represents left last still
+        ghosts.is_clean left → (club : Club) (others : List Club) → ghosts.represents store club others
+        → (last : Club) × (still : List Club) × ghosts.represents left last still
         × RunsServer Shows machine machine_answers (machine_commands (Shows machine)) service turns club last Noted result
 
 -- The root of a task in hexadecimal. The text is empty if the task has no root.
@@ -110,7 +109,7 @@ pub data IsHandedOver {Visit : Type 0} (Gives : Giving Visit) (visit : Visit) (r
   handed : (bytes : List ℕ) (reply : Option (ℕ × List ℕ)) → SpellsCommand bytes root arguments → Gives visit bytes reply → IsReply reply answer
       → IsHandedOver Gives visit root arguments answer
 
-module _ {D S R V Machine : Type 0} (databases : DatabasesWords D S R V) (visits : VisitWords V) (stores : StoreWords S)
+module _ {D S R V Machine : Type 0} (databases : DatabasesWords D S R V) (visits : VisitWords V) (ghosts : StoreGhosts S)
     (Shows : Machine → Option Timestamp → Type 0) (machine : Machine)
   where
     -- The effect that a task of the office has on the database with this name. There are three
@@ -124,7 +123,7 @@ module _ {D S R V Machine : Type 0} (databases : DatabasesWords D S R V) (visits
       not_reached : (fault : StoreFault) → databases.reaches old file (Err fault) new → result ≡ Err (fault_of_opening fault) → written.no_change
           → Performs arguments file task old new written result
       task_done : (answer : Result (List ℕ) Fault) (store left : S) (between : D) → databases.reaches old file (Ok (Opened store)) between
-          → Does stores.disk_is_clean stores.represents (Shows machine) task answer store left → databases.closes between left new
+          → Does ghosts (Shows machine) task answer store left → databases.closes between left new
           → Prints answer written result → Performs arguments file task old new written result
       handed_over : (answer : Result (List ℕ) Fault) (visit : V) → databases.reaches old file (Ok (Served visit)) new
           → IsHandedOver visits.gives visit (handed_root task) arguments answer → Prints answer written result
@@ -141,9 +140,8 @@ module _ {D S R V Machine : Type 0} (databases : DatabasesWords D S R V) (visits
       no_door : (fault : StoreFault) (store : S) (between : D) → databases.opens old file (Ok store) between → databases.closes between store new
           → result ≡ Err (fault_of_opening fault) → written.no_change → Noted [] → Serves file service old new written Noted result
       server_done : (store left : S) (between : D) (turns : List Turn) → databases.opens old file (Ok store) between
-          → RunsServer Shows machine (AnswersBy stores.disk_is_clean stores.represents stores.fails)
-          (CarriesOutBy stores.disk_is_clean stores.represents (Shows machine)) service turns store left Noted result
-          → FollowsMachine stores.disk_is_clean stores.represents Shows machine service turns store left Noted result
+          → RunsServer Shows machine (AnswersBy ghosts) (CarriesOutBy ghosts (Shows machine)) service turns store left Noted result
+          → FollowsMachine ghosts Shows machine service turns store left Noted result
           → Announces service.port written result → databases.closes between left new → Serves file service old new written Noted result
 
     -- The effect of a run with these arguments.

@@ -29,7 +29,7 @@ pub(crate) fn carry_out<C: Instants, S: ClubStore>(
     desk: &mut Desk<S>,
     task: Task<'_>,
 ) -> Result<String, Fault>
-    ensures does { spec.Does S.disk_is_clean S.represents (C.shows machine.now) task.entry
+    ensures does { spec.Does S.ghosts (C.shows machine.now) task.entry
         (text_of result) desk.old desk.new }
     ensures worked { IfErr result IsWorkFault }
 {
@@ -56,7 +56,7 @@ pub(crate) fn carry_out<C: Instants, S: ClubStore>(
 
 // Sends a command to the desk. Returns `text` if the desk carries out the command.
 fn give<S: ClubStore>(desk: &mut Desk<S>, command: &Command, text: String) -> Result<String, Fault>
-    ensures given { spec.IsGiven S.disk_is_clean S.represents command.now (string_bytes text)
+    ensures given { spec.IsGiven S.ghosts command.now (string_bytes text)
         (text_of result) desk.old desk.new }
     ensures worked { IfErr result IsWorkFault }
 {

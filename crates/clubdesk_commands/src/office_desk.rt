@@ -74,7 +74,7 @@ impl<S: ClubStore, C: Instants> Responder for OfficeDesk<'_, S, C> {
     ghost use Rattle.club_http.specs.Desk.{AnswersBy};
     ghost use Rattle.clubdesk_commands.specs.OfficeDesk.{answers_with_clock};
 
-    ghost answers = { answers_with_clock (AnswersBy S.disk_is_clean S.represents S.fails) };
+    ghost answers = { answers_with_clock (AnswersBy S.ghosts) };
 
     fn ask(&mut self, moment: Moment, words: &Words<'_>) -> Reply {
         Responder::ask(&mut self.desk, moment, words)
@@ -85,7 +85,7 @@ impl<S: ClubStore, C: Instants> Office for OfficeDesk<'_, S, C> {
     ghost use Rattle.clubdesk_commands.specs.OfficeDesk.{CarriesOutBy, carries_out_with_clock};
 
     ghost commands = { carries_out_with_clock C.shows
-        (CarriesOutBy S.disk_is_clean S.represents) };
+        (CarriesOutBy S.ghosts) };
 
     fn command(&mut self, bytes: &[u8]) -> Answer {
         let command = match read_command(self.alloc, bytes) {
@@ -110,7 +110,7 @@ fn answer_command<S: ClubStore, C: Instants>(
 ) -> Option<Result<String, Fault>>
     ensures { MatchOption result
         ((desk.new ≡ desk.old) × spec.AskOther (map string_bytes command.now.arguments.items))
-        (λ answer. spec.DoesArguments S.disk_is_clean S.represents (C.shows machine.now)
+        (λ answer. spec.DoesArguments S.ghosts (C.shows machine.now)
         (string_bytes command.now.root) (map string_bytes command.now.arguments.items)
         (text_of answer) desk.old desk.new) }
 {

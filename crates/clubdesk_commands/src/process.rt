@@ -30,7 +30,7 @@ pub fn run_process<
     writer: &mut W,
     log: &mut G,
 ) -> u8
-    ensures { spec.RunsProcess D.Databases D.Visit.Visit D.Store.ClubStore C.Instants.shows
+    ensures { spec.RunsProcess D.Databases D.Visit.Visit D.Store.ghosts C.Instants.shows
         machine.now (P.given process.now) (P.asked process.now)
         (stream R.remaining reader.old reader.new) databases.old databases.new
         (stream W.contents writer.old writer.new) (log_change G.Log log.old log.new) result }

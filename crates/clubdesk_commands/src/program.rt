@@ -50,7 +50,7 @@ pub fn run<C: Instants + MonotonicClock, D: Databases, S: AsStr, R: Read, W: Wri
     writer: &mut W,
     log: &mut G,
 ) -> Result<(), Fault>
-    ensures { spec.Runs D.Databases D.Visit.Visit D.Store.ClubStore C.Instants.shows machine.now
+    ensures { spec.Runs D.Databases D.Visit.Visit D.Store.ghosts C.Instants.shows machine.now
         (map S.text arguments.now) (stream R.remaining reader.old reader.new)
         databases.old databases.new (stream W.contents writer.old writer.new)
         (log_change G.Log log.old log.new) result }
@@ -95,7 +95,7 @@ fn perform<C: Instants, D: Databases, S: AsStr, W: Write>(
     task: Task<'_>,
     writer: &mut W,
 ) -> Result<(), Fault>
-    ensures performs { spec.Performs D.Databases D.Visit.Visit D.Store.ClubStore
+    ensures performs { spec.Performs D.Databases D.Visit.Visit D.Store.ghosts
         C.shows machine.now (map S.text arguments.now) file.now task.entry
         databases.old databases.new (stream W.contents writer.old writer.new) result }
     ensures ends { EndsWork (writer.new ≡ writer.old) result }

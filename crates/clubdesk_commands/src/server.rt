@@ -40,7 +40,7 @@ pub fn serve_file<C: Instants + MonotonicClock, D: Databases, W: Write, G: Log>(
     writer: &mut W,
     log: &mut G,
 ) -> Result<(), Fault>
-    ensures done { spec.Serves D.Databases D.Visit.Visit D.Store.ClubStore
+    ensures done { spec.Serves D.Databases D.Visit.Visit D.Store.ghosts
         C.Instants.shows machine.now file.now service.entry databases.old databases.new
         (stream W.contents writer.old writer.new)
         (λ turns. AreNoted G.begins G.notes log.old turns log.new) result }

@@ -2,9 +2,10 @@
 
 ghost use Rattle.std.specs.{Bool.OnFalse, Prelude.{◌≡◌, IfErr, IfOk, IsTrue, option_map}};
 ghost use Rattle.club_core.specs.{Basis.account_named, Club.{facility_named, key_named}};
-ghost use Rattle.club_core.specs.{Sheet.AreRowsOf, declared.store.StoreFault.TheVariants.Storage};
+ghost use Rattle.club_core.specs.{Sheet.AreRowsOf, Store.ReadsStore};
+ghost use Rattle.club_core.specs.declared.store.StoreFault.TheVariants.{Storage};
 ghost use Rattle.club_rows.specs.Key.{row_of_key};
-ghost use Rattle.clubdesk_files.specs.Named.{ReadsNamed};
+ghost use Rattle.clubdesk_files.specs.Named.{with_name};
 
 use club_core::{Change, ClubStore, MemberAccount, SlotUse, StoreFault};
 use club_rows::{Booking, BookingNumber, Facility, KeyRow, OlderRoot};
@@ -50,19 +51,13 @@ impl<S, F: Removable> NamedStore<S, F> {
 /// The first read of each request or command is `key_row`, `facility`, `account` or `day`. These
 /// functions fail if the file has lost its name.
 impl<S: ClubStore, F: Removable> ClubStore for NamedStore<S, F> {
-    ghost use Rattle.clubdesk_files.specs.Named.{FailsOrIsLost};
-
-    ghost represents = { λ named. S.represents named.store };
-
-    ghost disk_is_clean = { λ named. S.disk_is_clean named.store };
-
-    ghost fails = { FailsOrIsLost S.fails F.is_lost };
+    ghost ghosts = { with_name S.ghosts F.is_lost };
 
     ghost sound = { λ named club others represents. S.sound named.store club others represents };
 
     fn key_row(&mut self, name: &Name) -> Result<Option<KeyRow>, StoreFault>
-        ensures reads { ReadsNamed S.disk_is_clean S.represents S.fails F.is_lost self.old self.new
-            result (λ club row. row ≡ option_map row_of_key (key_named name.now club)) }
+        ensures reads { ReadsStore (with_name S.ghosts F.is_lost) self.old self.new result
+            (λ club row. row ≡ option_map row_of_key (key_named name.now club)) }
         ensures found { IfOk result (λ _. F.is_found self.old.file) }
     {
         self.look()?;
@@ -74,8 +69,8 @@ impl<S: ClubStore, F: Removable> ClubStore for NamedStore<S, F> {
     }
 
     fn facility(&mut self, name: &Name) -> Result<Option<Facility>, StoreFault>
-        ensures reads { ReadsNamed S.disk_is_clean S.represents S.fails F.is_lost self.old self.new
-            result (λ club facility. facility ≡ facility_named name.now club) }
+        ensures reads { ReadsStore (with_name S.ghosts F.is_lost) self.old self.new result
+            (λ club facility. facility ≡ facility_named name.now club) }
         ensures found { IfOk result (λ _. F.is_found self.old.file) }
     {
         self.look()?;
@@ -99,8 +94,8 @@ impl<S: ClubStore, F: Removable> ClubStore for NamedStore<S, F> {
     }
 
     fn account(&mut self, member: &Name) -> Result<Option<MemberAccount>, StoreFault>
-        ensures reads { ReadsNamed S.disk_is_clean S.represents S.fails F.is_lost self.old self.new
-            result (λ club account. account ≡ account_named member.now club) }
+        ensures reads { ReadsStore (with_name S.ghosts F.is_lost) self.old self.new result
+            (λ club account. account ≡ account_named member.now club) }
         ensures found { IfOk result (λ _. F.is_found self.old.file) }
     {
         self.look()?;
@@ -116,8 +111,8 @@ impl<S: ClubStore, F: Removable> ClubStore for NamedStore<S, F> {
     }
 
     fn day(&mut self, day: Day) -> Result<Vec<Booking>, StoreFault>
-        ensures reads { ReadsNamed S.disk_is_clean S.represents S.fails F.is_lost self.old self.new
-            result (λ club rows. AreRowsOf club day rows.items) }
+        ensures reads { ReadsStore (with_name S.ghosts F.is_lost) self.old self.new result
+            (λ club rows. AreRowsOf club day rows.items) }
         ensures found { IfOk result (λ _. F.is_found self.old.file) }
     {
         self.look()?;

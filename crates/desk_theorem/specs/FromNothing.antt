@@ -1,10 +1,10 @@
 -- Defines how a desk over a new database in memory handles a list of events and a later request.
-use Rattle.std.specs.Prelude.{◌≡◌, ◌⊎◌, ℕ, List, [], Option}
-use Rattle.sqlite.specs.{Held.{Held, state}, State.HasCleanDisk, Steps.over_memory, declared.MemStore.MemStore}
-use Rattle.club_core.specs.{Club.{Club, empty_club}, declared.{change.Change.Change, reply.Reply.Reply, request.Request.Request, store.StoreFault.StoreFault}}
+use Rattle.std.specs.Prelude.{ℕ, List, []}
+use Rattle.sqlite.specs.{Held.{Held, state}, Steps.over_memory, declared.MemStore.MemStore}
+use Rattle.club_core.specs.{Club.{Club, empty_club}, declared.{reply.Reply.Reply, request.Request.Request}}
 use Rattle.club_core.specs.Run as machine
-use Rattle.club_tables.specs.{ReadsAndChanges.sound_in, Tables.Represents}
-use Rattle.club_store.specs.Failing.{Fails}
+use Rattle.club_tables.specs.Tables.{Represents}
+use Rattle.club_store.specs.Failing.{over_connection}
 use Rattle.club_gate.specs.{Desk.FailsForCause, Events.AreEventsOf, Runs.{AreHandled, club_left, responses_of}, declared.event.Event.Event}
 use Rattle.club_gate.specs.declared.event.EventReply.{EventReply}
 
@@ -12,15 +12,10 @@ use Rattle.club_gate.specs.declared.event.EventReply.{EventReply}
 abbrev pub InMemory : Type 0
 InMemory = Held MemStore
 
--- A read or a change of the database failed with this fault. `None` means a read, and `Some` means
--- a change.
-abbrev pub fails_in_memory : Option Change → InMemory → StoreFault → InMemory → Type 0
-fails_in_memory = Fails over_memory
-
 -- The desk handled the events in order. Each event was answered by a step of the machine, or
 -- failed. An event failed only if the store failed, or if there was no memory for a pass in JSON.
 abbrev pub AreHandledInMemory : InMemory → List Event → List EventReply → InMemory → Type 0
-AreHandledInMemory = AreHandled (λ held. HasCleanDisk (state over_memory held)) (sound_in over_memory) fails_in_memory
+AreHandledInMemory = AreHandled (over_connection over_memory)
 
 -- A desk handled the events. The desk's store was a database in memory that started with an empty
 -- club.
@@ -40,4 +35,4 @@ pub record RepliesFromNothing (events : List Event) (replies : List EventReply) 
   pub run : HandlesFromNothing events replies
   pub after : InMemory
   pub cause : (seen : List machine.Event) → AreEventsOf events seen
-      → FailsForCause fails_in_memory run.last after (club_left empty_club seen (responses_of replies)) text request moment reply
+      → FailsForCause (over_connection over_memory) run.last after (club_left empty_club seen (responses_of replies)) text request moment reply

@@ -16,9 +16,9 @@ returns-in-Err-make_door-clause-done g c =
 pub returns-clause-done : goal.returns-clause-done
 returns-clause-done g c =
     let served = rw c.new-desk.ensures at c.serve-outcome.ensures.served in
-    let over = over_the_store _ _ _ (CarriesOutBy g.D.Store.ClubStore.disk_is_clean g.D.Store.ClubStore.represents) c.args.service served.0 _
+    let over = over_the_store _ _ _ (CarriesOutBy g.D.Store.ClubStore.ghosts) c.args.service served.0 _
     c.serve-outcome.new.desk.0 c.serve-outcome.new.desk.1 _ c.serve-outcome.result served.1
     in
     spec.server_done c.in-Ok.store c.serve-outcome.new.desk.0 c.open.new.self served.0 c.in-Ok.ensures
-    over (follows_machine _ _ _ _ _ c.args.service served.0 _ _ _ c.serve-outcome.result over) c.serve-outcome.ensures.announced
+    over (follows_machine _ _ _ c.args.service served.0 _ _ _ c.serve-outcome.result over) c.serve-outcome.ensures.announced
     (rw c.into_store.ensures at c.close-2.ensures)

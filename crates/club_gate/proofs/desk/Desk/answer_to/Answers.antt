@@ -3,9 +3,9 @@ use Rattle.club_gate.proofs.{Stepping.{command_failed, command_fits}, desk.Desk.
 use Rattle.club_gate.proofs.desk.Desk.answer_to.Given as given
 use Rattle.club_gate.proofs.desk.Desk.answer_to.Goals as goal
 
-decided : (g : given.Over) (c : After-settle g) → g.S.ClubStore.disk_is_clean c.settle.new.self → (club : Club) (others : List Club)
-    → g.S.ClubStore.represents c.args.self.now club others → (office_verdict club c.args.command.now ≡ Ok c.in-Ok.change)
-    × g.S.ClubStore.represents c.command_view.new.self club others × FitsIfAny c.in-Ok.change club
+decided : (g : given.Over) (c : After-settle g) → g.S.ClubStore.ghosts.is_clean c.settle.new.self → (club : Club) (others : List Club)
+    → g.S.ClubStore.ghosts.represents c.args.self.now club others → (office_verdict club c.args.command.now ≡ Ok c.in-Ok.change)
+    × g.S.ClubStore.ghosts.represents c.command_view.new.self club others × FitsIfAny c.in-Ok.change club
 decided g c was_clean club others represents =
     let before = c.settle.ensures.was_clean was_clean in
     let is = sym (rw (c.in_ok-view.ensures.returned before club others represents) at c.in-Ok.ensures) in

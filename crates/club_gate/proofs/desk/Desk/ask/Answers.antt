@@ -13,7 +13,7 @@ returns-clause-lawful g c = λ was_clean club others represents.
     lawful c.serves_only_the_entitled.ensures c.depends_on_the_basis_alone.ensures c.refuses_without_a_basis.ensures
     c.more_caveats_never_open_more.ensures c.reads_any_form_exactly.ensures c.decides_signed.ensures c.finds_names.ensures
     c.reads_what_is_understood.ensures c.decodes.ensures club text request c.args.moment c.are_bytes.ensures _
-    (rw (c.unwrap_or.ensures ∙ reply_is c.reply_to.result) (reply_or_failure g.S.ClubStore.represents c.reply_to.new.self club others
+    (rw (c.unwrap_or.ensures ∙ reply_is c.reply_to.result) (reply_or_failure g.S.ClubStore.ghosts c.reply_to.new.self club others
     (verdict_in club (decoded_words text request) c.args.moment) _ (c.reply_to.ensures.steps was_clean club others represents)))
 
 pub returns-clause-steps : goal.returns-clause-steps

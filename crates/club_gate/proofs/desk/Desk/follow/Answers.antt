@@ -15,7 +15,7 @@ loop-event-init g c = record {
   within = All-nil IsEvent;
   bytes = All-nil IsEventOfBytes;
   handled = rw c.in_ok-replies.ensures.items no_event;
-  followed = λ _ club others s. rw c.in_ok-replies.ensures.items (followed_none g.S.ClubStore.represents c.args.self.now club others s);
+  followed = λ _ club others s. rw c.in_ok-replies.ensures.items (followed_none g.S.ClubStore.ghosts c.args.self.now club others s);
 }
 
 pub loop-event-preserved : goal.loop-event-preserved
@@ -39,11 +39,11 @@ loop-event-preserved g c =
           (one_event first replies event c.event.result c.loop-event.self c.event.new.self c.loop-event.invariant.handled c.event.ensures);
       followed = λ h club others s.
           let did = c.event.ensures.steps h in
-          let Stepped : machine.Event → Type 0 = λ seen. Steps g.S.ClubStore.represents c.loop-event.self c.event.new.self seen (response_of c.event.result) in
+          let Stepped : machine.Event → Type 0 = λ seen. Steps g.S.ClubStore.ghosts c.loop-event.self c.event.new.self seen (response_of c.event.result) in
           let steps = subst Stepped (sym (event_is c.decodes.ensures event did.0 c.event_within.ensures.bytes did.1)) did.2 in
           let each = c.loop-event.invariant.each in
           rw (next_seen, c.in_ok-push.ensures.items, map-append response_of replies (c.event.result ∷ []))
-          (followed_more g.S.ClubStore.represents c.loop-event.self c.event.new.self club others (machine_events first) (responses_of replies)
+          (followed_more g.S.ClubStore.ghosts c.loop-event.self c.event.new.self club others (machine_events first) (responses_of replies)
           (machine_event event) (response_of c.event.result) (simp (length-map, length-take) (omega arith))
           (c.loop-event.invariant.followed (c.event.ensures.was_clean h) club others s) steps);
     }

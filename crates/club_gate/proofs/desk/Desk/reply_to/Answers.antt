@@ -3,10 +3,10 @@ use Rattle.club_gate.proofs.{Stepping.{ask_done, ask_failed, ask_fits, changed_f
 use Rattle.club_gate.proofs.desk.Desk.reply_to.Given as given
 use Rattle.club_gate.proofs.desk.Desk.reply_to.Goals as goal
 
-decided : (g : given.Over) (c : After-settle g) → g.S.ClubStore.disk_is_clean c.settle.new.self → (club : Club) (others : List Club)
-    → g.S.ClubStore.represents c.args.self.now club others
+decided : (g : given.Over) (c : After-settle g) → g.S.ClubStore.ghosts.is_clean c.settle.new.self → (club : Club) (others : List Club)
+    → g.S.ClubStore.ghosts.represents c.args.self.now club others
     → (c.in_ok-verdict.verdict ≡ verdict_in club (decoded_words c.args.words.now.pass.now c.args.words.now.request) c.args.moment)
-    × g.S.ClubStore.represents c.verdict.new.self club others × FitsIfAny c.in_ok-verdict.verdict.change club
+    × g.S.ClubStore.ghosts.represents c.verdict.new.self club others × FitsIfAny c.in_ok-verdict.verdict.change club
 decided g c was_clean club others represents =
     let before = c.settle.ensures.was_clean was_clean in
     let words = decoded_words c.args.words.now.pass.now c.args.words.now.request in
@@ -23,7 +23,7 @@ returns-in_err-settle-clause-steps g c = grind (arith, decided, ask_failed)
 pub returns-clause-steps : goal.returns-clause-steps
 returns-clause-steps g c = λ was_clean club others represents.
     let is = decided g (goal.at.returns-clause-steps g c).After-settle was_clean club others represents in
-    inl (ask_done g.S.ClubStore.represents c.settle.new.self club others c.never_unavailable.ensures _ c.args.moment c.in_ok-verdict.verdict is.0
+    inl (ask_done g.S.ClubStore.ghosts c.settle.new.self club others c.never_unavailable.ensures _ c.args.moment c.in_ok-verdict.verdict is.0
     (c.in_ok-settle.ensures.settled was_clean club others is.1 is.2))
 
 pub returns-in_err-verdict-clause-untouched : goal.returns-in_err-verdict-clause-untouched
@@ -46,11 +46,11 @@ returns-in_err-verdict-clause-failed g c = λ was_clean club others represents i
 pub returns-in_err-settle-clause-failed : goal.returns-in_err-settle-clause-failed
 returns-in_err-settle-clause-failed g c = λ was_clean club others represents is.
     let its = decided g (goal.at.returns-in_err-settle-clause-failed g c).After-settle was_clean club others represents in
-    let failed = changed_fault g.S.ClubStore.fails c.args.self.now c.verdict.new.self c.settle.new.self club _ c.args.moment c.in_ok-verdict.verdict
+    let failed = changed_fault g.S.ClubStore.ghosts c.args.self.now c.verdict.new.self c.settle.new.self club _ c.args.moment c.in_ok-verdict.verdict
     its.0 _ (c.in_ok-verdict.ensures.failed (c.settle.ensures.was_clean was_clean)) (c.in_err-settle.ensures.failed was_clean) in
     inl (
       _,
-      fails_at_its_words g.S.ClubStore.fails c.args.self.now c.settle.new.self club c.args.words.now.pass.now c.args.words.now.request c.args.moment _
+      fails_at_its_words g.S.ClubStore.ghosts c.args.self.now c.settle.new.self club c.args.words.now.pass.now c.args.words.now.request c.args.moment _
           c.decodes.ensures c.are_bytes.ensures failed,
     )
 

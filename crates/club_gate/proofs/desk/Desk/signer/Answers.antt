@@ -3,8 +3,8 @@ use Rattle.club_gate.proofs.{Common.signer_of, Signers.{by_tests, signer_by_test
 use Rattle.club_gate.proofs.desk.Desk.signer.Given as given
 use Rattle.club_gate.proofs.desk.Desk.signer.Goals as goal
 
-by_row : (g : given.Over) (c : In_ok-is_signed g) → g.S.ClubStore.disk_is_clean c.is_signed.new.self → (club : Club) (others : List Club)
-    → g.S.ClubStore.represents c.args.self.now club others → (pass : Plain) → g.F.FieldSource.left c.args.source.now ≡ pass_fields pass
+by_row : (g : given.Over) (c : In_ok-is_signed g) → g.S.ClubStore.ghosts.is_clean c.is_signed.new.self → (club : Club) (others : List Club)
+    → g.S.ClubStore.ghosts.represents c.args.self.now club others → (pass : Plain) → g.F.FieldSource.left c.args.source.now ≡ pass_fields pass
     → signer_of pass c.args.moment (key_in club pass.identifier)
     ≡ by_tests c.in_ok-is_signed.field-0 c.in-Some-2.row.revoked (Err NotVerified) (Err KeyRevoked) (Ok c.in-Some-2.row)
 by_row g c clean club others represents pass fields =
