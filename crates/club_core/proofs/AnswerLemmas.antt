@@ -1,6 +1,5 @@
 -- Lemmas for the proof that a refusal changes nothing.
-use Rattle.std.proofs.Common.{ℕ, Option, Some, Ok, arith}
-use Rattle.std.specs.Prelude.{Result}
+use Rattle.std.{proofs.Common.{ℕ, Option, Some, Ok, arith}, specs.Prelude.Result}
 use Rattle.club_core.specs.{Answer.answer_to, Basis.{Basis, view_of}, Laws.{KeepsWhereRefused, RefusalsChangeNothing}, Pass.Pass, Verdict.verdict_of}
 use Rattle.club_core.specs.declared.{pass_fault.PassFault.PassFault, request.Request.Request, view.View.View}
 

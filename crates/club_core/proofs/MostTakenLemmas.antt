@@ -1,9 +1,9 @@
 -- Lemmas about the highest number of persons in any slot of a facility.
-use Rattle.std.proofs.{Common.{◌≡◌, ℕ, ◌<◌, ◌≤◌, Bool, true, false, List, [], ◌∷◌, refl, sym, ◌∙◌, ◌⊎◌, inl, inr, arith}, lemmas.Slice.Eq.bytes_eq-Decides}
-use Rattle.std.specs.Prelude.{filter, fold, max}
-use Rattle.club_values.specs.declared.slot.Slot.{Slot}
-use Rattle.club_rows.specs.{Booking.same_slot, declared.booking.Booking.Booking}
 use Rattle.club_core.specs.{Laws.MostTaken, Sums.{is_at, taken_in}}
+use Rattle.std.proofs.Common.{◌≡◌, ℕ, ◌<◌, ◌≤◌, true, List, [], ◌∷◌, refl, sym, ◌∙◌}
+use Rattle.std.{proofs.{Common.{◌⊎◌, inl, inr, arith}, lemmas.Slice.Eq.bytes_eq-Decides}, specs.Prelude.{filter, fold, max}}
+use Rattle.club_rows.specs.{Booking.same_slot, declared.booking.Booking.Booking}
+use Rattle.club_values.specs.declared.slot.Slot.{Slot}
 
 slots_same : (a b : Slot) → same_slot a b ≡ true → a ≡ b
 slots_same a b e = grind (arith, bytes_eq-Decides a.facility b.facility)
@@ -22,8 +22,7 @@ module _ (facility : List ℕ) (all : List Booking) where
   grows n [] = omega arith
   grows n (b ∷ bookings) = grind (arith, grows n bookings, grows (max n (persons b)) bookings)
 
-  bounds : (slot : Slot) → slot.facility ≡ facility → (n : ℕ) (bookings : List Booking) → 0 < taken_in slot bookings
-      → taken_in slot all ≤ most n bookings
+  bounds : (slot : Slot) → slot.facility ≡ facility → (n : ℕ) (bookings : List Booking) → 0 < taken_in slot bookings → taken_in slot all ≤ most n bookings
   bounds slot of_it n [] some = absurd (omega (arith, some))
   bounds slot of_it n (b ∷ bookings) some =
       grind (
@@ -42,16 +41,9 @@ module _ (facility : List ℕ) (all : List Booking) where
   at_least n b top here (inr there) = inr there
   at_least n b top here (inl e) = elim (larger n (persons b)) [ inl low ↦ inl (e ∙ low) | inr high ↦ inr (b.slot, here, sym (e ∙ high)) ]
 
-  reaches_next : (n : ℕ) (b : Booking) (bookings : List Booking) → Reaches n (most n bookings) → Reaches (max n (persons b)) (most (max n (persons b)) bookings)
-      → (r : Bool) → is_at facility b ≡ r → Reaches n (most n (b ∷ bookings))
-  reaches_next n b bookings low high true e =
-      rw e (at_least n b (most (max n (persons b)) bookings) ((bytes_eq-Decides b.slot.facility facility).0 e) high)
-  reaches_next n b bookings low high false e = rw e low
-
   reaches : (n : ℕ) (bookings : List Booking) → Reaches n (most n bookings)
   reaches n [] = inl refl
-  reaches n (b ∷ bookings) =
-      reaches_next n b bookings (reaches n bookings) (reaches (max n (persons b)) bookings) (is_at facility b) refl
+  reaches n (b ∷ bookings) = grind (arith, reaches n bookings, reaches (max n (persons b)) bookings, at_least n b, bytes_eq-Decides b.slot.facility facility)
 
 pub most_taken : MostTaken
 most_taken facility bookings = record {

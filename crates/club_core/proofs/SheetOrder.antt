@@ -1,19 +1,16 @@
 -- Lemmas about the order of the rows in a day sheet.
-use Rattle.std.proofs.lemmas.List.{Elements.{Contains-append_right, All-cons, All-contains, All-tail, All-weaker}, Kept.{AllPairs-cons, AllPairs-filter}}
-use Rattle.std.proofs.lemmas.List.Sorted.{All-permutation, IsPermutation-cons, IsPermutation-middle, IsPermutation-refl, IsPermutation-trans}
-use Rattle.std.proofs.{lemmas.{List.Sorted.{Contains-permutation, IsPermutation-sym}, Map.Lookups.exact_bytes}, Common.{◌≡◌, ℕ, zero, suc, ◌<◌, List, [], ◌∷◌}}
-use Rattle.std.proofs.Common.{length, get_or, refl, sym, ap, ◌∙◌, ◌⊎◌, inl, inr, arith}
-use Rattle.std.specs.{Cmp.Lexicographic.{nat_list_cmp_total, slice_cmp}, Ordering.{nat_cmp, ordering_reverse}, Prelude.{All, AllPairs, Contains, IsPermutation}}
-use Rattle.std.specs.{Prelude.filter, declared.cmp.Ordering.{Ordering, TheVariants.{Equal, Greater, Less}}}
-use Rattle.club_rows.specs.declared.booking.Booking.{Booking}
 use Rattle.club_core.specs.{Club.{Club, IsSound}, Sheet.{AreRowsOf, IsBefore, Precedes, is_on}}
-
-cases_at : {X : Type 0} (y : X) (xs : List X) (x : X) (k : ℕ) → k < length (y ∷ xs) → get_or (y ∷ xs) k x ≡ x → (y ≡ x) ⊎ Contains xs x
-cases_at y xs x zero lt e = inl e
-cases_at y xs x (suc k) lt e = inr (k, omega arith, e)
+use Rattle.std.proofs.Common.{◌≡◌, ℕ, zero, suc, List, [], ◌∷◌}
+use Rattle.std.proofs.{Common.{refl, sym, ap, ◌∙◌, ◌⊎◌, inl, inr, arith}, lemmas.List.Elements.{Contains-append_right, All-cons, All-contains}}
+use Rattle.std.proofs.lemmas.List.{Elements.{All-tail, All-weaker}, Kept.{AllPairs-cons, AllPairs-filter}, Sorted.{All-permutation, IsPermutation-cons}}
+use Rattle.std.proofs.lemmas.List.Sorted.{IsPermutation-middle, IsPermutation-refl, IsPermutation-trans, Contains-permutation, IsPermutation-sym}
+use Rattle.std.{proofs.lemmas.Map.Lookups.exact_bytes, specs.{Cmp.Lexicographic.{nat_list_cmp_total, slice_cmp}, Ordering.{nat_cmp, ordering_reverse}}}
+use Rattle.std.specs.{Prelude.{All, AllPairs, Contains, IsPermutation, filter}, declared.cmp.Ordering.{Ordering, TheVariants.{Equal, Greater, Less}}}
+use Rattle.club_rows.specs.declared.booking.Booking.{Booking}
 
 Contains-cons_cases : {X : Type 0} (y : X) (xs : List X) (x : X) → Contains (y ∷ xs) x → (y ≡ x) ⊎ Contains xs x
-Contains-cons_cases y xs x h = cases_at y xs x h.0 h.1 h.2
+Contains-cons_cases y xs x (zero, lt, e) = inl e
+Contains-cons_cases y xs x (suc k, lt, e) = inr (k, omega arith, e)
 
 Contains-here : {X : Type 0} (x : X) (xs : List X) → Contains (x ∷ xs) x
 Contains-here x xs = (0, omega arith, refl)
@@ -33,8 +30,7 @@ module _ {X : Type 0} (R : X → X → Type 0) (asymmetric : Asymmetric R) where
       let in_ys = Contains-cons_cases y ys x x_there in
       let in_xs = Contains-cons_cases x xs y y_there in
       let above = All-contains (R x) xs y (later R x xs p) in
-      let below = All-contains (R y) ys x (later R y ys q) in
-      grind (arith, in_ys, in_xs, asymmetric x y)
+      let below = All-contains (R y) ys x (later R y ys q) in grind (arith, in_ys, in_xs, asymmetric x y)
 
   tails : (x y : X) (xs ys : List X) → x ≡ y → AllPairs R (x ∷ xs) → ((z : X) → Contains (x ∷ xs) z → Contains (y ∷ ys) z) → (z : X) → Contains xs z →
       Contains ys z
@@ -51,8 +47,7 @@ module _ {X : Type 0} (R : X → X → Type 0) (asymmetric : Asymmetric R) where
   one_order (x ∷ xs) [] p q to back = let h = to x (Contains-here x xs) in absurd (omega (arith, h.1))
   one_order (x ∷ xs) (y ∷ ys) p q to back =
       let same = heads x y xs ys p q (to x (Contains-here x xs)) (back y (Contains-here y ys)) in
-      let same_rest = one_order xs ys (rest R x xs p) (rest R y ys q) (tails x y xs ys same p to) (tails y x ys xs (sym same) q back) in
-      ap (λ z. z ∷ xs) same ∙ ap (λ zs. y ∷ zs) same_rest
+      let same_rest = one_order xs ys (rest R x xs p) (rest R y ys q) (tails x y xs ys same p to) (tails y x ys xs (sym same) q back) in cc
 
 -- The list `zs` is `xs` sorted by the order `R`.
 pub record IsOrdering {X : Type 0} (R : X → X → Type 0) (xs zs : List X) : Type 0 where
@@ -96,9 +91,7 @@ module _ {X : Type 0} (R Same : X → X → Type 0) (transitive : (x y z : X) �
       (made.0, record { same = same; sorted = made.1.sorted })
 
 before_once : Asymmetric IsBefore
-before_once a b h k =
-    let turned : Less ≡ Greater = sym h ∙ nat_list_cmp_total.antisymm a b ∙ ap ordering_reverse k in
-    cc
+before_once a b h k = let turned : Less ≡ Greater = sym h ∙ nat_list_cmp_total.antisymm a b ∙ ap ordering_reverse k in cc
 
 precedes_once : Asymmetric Precedes
 precedes_once a b h k = grind (arith, before_once)
@@ -107,8 +100,7 @@ precedes_once a b h k = grind (arith, before_once)
 pub one_list : (club : Club) (day : ℕ) (rows others : List Booking) → AreRowsOf club day rows → AreRowsOf club day others → rows ≡ others
 one_list club day rows others a b =
     let there = IsPermutation-trans rows (filter (is_on day) club.bookings) others (IsPermutation-sym _ rows a.same) b.same in
-    one_order Precedes precedes_once rows others a.order b.order
-    (λ z. Contains-permutation rows others z there)
+    one_order Precedes precedes_once rows others a.order b.order (λ z. Contains-permutation rows others z there)
     (λ z. Contains-permutation others rows z (IsPermutation-sym rows others there))
 
 -- In a total order, one of any two different elements precedes the other element.
@@ -136,8 +128,7 @@ Same a b = (a.slot.facility ≡ b.slot.facility) × ((a.slot.hour ≡ b.slot.hou
 precedes_total : (a b : Booking) → Precedes a b ⊎ (Same a b ⊎ Precedes b a)
 precedes_total a b =
     let facility = before_total a.slot.facility b.slot.facility in
-    let key = before_total a.key b.key in
-    grind arith
+    let key = before_total a.key b.key in grind arith
 
 -- For every day, the bookings of a sound club can be sorted into the rows of a day sheet.
 pub day_rows : (club : Club) → IsSound club → (day : ℕ) → (rows : List Booking) × AreRowsOf club day rows

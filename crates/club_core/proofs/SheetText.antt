@@ -1,11 +1,10 @@
 -- Lemmas about padded texts, such as the results of the format strings `{:<24}` and `{:>9}`.
 use Rattle.std.proofs.Common.{◌≡◌, ℕ, ◌+◌, ◌-◌, ◌<◌, ◌≤◌, ◌==◌, ◌^◌, true, false, List, [], ◌∷◌, ◌++◌, length, zero, suc, refl, ap, ◌∙◌, arith, append_assoc}
-use Rattle.std.proofs.lemmas.{Bool.Decides.nat_tests, List.{append-nil, Elements.All-tail}}
-use Rattle.std.specs.{Fmt.{char_count, take_chars, padded, padded_integral, format_spec, styled_text, styled_decimal, decimal, is_char_start}, List.AllPass}
-use Rattle.std.specs.{List.repeat, Prelude.{replicate, codes, sum_by}}
-use Rattle.club_values.specs.{Digits.two_digits, Name.{is_name_byte, IsName}}
-use Rattle.club_rows.specs.{Booking.persons_of, declared.booking.Booking.Booking}
+use Rattle.std.{proofs.lemmas.{Bool.Decides.nat_tests, List.{append-nil, Elements.All-tail}}, specs.Fmt.{char_count, take_chars, padded, padded_integral}}
+use Rattle.std.specs.{Fmt.{format_spec, styled_text, styled_decimal, decimal, is_char_start}, List.{AllPass, repeat}, Prelude.{replicate, codes, sum_by}}
 use Rattle.club_core.specs.Sheet.{left_in, right_in, row_text, totals_text}
+use Rattle.club_rows.specs.{Booking.persons_of, declared.booking.Booking.Booking}
+use Rattle.club_values.specs.{Digits.two_digits, Name.{is_name_byte, IsName}}
 use lib.Utf8.{encode}
 
 is_char_start-name : (b : ℕ) → is_name_byte b ≡ true → is_char_start b ≡ true
@@ -15,8 +14,7 @@ char_count-name : (text : List ℕ) → AllPass is_name_byte text → char_count
 unfolding char_count
 char_count-name [] h = refl
 char_count-name (b ∷ text) h =
-    let same = char_count-name text (All-tail (λ x. is_name_byte x ≡ true) b text h) in
-    rw (is_char_start-name b (h 0 b (omega arith))) (omega arith)
+    let same = char_count-name text (All-tail (λ x. is_name_byte x ≡ true) b text h) in rw (is_char_start-name b (h 0 b (omega arith))) (omega arith)
 
 not_zero : (n : ℕ) → 0 < n → (n == 0) ≡ false
 not_zero n h = grind (arith, nat_tests)
@@ -28,12 +26,9 @@ take_chars-name n (b ∷ text) h small =
     let same = take_chars-name (n - 1) text (All-tail (λ x. is_name_byte x ≡ true) b text h) (omega arith) in
     rw (is_char_start-name b (h 0 b (omega arith)), not_zero n (omega arith)) (ap (λ rest. b ∷ rest) same)
 
-fill-spaces : (n : ℕ) → repeat {A = ℕ} n (32 ∷ []) ≡ replicate n 32
-fill-spaces zero = refl
-fill-spaces (suc n) = ap (λ rest. 32 ∷ rest) (fill-spaces n)
-
 spaces : (m n : ℕ) → m ≡ n → repeat {A = ℕ} m (32 ∷ []) ≡ replicate n 32
-spaces m n e = ap (λ k. repeat {A = ℕ} k (32 ∷ [])) e ∙ fill-spaces n
+spaces zero n e = rw (← e) refl
+spaces (suc m) n e = rw (← e) (ap (λ rest. 32 ∷ rest) (spaces m m refl))
 
 pub styled_text-left : (text : List ℕ) → IsName text → styled_text (format_spec 32 1 0 24 (2 ^ 64 - 1)) text ≡ left_in 24 text
 unfolding padded encode

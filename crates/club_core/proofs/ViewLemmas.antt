@@ -1,9 +1,8 @@
 -- Lemmas about the sums that a view of a request contains.
 use Rattle.std.proofs.{Common.{◌≡◌, ℕ, zero, suc, ◌<◌, Bool, true, List, [], ◌∷◌, length, get_or, refl, ap, arith}, lemmas.Bool.and_parts}
-use Rattle.std.proofs.lemmas.Slice.Eq.{bytes_eq-Decides}
-use Rattle.std.specs.{List.list_any, Prelude.{◌&&◌, ◌==◌, filter, find, sum_by, Contains}, Str.bytes_eq}
-use Rattle.club_rows.specs.declared.{booking.Booking.Booking, key.Key.Key}
+use Rattle.std.{proofs.lemmas.Slice.Eq.bytes_eq-Decides, specs.{List.list_any, Prelude.{◌&&◌, ◌==◌, filter, find, sum_by, Contains}, Str.bytes_eq}}
 use Rattle.club_core.specs.{Club.{Club, is_key_of}, Laws.OwnBookings, Sums.{cost_of, is_under}}
+use Rattle.club_rows.specs.declared.{booking.Booking.Booking, key.Key.Key}
 
 filter_twice : (strict wide : Booking → Bool) (bookings : List Booking) → ((b : Booking) → strict b ≡ true → wide b ≡ true) →
     filter strict (filter wide bookings) ≡ filter strict bookings

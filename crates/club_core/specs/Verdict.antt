@@ -1,13 +1,12 @@
 -- Defines the answer to a request after the desk has accepted the pass. The first true condition in
 -- a list determines the answer.
 use Rattle.std.specs.Prelude.{ℕ, ◌+◌, ◌-◌, ◌==◌, ◌&&◌, not, false, List, [], ◌∷◌, nat_lt, nat_le, if◌then◌else◌, Option, Some, None}
-use Rattle.club_values.specs.{Slot.start_of, declared.slot.Slot.Slot}
 use Rattle.club_core.specs.{Lines.{Line, line_if, first_of}, declared.{change.Change.TheVariants.{InsertBooking, MarkCancelled}, refusal.Refusal.Refusal}}
 use Rattle.club_core.specs.declared.refusal.Refusal.TheVariants.{NumberUsed, NoSuchFacility, NoSuchBooking, NotBookable, SlotClosed, NoPlaces, QuotaReached}
-use Rattle.club_core.specs.declared.{refusal.Refusal.TheVariants.{BalanceTooLow, SlotHasBegun}, reply.Reply.Reply}
-use Rattle.club_core.specs.declared.{reply.Reply.TheVariants.{SlotShown, Booked, Cancelled, AccountShown, Refused}, request.Request.Request}
-use Rattle.club_core.specs.declared.{verdict.Verdict.Verdict, view.View.View}
+use Rattle.club_core.specs.declared.{refusal.Refusal.TheVariants.{BalanceTooLow, SlotHasBegun}, reply.Reply.{Reply, TheVariants.{SlotShown, Booked, Cancelled}}}
+use Rattle.club_core.specs.declared.{reply.Reply.TheVariants.{AccountShown, Refused}, request.Request.Request, verdict.Verdict.Verdict, view.View.View}
 use Rattle.club_rows.specs.{Booking.{same_slot, refund_at}, Facility.{charge_of, is_bookable}, declared.{booking.Booking.Booking, facility.Facility.Facility}}
+use Rattle.club_values.specs.{Slot.start_of, declared.slot.Slot.Slot}
 use Rattle.club_core.specs.declared.request.Request.TheVariants as asked
 
 -- A verdict with this reply and without a change.

@@ -1,5 +1,4 @@
-use Rattle.std.proofs.{Common.{◌+◌, ◌++◌, ap, refl, ◌∙◌, lit<}, lemmas.Result.IfOk-weaker}
-use Rattle.std.specs.String.{string_bytes}
+use Rattle.std.{proofs.{Common.{◌+◌, ◌++◌, ap, refl, ◌∙◌, lit<}, lemmas.Result.IfOk-weaker}, specs.String.string_bytes}
 use Rattle.club_core.proofs.SheetText.{laid_text, laid_text-row_text, left-of, right-of}
 use Rattle.club_core.proofs.sheet.push_row.Goals as goal
 

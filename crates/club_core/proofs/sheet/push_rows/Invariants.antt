@@ -1,5 +1,4 @@
-use Rattle.std.proofs.Common.{◌≡◌, ◌++◌, take}
-use Rattle.std.specs.{Prelude.flat_map, String.string_bytes}
+use Rattle.std.{proofs.Common.{◌≡◌, ◌++◌, take}, specs.{Prelude.flat_map, String.string_bytes}}
 use Rattle.club_core.specs.Sheet as spec
 use Rattle.club_core.proofs.sheet.push_rows.Given as goal
 

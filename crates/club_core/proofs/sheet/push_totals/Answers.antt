@@ -1,5 +1,4 @@
-use Rattle.std.proofs.{Common.{◌++◌, ap, sym, ◌∙◌}, lemmas.{Bool.eqb-false, Result.IfOk-weaker}}
-use Rattle.std.specs.String.{string_bytes}
+use Rattle.std.{proofs.{Common.{◌++◌, ap, sym, ◌∙◌}, lemmas.{Bool.eqb-false, Result.IfOk-weaker}}, specs.String.string_bytes}
 use Rattle.club_core.proofs.SheetText.{laid_totals, laid_totals-totals_text}
 use Rattle.club_core.proofs.sheet.push_totals.Goals as goal
 
