@@ -1,19 +1,16 @@
--- Lemmas about the cases in which the rules answer a request or decide a command.
-use Rattle.club_laws.proofs.Common.{Outcome, command_outcome, step, Commanded, CancelBooking, MarkCancelled, SetFacility, ReplaceNumbers, Debit, TakeCredit}
-use Rattle.club_laws.proofs.Common.{◌≡◌, ℕ, ◌+◌, ◌-◌, true, false, Option, Some, None, Ok, refl, ◌∙◌, arith, List, ◌≤◌, Err, bytes_eq-Decides, Result, ◌&&◌}
-use Rattle.club_laws.proofs.Common.{◌==◌, nat_lt, bytes_eq, Slot, Member, Facility, Key, Booking, Verdict, Reply, Booked, Cancelled, Refused, Request}
-use Rattle.club_laws.proofs.Common.{same_slot, refund_at, Pass, Words, Club, facility_named, is_key_of, bookings_of, is_closed, key_named, member_named}
-use Rattle.club_laws.proofs.Common.{taken_in, balance_of, booking_under, Basis, basis_of, view_of, state_of, key_of, answer_to, verdict_in, request_slot}
-use Rattle.club_laws.proofs.Common.{Change, InsertMember, AddCredit, InsertFacility, InsertKey, MarkRevoked, ReplaceRoot, MarkOpen, ReplaceQuota, Command}
-use Rattle.club_laws.proofs.Common.{AddMember, Credit, AddFacility, AddKey, RevokeKey, RotateKey, OpenSlot, SetQuota, OfficeFault, office_verdict, are_limits}
-use Rattle.club_laws.proofs.FoundRows.{is_numbered, numbered, found_passes, found_is_there, find-filter, any_passes, any-filter, named}
-use Rattle.club_core.specs.{Sums.most_taken_in, declared.pass_fault.PassFault.PassFault}
+-- Lemmas about the cases in which the rules answer a request or decide a command, and about runs.
+use Rattle.club_core.specs.{Office.office_cancel_verdict, declared.{command.OfficeFault.TheVariants.Unknown, pass_fault.PassFault.PassFault}}
+use Rattle.club_laws.proofs.Common.{Outcome, command_outcome, step, Commanded, CancelBooking, MarkCancelled, ◌≡◌, ℕ, ◌+◌, ◌-◌, true, false, Option, Some, None}
+use Rattle.club_laws.proofs.Common.{Ok, refl, ◌∙◌, arith, List, Err, bytes_eq-Decides, Result, ◌&&◌, ◌==◌, nat_lt, bytes_eq, Slot, Member, Facility, Key}
+use Rattle.club_laws.proofs.Common.{Booking, Verdict, Reply, Booked, Cancelled, Refused, Request, same_slot, refund_at, Pass, Words, Club, facility_named}
+use Rattle.club_laws.proofs.Common.{is_key_of, bookings_of, is_closed, key_named, member_named, taken_in, balance_of, booking_under, Basis, basis_of, view_of}
+use Rattle.club_laws.proofs.Common.{state_of, key_of, answer_to, verdict_in, request_slot, OfficeFault, office_verdict, [], ◌∷◌, ◌++◌, ap, Change, after, Event}
+use Rattle.club_laws.proofs.{Common.{Asked, after_change, replies_of, club_after, EventReply}, FilteredRows.{is_numbered, numbered, found_passes}}
+use Rattle.club_laws.proofs.FilteredRows.{found_is_there, find-filter, any_passes, any-filter, named}
+use Rattle.club_rows.specs.Facility.{charge_of}
 use Rattle.club_core.specs.declared.refusal.Refusal.TheVariants as refusals
 use Rattle.club_core.specs.declared.request.Request.TheVariants as asked
 use Rattle.club_core.specs.Verdict as verdicts
-use Rattle.club_core.specs.declared.{change.Change.TheVariants.MarkClosed, command.Command.TheVariants.CloseSlot}
-use Rattle.club_rows.specs.Facility.{charge_of}
-use Rattle.std.proofs.lemmas.Bool.Decides.{nat_tests}
 
 abbrev pub basis_with : Club → Request → Key → Member → Basis
 basis_with club request key member =
@@ -29,8 +26,7 @@ key_is_named : (club : Club) (name : List ℕ) (key : Key) → key_named name cl
 key_is_named club name key = named (λ (k : Key). k.name) name club.keys key
 
 pub known_rows : (club : Club) (words : Words) (basis : Basis) → basis_of club words ≡ Some basis → Knows club words basis.key basis.member
-known_rows club words basis e =
-    record { key_name = grind (arith, key_is_named club); known = grind (arith, key_is_named club); owned = grind arith }
+known_rows club words basis e = record { key_name = grind (arith, key_is_named club); known = grind (arith, key_is_named club); owned = grind arith }
 
 pub whole_basis : (club : Club) (words : Words) (basis : Basis) → basis_of club words ≡ Some basis
     → basis ≡ basis_with club words.request basis.key basis.member
@@ -108,96 +104,54 @@ module _ (P : Verdict → Type 0) (club : Club) (words : Words) (moment : ℕ) (
       rw (own_booking club words key member number k) (grind (arith, w.silent, w.cancels key member slot number, w.cancels_recorded key member slot number))
   verdict_cases key member request k r = grind (arith, w.silent)
 
-  text_cases : (pass : Result Pass PassFault) (basis : Option Basis) → basis_of club words ≡ basis
-      → P (answer_to pass words.request moment basis)
+  text_cases : (pass : Result Pass PassFault) (basis : Option Basis) → basis_of club words ≡ basis → P (answer_to pass words.request moment basis)
   text_cases (Ok pass) (Some basis) e =
       let decided = verdict_cases basis.key basis.member words.request (known_rows club words basis e) refl in
-      let whole = whole_basis club words basis e in
-      grind (arith, w.silent)
+      let whole = whole_basis club words basis e in grind (arith, w.silent)
   text_cases pass basis e = grind (arith, w.silent)
 
   pub answer_cases : P (verdict_in club words moment)
   answer_cases = text_cases words.pass (basis_of club words) refl
 
--- The conditions under which a command changes the club.
-abbrev pub CommandRestsOn : Club → Command → Type 0
-CommandRestsOn club (AddMember name quota) = (quota ≤ 99) × (member_named name club ≡ None)
-CommandRestsOn club (Credit name points) = (member : Member) × (member_named name club ≡ Some member) × (member.credited + points ≤ 999_999_999)
-CommandRestsOn club (Debit name points) =
-    (member : Member) × (member_named name club ≡ Some member) × (points ≤ balance_of member (bookings_of member.name club))
-CommandRestsOn club (SetQuota name quota) = (quota ≤ 99) × (member : Member) × (member_named name club ≡ Some member)
-CommandRestsOn club (AddFacility name kind places price opens shuts) = (are_limits places price opens shuts ≡ true) × (facility_named name club ≡ None)
-CommandRestsOn club (SetFacility name places price opens shuts) =
-    (are_limits places price opens shuts ≡ true) × (facility : Facility) × (facility_named name club ≡ Some facility)
-    × (most_taken_in name club.bookings ≤ places)
-CommandRestsOn club (AddKey name member root) = (owner : Member) × (member_named member club ≡ Some owner) × (key_named name club ≡ None)
-CommandRestsOn club (RevokeKey name) = (key : Key) × (key_named name club ≡ Some key)
-CommandRestsOn club (RotateKey name root until) = (key : Key) × (key_named name club ≡ Some key)
-CommandRestsOn club (CancelBooking key number) =
-    (row : Key) × (key_named key club ≡ Some row) × (booking : Booking) × (booking_under key number club.bookings ≡ Some booking)
-    × (booking.cancelled ≡ false)
-CommandRestsOn club (CloseSlot slot) = (facility : Facility) × (facility_named slot.facility club ≡ Some facility) × (is_closed slot club ≡ false)
-CommandRestsOn club (OpenSlot slot) = (facility : Facility) × (facility_named slot.facility club ≡ Some facility)
+-- The outcome of the office's cancellation has the property `P` in each case: the command fails,
+-- the booking is already cancelled, or the command cancels the booking.
+pub cancel_cases : (P : Outcome → Type 0) (club : Club) (key : List ℕ) (number : ℕ)
+    → ((fault : OfficeFault) → P (command_outcome club (CancelBooking key number) (Err fault)))
+    → ((booking : Booking) → booking_under key number club.bookings ≡ Some booking → booking.cancelled ≡ true
+    → P (command_outcome club (CancelBooking key number) (Ok None)))
+    → ((row : Key) (booking : Booking) → booking_under key number club.bookings ≡ Some booking → booking.cancelled ≡ false
+    → P (command_outcome club (CancelBooking key number) (Ok (Some (MarkCancelled booking row.member booking.charge)))))
+    → P (step club (Commanded (CancelBooking key number)))
+cancel_cases P club key number fails again cancels = go (key_named key club) (booking_under key number club.bookings) refl
+  where
+    go : (row : Option Key) (found : Option Booking) → booking_under key number club.bookings ≡ found
+        → P (command_outcome club (CancelBooking key number) (office_cancel_verdict row found))
+    go (Some row) (Some booking) e = grind (arith, again booking, cancels row booking)
+    go row found e = fails Unknown
 
--- The command cancels a booking that is already cancelled.
-abbrev pub FindsNothing : Club → Command → Type 0
-FindsNothing club (CancelBooking key number) = (booking : Booking) × (booking_under key number club.bookings ≡ Some booking) × (booking.cancelled ≡ true)
-FindsNothing club command = ⊥
+module _ (P : Club → Type 0) (kept : (club : Club) (change : Change) → P club → P (after change club)) where
+  kept_by_change : (club : Club) (change : Option Change) → P club → P (after_change change club)
+  kept_by_change club None h = h
+  kept_by_change club (Some change) h = kept club change h
 
--- The change that an accepted command makes.
-abbrev pub change_of : (club : Club) (command : Command) → CommandRestsOn club command → Change
-change_of club (AddMember name quota) r = InsertMember (record { name = name; credited = 0; quota = quota })
-change_of club (Credit name points) r = AddCredit name points
-change_of club (Debit name points) r = TakeCredit name points
-change_of club (SetQuota name quota) r = ReplaceQuota name quota
-change_of club (AddFacility name kind places price opens shuts) r =
-    InsertFacility (record { name = name; kind = kind; places = places; price = price; opens = opens; shuts = shuts })
-change_of club (SetFacility name places price opens shuts) r = ReplaceNumbers name places price opens shuts
-change_of club (AddKey name member root) r = InsertKey (record { name = name; member = member; root = root; older = None; revoked = false })
-change_of club (RevokeKey name) r = MarkRevoked name
-change_of club (RotateKey name root until) r = ReplaceRoot name r.0.root root until
-change_of club (CancelBooking key number) r = MarkCancelled r.2 r.0.member r.2.charge
-change_of club (CloseSlot slot) r = MarkClosed slot
-change_of club (OpenSlot slot) r = MarkOpen slot
+  pub kept_by_step : (club : Club) (event : Event) → P club → P (step club event).club
+  kept_by_step club (Asked words moment) h = kept_by_change club (verdict_in club words moment).change h
+  kept_by_step club (Commanded command) h = go (office_verdict club command)
+    where
+      go : (verdict : Result (Option Change) OfficeFault) → P (command_outcome club command verdict).club
+      go (Ok change) = kept_by_change club change h
+      go (Err fault) = h
 
-module _ (P : Result (Option Change) OfficeFault → Type 0) (club : Club) (fails : (fault : OfficeFault) → P (Err fault)) where
-  pub command_cases : (command : Command) → (FindsNothing club command → P (Ok None))
-      → ((r : CommandRestsOn club command) → P (Ok (Some (change_of club command r)))) → P (office_verdict club command)
-  command_cases (AddMember name quota) stays done =
-      let ok = λ (few : quota ≤ 99) (new : member_named name club ≡ None). done (few, new) in grind (arith, nat_tests, fails)
-  command_cases (Credit name points) stays done =
-      let ok = λ (m : Member) (found : member_named name club ≡ Some m) (few : m.credited + points ≤ 999_999_999). done (m, found, few) in
-      grind (arith, nat_tests, fails)
-  command_cases (Debit name points) stays done =
-      let ok = λ (m : Member) (found : member_named name club ≡ Some m) (enough : points ≤ balance_of m (bookings_of m.name club)). done (m, found, enough) in
-      grind (arith, nat_tests, fails)
-  command_cases (SetQuota name quota) stays done =
-      let ok = λ (few : quota ≤ 99) (m : Member) (found : member_named name club ≡ Some m). done (few, m, found) in grind (arith, nat_tests, fails)
-  command_cases (AddFacility name kind places price opens shuts) stays done =
-      let ok = λ (fit : are_limits places price opens shuts ≡ true) (new : facility_named name club ≡ None). done (fit, new) in grind (arith, fails)
-  command_cases (SetFacility name places price opens shuts) stays done =
-      let ok = λ (fit : are_limits places price opens shuts ≡ true) (f : Facility) (found : facility_named name club ≡ Some f)
-      (room : most_taken_in name club.bookings ≤ places). done (fit, f, found, room) in
-      grind (arith, nat_tests, fails)
-  command_cases (AddKey name member root) stays done =
-      let ok = λ (m : Member) (found : member_named member club ≡ Some m) (new : key_named name club ≡ None). done (m, found, new) in grind (arith, fails)
-  command_cases (RevokeKey name) stays done = let ok = λ (k : Key) (found : key_named name club ≡ Some k). done (k, found) in grind (arith, fails)
-  command_cases (RotateKey name root until) stays done = let ok = λ (k : Key) (found : key_named name club ≡ Some k). done (k, found) in grind (arith, fails)
-  command_cases (CancelBooking key number) stays done =
-      let ok = λ (row : Key) (known : key_named key club ≡ Some row) (booking : Booking) (found : booking_under key number club.bookings ≡ Some booking)
-      (live : booking.cancelled ≡ false). done (row, known, booking, found, live) in
-      let again = λ (booking : Booking) (found : booking_under key number club.bookings ≡ Some booking) (before : booking.cancelled ≡ true).
-      stays (booking, found, before) in
-      grind (arith, fails)
-  command_cases (CloseSlot slot) stays done =
-      let ok = λ (f : Facility) (found : facility_named slot.facility club ≡ Some f) (new : is_closed slot club ≡ false). done (f, found, new) in
-      grind (arith, fails)
-  command_cases (OpenSlot slot) stays done =
-      let ok = λ (f : Facility) (found : facility_named slot.facility club ≡ Some f). done (f, found) in grind (arith, fails)
+  pub kept_by_run : (club : Club) (events : List Event) → P club → P (club_after club events)
+  kept_by_run club [] h = h
+  kept_by_run club (event ∷ events) h = kept_by_run (step club event).club events (kept_by_step club event h)
 
--- The outcome of a command has the property `P` in each case: the command fails, finds nothing to
--- do, or changes the club.
-pub outcome_cases : (P : Outcome → Type 0) (club : Club) (command : Command) → ((fault : OfficeFault) → P (command_outcome club command (Err fault)))
-    → (FindsNothing club command → P (command_outcome club command (Ok None)))
-    → ((r : CommandRestsOn club command) → P (command_outcome club command (Ok (Some (change_of club command r))))) → P (step club (Commanded command))
-outcome_cases P club command fails = command_cases (λ v. P (command_outcome club command v)) club fails command
+pub club_after-append : (club : Club) (front rest : List Event) → club_after club (front ++ rest) ≡ club_after (club_after club front) rest
+club_after-append club [] rest = refl
+club_after-append club (event ∷ front) rest = club_after-append (step club event).club front rest
+
+pub replies_of-append : (club : Club) (front rest : List Event) → replies_of club (front ++ rest) ≡ replies_of club front
+    ++ replies_of (club_after club front) rest
+replies_of-append club [] rest = refl
+replies_of-append club (event ∷ front) rest = ap (λ (replies : List EventReply).
+    (step club event).reply ∷ replies) (replies_of-append (step club event).club front rest)

@@ -10,16 +10,14 @@ pub use Rattle.club_core.specs.{Acceptance.{IsAllowedBy, IsAcceptedIn, IsServed,
 pub use Rattle.club_core.specs.{After.{cancelled_booking, credited_member, debited_member, member_with_quota, facility_with_numbers}, Answer.verdict_in}
 pub use Rattle.club_core.specs.{Answer.{answer_to, ask_of, form_refusal, answer_by_basis}, Basis.{Basis, basis_of, view_of, key_of, state_of, club_account}}
 pub use Rattle.club_core.specs.{Basis.SlotState, Club.{Club, is_key_of, bookings_of, key_named, member_named, keys_of, IsSound, facility_named, empty_club}}
-pub use Rattle.club_core.specs.{Club.{is_closed, HasReferences}, Events.{IsEvent, IsRequest}, Laws.{TestsTheSignature, OwnBookings}}
-pub use Rattle.club_core.specs.Office.{IsCommand}
-pub use Rattle.club_core.specs.{Office.{office_verdict, are_limits}, Pass.{Words, Pass, is_signed_under}, Request.{request_slot, request_number}, Run.step}
-pub use Rattle.club_core.specs.Run.{Event, Asked, Commanded, after_change, command_outcome, club_after, replies_of, ToMember, EventReply, ToOffice}
-pub use Rattle.club_core.specs.Office.{done_answer}
-pub use Rattle.club_core.specs.{Run.{Outcome, Response, verdict_outcome}, Sums.{taken_in, booking_under, is_under, cost_of, is_in, balance_of}}
-pub use Rattle.club_core.specs.declared.change.Change.{Change, TheVariants.{InsertKey, MarkRevoked, ReplaceRoot, InsertBooking, MarkCancelled, InsertMember}}
-pub use Rattle.club_core.specs.declared.change.Change.TheVariants.{AddCredit, InsertFacility, MarkOpen, ReplaceQuota, TakeCredit, ReplaceNumbers}
-pub use Rattle.club_core.specs.declared.command.Command.{Command, TheVariants.{RevokeKey, AddKey, RotateKey, AddMember, Credit, AddFacility}}
-pub use Rattle.club_core.specs.declared.command.{Command.TheVariants.{OpenSlot, SetQuota, Debit, SetFacility, CancelBooking}, OfficeFault.OfficeFault}
+pub use Rattle.club_core.specs.{Club.{is_closed, HasReferences}, Events.{IsEvent, IsRequest}, Laws.{TestsTheSignature, OwnBookings}, Office.IsCommand}
+pub use Rattle.club_core.specs.{Office.office_verdict, Pass.{Words, Pass, is_signed_under}, Request.{request_slot, request_number}, Run.{step, Event, Asked}}
+pub use Rattle.club_core.specs.Run.{Commanded, after_change, command_outcome, club_after, replies_of, ToMember, EventReply, ToOffice, Outcome, Response}
+pub use Rattle.club_core.specs.{Run.verdict_outcome, Sums.{taken_in, booking_under, is_under, cost_of, is_in, balance_of}, declared.change.Change.Change}
+pub use Rattle.club_core.specs.declared.change.Change.TheVariants.{InsertKey, MarkRevoked, ReplaceRoot, InsertBooking, MarkCancelled, InsertMember, AddCredit}
+pub use Rattle.club_core.specs.declared.change.Change.TheVariants.{InsertFacility, MarkOpen, ReplaceQuota, TakeCredit, ReplaceNumbers}
+pub use Rattle.club_core.specs.declared.command.Command.{Command, TheVariants.{RevokeKey, AddKey, RotateKey, AddMember, Credit, AddFacility, OpenSlot}}
+pub use Rattle.club_core.specs.declared.command.{Command.TheVariants.{SetQuota, Debit, SetFacility, CancelBooking}, OfficeFault.OfficeFault}
 pub use Rattle.club_core.specs.declared.{reply.Reply.{Reply, TheVariants.{Booked, Cancelled, Refused}}, request.Request.Request, verdict.Verdict.Verdict}
 pub use Rattle.club_rows.specs.{Booking.{refund_at, same_slot, persons_of}, declared.{booking.Booking.Booking, facility.Facility.Facility, key.Key.Key}}
 pub use Rattle.club_rows.specs.declared.member.Member.{Member}

@@ -1,13 +1,12 @@
 -- Lemmas for the laws about runs in which some events failed. The proofs remove the failed events
 -- from the run, and then use the laws for runs without failures.
-use Rattle.club_laws.proofs.{AnswerCases.answer_cases, Common.{Cancelled, ◌≡◌, ◌≢◌, ℕ, false, arith, inl, [], ◌∷◌, refl, List, ◌++◌, length, append_assoc}}
-use Rattle.club_laws.proofs.Common.{Refused, Verdict, verdict_in, Club, empty_club, Words, Event, Asked, Commanded, step, ToMember, Response, All-nil, All-cons}
-use Rattle.club_laws.proofs.{Common.{All-head, All-tail, IsEvent, TestsTheSet, Reply, TestsTheSignature}, KeptByRuns.club_after-append, PointRuns.conserved}
-use Rattle.club_laws.proofs.{PointRuns.has_room, RepeatAnswers.{cancelled_by_record, step_of_repeat}, SoundSteps.sound_run}
-use Rattle.club_laws.specs.Failed.{is_unavailable, CutsRuns, JoinsRuns, LeavesEvents, LeavesOutFailed, RunsWithoutFailures, Presentation, present_reply}
-use Rattle.club_laws.specs.{Failed.{has_failed, answered_events, IsStep, IsRun}, Repeats.{refund_by_office, IsBookedOrCancelled, WasServed}}
-use Rattle.club_laws.specs.RunsWithFailures.{CancellationsWithFailures, ConservesWithFailures, PlacesWithFailures, SoundWithFailures, RepeatsWithFailures}
-use Rattle.club_laws.specs.RunsWithFailures.{RepeatsAfterOneMore, WasReturned}
+use Rattle.club_laws.proofs.Common.{Cancelled, ◌≡◌, ◌≢◌, ℕ, false, arith, inl, [], ◌∷◌, refl, List, ◌++◌, length, append_assoc, Refused, Verdict, verdict_in}
+use Rattle.club_laws.proofs.Common.{Club, empty_club, Words, Event, Asked, Commanded, step, ToMember, Response, All-nil, All-cons, All-head, All-tail, IsEvent}
+use Rattle.club_laws.proofs.{Common.{TestsTheSet, Reply, TestsTheSignature}, AnswerCases.{answer_cases, club_after-append}, PointRuns.{conserved, has_room}}
+use Rattle.club_laws.{proofs.{ServedPasses.{cancelled_by_record, step_of_repeat}, SoundSteps.sound_run}, specs.Failed.{is_unavailable, CutsRuns, JoinsRuns}}
+use Rattle.club_laws.specs.Failed.{LeavesEvents, LeavesOutFailed, RunsWithoutFailures, Presentation, present_reply, has_failed, answered_events, IsStep, IsRun}
+use Rattle.club_laws.specs.{Repeats.{refund_by_office, IsBookedOrCancelled, WasServed}, RunsWithFailures.{CancellationsWithFailures, ConservesWithFailures}}
+use Rattle.club_laws.specs.RunsWithFailures.{PlacesWithFailures, SoundWithFailures, RepeatsWithFailures, RepeatsAfterOneMore, WasReturned}
 use Rattle.club_core.specs.declared.{command.OfficeAnswer.OfficeAnswer, refusal.Refusal.TheVariants.Unavailable}
 
 pub answers_requests : (club : Club) (words : Words) (moment : ℕ) → is_unavailable (verdict_in club words moment).reply ≡ false
@@ -20,9 +19,7 @@ never_unavailable club (Commanded command) e = grind arith
 pub run_of_answered : {O : Type 0} → LeavesOutFailed O
 run_of_answered presentation club last [] [] h = record { responses = refl; left = h }
 run_of_answered presentation club last (event ∷ events) (returned ∷ replies) h =
-    let step = h.1 in
-    let rest = run_of_answered presentation h.0 last events replies h.2 in
-    grind arith
+    grind (arith, h.1, run_of_answered presentation h.0 last events replies h.2)
 run_of_answered presentation club last events replies h = absurd h
 
 pub events_left : {O : Type 0} → LeavesEvents O

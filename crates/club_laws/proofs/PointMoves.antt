@@ -1,13 +1,62 @@
--- Lemmas about the totals of charges and refunds after each reply.
+-- Lemmas about the first reply to a booking, and about the totals of charges and refunds after each
+-- reply.
+use Rattle.club_laws.proofs.Common.{CancelBooking, ◌≡◌, ℕ, true, List, [], ◌∷◌, ◌++◌, map, Option, Some, None, refl, ap, ◌∙◌, arith, find, find-append, Booking}
+use Rattle.club_laws.proofs.Common.{Verdict, Club, booking_under, cancelled_booking, after_change, Booked, Event, Asked, Commanded, step, ToMember, refund_at}
+use Rattle.club_laws.proofs.Common.{All-weaker, get_or, ◌+◌, Bool, false, cond, not, ◌&&◌, ◌||◌, ◌==◌, filter, sum_by, AllPairs, bytes_eq, filter_agree}
+use Rattle.club_laws.proofs.{Common.{list_any, list_any-append, list_any_none}, AnswerCases.{answer_cases, written}, FilteredRows.{is_numbered, numbered}}
+use Rattle.club_laws.proofs.FilteredRows.{found_by_own, find-map, filter-filter, filter-map, sum-map, sum_one_more, found_passes, AreApart, found_is_there}
+use Rattle.club_laws.{proofs.FilteredRows.{none_found, any_passes, any-map, AllPairs-head, AllPairs-tail, numbered_back, only_numbered}, specs.Points.Entry}
+use Rattle.club_laws.specs.Points.{charge_told, charge_of_reply, is_entry_of, firsts}
 use Rattle.std.proofs.lemmas.List.{Folds.map_fixed, Sums.sum_by-cons}
-use Rattle.club_laws.proofs.FoundRows.{found_passes, AreApart, found_is_there, none_found, any_passes, any-map, at_found, AllPairs-head, AllPairs-tail}
-use Rattle.club_laws.proofs.{FoundRows.{is_numbered, numbered_back, numbered, only_numbered, found_by_own}, Common.{All-weaker, true, get_or, ◌≡◌, ℕ, ◌+◌}}
-use Rattle.club_laws.proofs.Common.{Bool, false, cond, List, [], ◌∷◌, ◌++◌, ap, ◌∙◌, arith, map, Some, None, refl, not, ◌&&◌, ◌||◌, ◌==◌, filter, sum_by, find}
-use Rattle.club_laws.proofs.Common.{AllPairs, bytes_eq, filter_agree, list_any, list_any-append, list_any_none, Booking, Verdict, Words, refund_at, Club}
-use Rattle.club_laws.proofs.{Common.{IsSound, verdict_in, cancelled_booking, after_change, ToMember}, AnswerCases.{written, answer_cases}}
-use Rattle.club_laws.proofs.FilteredRows.{filter-filter, filter-map, sum-map, sum_one_more}
-use Rattle.club_laws.specs.Points.{Entry, is_entry_of, firsts, charge_of_reply, refund_of_reply}
-use Rattle.club_rows.specs.Rows.{IsBooking}
+
+-- The charge of the booking, or the default `other` if there is no booking.
+abbrev pub charge_or : Option Booking → ℕ → ℕ
+charge_or None other = other
+charge_or (Some booking) other = booking.charge
+
+-- For each key and number, the first charge in the list `told` is the charge on record. If no
+-- booking is on record, the first charge comes from the later entries.
+abbrev pub Tells : List Entry → List Booking → List Entry → Type 0
+Tells told bookings later =
+    (key : List ℕ) (number : ℕ) → charge_told key number told ≡ charge_or (booking_under key number bookings) (charge_told key number later)
+
+-- The entries state the charges of the bookings that are only in `new_bookings`.
+abbrev pub TellsNew : List Booking → List Booking → List Entry → Type 0
+TellsNew bookings new_bookings entries =
+    (later : List Entry) (key : List ℕ) (number : ℕ)
+    → charge_or (booking_under key number bookings) (charge_told key number (entries ++ later))
+    ≡ charge_or (booking_under key number new_bookings) (charge_told key number later)
+
+found_alike : (booking : Booking) (bookings : List Booking) (key : List ℕ) (number : ℕ) → is_numbered key number booking ≡ true
+    → find (is_numbered key number) bookings ≡ find (is_numbered booking.key booking.number) bookings
+found_alike booking bookings key number is =
+    let it = numbered key number booking is in rw (it.0, it.1) refl
+
+told_again : (bookings : List Booking) (key : List ℕ) (number : ℕ) (booking : Booking) → find (is_numbered key number) bookings ≡ Some booking
+    → TellsNew bookings bookings (charge_of_reply (ToMember (Booked booking.key booking.number booking.charge booking.left)))
+told_again bookings key number booking found later k n =
+    let own = found_by_own key number booking bookings found in grind (arith, found_alike booking bookings k n)
+
+told_first : (bookings : List Booking) (new : Booking) → find (is_numbered new.key new.number) bookings ≡ None
+    → TellsNew bookings (bookings ++ new ∷ []) (charge_of_reply (ToMember (Booked new.key new.number new.charge new.left)))
+told_first bookings new none later k n = grind (arith, found_alike new bookings k n, find-append (is_numbered k n) bookings (new ∷ []))
+
+told_marked : (bookings : List Booking) (key : List ℕ) (number refund : ℕ) → TellsNew bookings (map (cancelled_booking key number refund) bookings) []
+told_marked bookings key number refund later k n = grind (arith, find-map (is_numbered k n) (cancelled_booking key number refund) (λ b. refl) bookings)
+
+pub told_by_step : (club : Club) (event : Event) → TellsNew club.bookings (step club event).club.bookings (charge_of_reply (step club event).reply)
+told_by_step club (Asked words moment) =
+    answer_cases (λ (v : Verdict). TellsNew club.bookings (after_change v.change club).bookings (charge_of_reply (ToMember v.reply))) club words
+    moment (record {
+      silent = λ reply h. grind arith;
+      repeats_booking = λ key member slot number guests booking k e found same. told_again club.bookings key.name number booking found;
+      books = λ key member slot number guests facility k e b. told_first club.bookings (written club key slot number guests facility) b.new;
+      cancels_recorded = λ key member slot number booking k e found same before later name n. refl;
+      cancels = λ key member slot number booking k e c. told_marked club.bookings booking.key booking.number (refund_at booking moment);
+    })
+told_by_step club (Commanded (CancelBooking name number)) = λ later key n.
+    let told = λ (b : Booking). told_marked club.bookings b.key b.number b.charge later key n in grind (arith, told)
+told_by_step club (Commanded command) = λ later key n. grind arith
 
 -- A record of the keys and numbers of earlier entries. The record is a function. It tests whether
 -- an earlier entry has a given key and number.
@@ -49,8 +98,7 @@ same_unseen p seen new_seen entries h =
 -- The entries of a reply raise the total from `total` to `new_total`, and update the record from
 -- `seen` to `new_seen`.
 abbrev pub Moves : (List ℕ → Bool) → ℕ → ℕ → Seen → Seen → List Entry → Type 0
-Moves p total new_total seen new_seen entries =
-    (rest : List Entry) → new_total + unseen_total p new_seen rest ≡ total + unseen_total p seen (entries ++ rest)
+Moves p total new_total seen new_seen entries = (rest : List Entry) → new_total + unseen_total p new_seen rest ≡ total + unseen_total p seen (entries ++ rest)
 
 pub stays : (p : List ℕ → Bool) (total new_total : ℕ) (seen new_seen : Seen) → new_total ≡ total
     → ((key : List ℕ) (number : ℕ) → new_seen key number ≡ seen key number) → Moves p total new_total seen new_seen []
@@ -89,7 +137,7 @@ moves_again amount told p bookings key number points booking found before =
 abbrev pub MovesCharge : (List ℕ → Bool) → List Booking → List Booking → List Entry → Type 0
 MovesCharge = MovesTotal (λ (b : Booking). b.charge) (λ (b : Booking). true)
 
-charge_new : (p : List ℕ → Bool) (bookings : List Booking) (new : Booking) → find (is_numbered new.key new.number) bookings ≡ None
+pub charge_new : (p : List ℕ → Bool) (bookings : List Booking) (new : Booking) → find (is_numbered new.key new.number) bookings ≡ None
     → MovesCharge p bookings (bookings ++ new ∷ []) (record { key = new.key; number = new.number; points = new.charge } ∷ [])
 charge_new p bookings new none =
     let unseen = list_any_none (is_numbered new.key new.number) bookings (none_found (is_numbered new.key new.number) bookings none) in
@@ -106,25 +154,11 @@ charge_cancelled p bookings key number refund =
     ∙ sum-map mark (λ (b : Booking). b.charge) (filter (λ (b : Booking). p b.key) bookings))
     (λ k n. any-map mark (is_numbered k n) bookings)
 
-pub charge_moves : (p : List ℕ → Bool) (club : Club) (words : Words) (moment : ℕ)
-    → MovesCharge p club.bookings (after_change (verdict_in club words moment).change club).bookings
-    (charge_of_reply (ToMember (verdict_in club words moment).reply))
-charge_moves p club words moment =
-    answer_cases (λ (v : Verdict). MovesCharge p club.bookings (after_change v.change club).bookings (charge_of_reply (ToMember v.reply))) club words
-    moment (record {
-      silent = λ reply h. grind arith;
-      repeats_booking = λ key member slot number guests booking k e found same.
-          moves_again _ (λ (b : Booking). true) p club.bookings _ _ _ booking (found_by_own key.name number booking club.bookings found) refl;
-      books = λ key member slot number guests facility k e b. charge_new p club.bookings (written club key slot number guests facility) b.new;
-      cancels_recorded = λ key member slot number booking k e found same before rest. refl;
-      cancels = λ key member slot number booking k e c. charge_cancelled p club.bookings booking.key booking.number (refund_at booking moment);
-    })
-
 -- Only the cancelled bookings count towards the total refund.
 abbrev pub MovesRefund : (List ℕ → Bool) → List Booking → List Booking → List Entry → Type 0
 MovesRefund = MovesTotal (λ (b : Booking). b.refund) (λ (b : Booking). b.cancelled)
 
-refund_booked : (p : List ℕ → Bool) (bookings : List Booking) (new : Booking) → new.refund ≡ 0 → new.cancelled ≡ false
+pub refund_booked : (p : List ℕ → Bool) (bookings : List Booking) (new : Booking) → new.refund ≡ 0 → new.cancelled ≡ false
     → MovesRefund p bookings (bookings ++ new ∷ []) []
 refund_booked p bookings new none is_live =
     let more = sum_one_more (λ (b : Booking). b.refund) (λ (b : Booking). p b.key) bookings new in
@@ -170,20 +204,3 @@ refund_new p bookings key number refund booking unique found live none =
     let sum = refund_marked key number refund p bookings booking unique found live none in
     adds p _ _ (has_told (λ (b : Booking). b.cancelled) bookings) _ (record { key = key; number = number; points = refund }) (grind arith)
     (seen_marked key number refund bookings booking unique found live)
-
-pub refund_moves : (p : List ℕ → Bool) (club : Club) (words : Words) (moment : ℕ) → IsSound club
-    → MovesRefund p club.bookings (after_change (verdict_in club words moment).change club).bookings
-    (refund_of_reply (ToMember (verdict_in club words moment).reply))
-refund_moves p club words moment s =
-    answer_cases (λ (v : Verdict). MovesRefund p club.bookings (after_change v.change club).bookings (refund_of_reply (ToMember v.reply))) club words
-    moment (record {
-      silent = λ reply h. grind arith;
-      repeats_booking = λ key member slot number guests booking k e found same rest. refl;
-      books = λ key member slot number guests facility k e b. refund_booked p club.bookings (written club key slot number guests facility) refl refl;
-      cancels_recorded = λ key member slot number booking k e found same before.
-          moves_again _ (λ (b : Booking). b.cancelled) p club.bookings _ _ _ booking (found_by_own key.name number booking club.bookings found) before;
-      cancels = λ key member slot number booking k e c.
-          let row = at_found IsBooking (is_numbered key.name number) club.bookings booking s.rows.bookings c.found in
-          refund_new p club.bookings booking.key booking.number (refund_at booking moment) booking s.unique.bookings
-          (found_by_own key.name number booking club.bookings c.found) c.still_booked (row.kept c.still_booked);
-    })

@@ -1,17 +1,16 @@
 -- Lemmas about the points and the places of a club after a run.
-use Rattle.club_laws.proofs.Common.{command_outcome, Ok, true, Command, CancelBooking, ◌≡◌, ℕ, ◌+◌, Bool, false, List, [], ◌∷◌, ◌++◌, ap, ◌∙◌, arith, Some}
-use Rattle.club_laws.proofs.Common.{None, refl, ◌≤◌, Option, sym, ◌-◌, not, filter, sum_by, All, MatchOption, option_map, bytes_eq, filter_agree, All-head}
-use Rattle.club_laws.proofs.Common.{All-tail, All-filter, Booking, Club, IsSound, empty_club, member_named, facility_named, is_key_of, bookings_of, after}
-use Rattle.club_laws.proofs.Common.{EventReply, Event, Asked, Commanded, step, replies_of, club_after, Outcome, ToOffice, done_answer, Slot, Member, Facility}
-use Rattle.club_laws.proofs.{Common.{cost_of, taken_in, is_under, IsEvent, club_account, OwnBookings}, AnswerCases.{outcome_cases, CommandRestsOn}}
-use Rattle.club_laws.proofs.{AnswerCases.{FindsNothing, change_of}, FirstCharges.{Tells, told_by_step}, FoundRows.{found_passes, at_found, is_numbered}}
-use Rattle.club_laws.proofs.{FoundRows.{numbered, named, none_named}, MemberAccounts.{is_among, keys_of_run, credit_of, credit_of_run}, PointMoves.points_of}
-use Rattle.club_laws.proofs.PointMoves.{counts, unseen_total, Seen, MovesCharge, charge_cancelled, charge_moves, refund_new, refund_moves, total, has_told}
-use Rattle.club_laws.proofs.{PointMoves.{MovesRefund, moves_again}, SoundSteps.{sound_step, sound_run}}
-use Rattle.club_laws.proofs.SoundSteps.{nobody_in, covered}
-use Rattle.club_laws.specs.Conservation.{ConservesPoints, ConservesWithoutCorrections, IsNoCorrection, SoundClubsHavePlaces, NeverOverbooks}
-use Rattle.club_laws.specs.Points.{charge_told, refund_given, refunds_by, refunds_given, Entry, firsts, charge_of_reply, refund_of_reply, charges_of_replies}
-use Rattle.club_laws.specs.{Points.{refunds_of_replies, keys_given, debits_accepted, total_under}, Spending.{AccountsShowWhatIsUsed, SpendsWithinItsMember}}
+use Rattle.club_laws.proofs.Common.{true, CancelBooking, ◌≡◌, ℕ, ◌+◌, Bool, false, List, [], ◌∷◌, ◌++◌, ap, ◌∙◌, arith, Some, None, refl, ◌≤◌, Option, sym, ◌-◌}
+use Rattle.club_laws.proofs.Common.{not, filter, sum_by, All, MatchOption, option_map, bytes_eq, filter_agree, All-head, All-tail, All-filter, Booking, Club}
+use Rattle.club_laws.proofs.Common.{IsSound, empty_club, member_named, facility_named, is_key_of, bookings_of, EventReply, Event, Asked, Commanded, step}
+use Rattle.club_laws.proofs.Common.{replies_of, club_after, Outcome, Slot, Member, Facility, cost_of, taken_in, is_under, IsEvent, club_account, OwnBookings}
+use Rattle.club_laws.proofs.{Common.{Verdict, after_change, ToMember, refund_at}, AnswerCases.{cancel_cases, answer_cases, written}, FilteredRows.found_passes}
+use Rattle.club_laws.proofs.{FilteredRows.{at_found, is_numbered, numbered, named, none_named, found_by_own}, MemberParts.{is_among, keys_of_run, credit_of}}
+use Rattle.club_laws.proofs.{MemberParts.credit_of_run, PointMoves.{Tells, told_by_step, points_of, counts, unseen_total, Seen, MovesCharge, charge_cancelled}}
+use Rattle.club_laws.proofs.{PointMoves.{refund_new, total, has_told, MovesRefund, moves_again, charge_new, refund_booked}, SoundSteps.{sound_step, sound_run}}
+use Rattle.club_laws.{proofs.SoundSteps.{nobody_in, covered}, specs.Conservation.{ConservesPoints, ConservesWithoutCorrections, IsNoCorrection}}
+use Rattle.club_laws.specs.{Conservation.{SoundClubsHavePlaces, NeverOverbooks}, Points.{charge_told, refund_given, refunds_by, refunds_given, Entry, firsts}}
+use Rattle.club_laws.specs.Points.{charge_of_reply, refund_of_reply, charges_of_replies, refunds_of_replies, keys_given, debits_accepted, total_under}
+use Rattle.club_laws.specs.Spending.{AccountsShowWhatIsUsed, SpendsWithinItsMember}
 use Rattle.std.proofs.lemmas.List.{Filters.sum_by-filter_both, Sums.sum_by-cons}
 use Rattle.club_rows.specs.Rows.{IsBooking}
 
@@ -21,33 +20,47 @@ MovesRefunds p told club event next = MovesRefund p club.bookings next.club.book
 
 charge_step : (p : List ℕ → Bool) (club : Club) (event : Event) → MovesCharge p club.bookings (step club event).club.bookings
     (charge_of_reply (step club event).reply)
-charge_step p club (Asked words moment) = charge_moves p club words moment
+charge_step p club (Asked words moment) =
+    answer_cases (λ (v : Verdict). MovesCharge p club.bookings (after_change v.change club).bookings (charge_of_reply (ToMember v.reply))) club words
+    moment (record {
+      silent = λ reply h. grind arith;
+      repeats_booking = λ key member slot number guests booking k e found same.
+          moves_again _ (λ (b : Booking). true) p club.bookings _ _ _ booking (found_by_own key.name number booking club.bookings found) refl;
+      books = λ key member slot number guests facility k e b. charge_new p club.bookings (written club key slot number guests facility) b.new;
+      cancels_recorded = λ key member slot number booking k e found same before rest. refl;
+      cancels = λ key member slot number booking k e c. charge_cancelled p club.bookings booking.key booking.number (refund_at booking moment);
+    })
+charge_step p club (Commanded (CancelBooking key number)) =
+    cancel_cases (λ o. MovesCharge p club.bookings o.club.bookings (charge_of_reply o.reply)) club key number (λ fault rest. refl) (λ b e before rest. refl)
+    (λ row b e live. charge_cancelled p club.bookings b.key b.number b.charge)
 charge_step p club (Commanded command) =
-    outcome_cases (λ o. MovesCharge p club.bookings o.club.bookings (charge_of_reply o.reply)) club command (λ fault rest. refl) (λ n rest. refl)
-    (done command)
-  where
-    done : (c : Command) (r : CommandRestsOn club c) → MovesCharge p club.bookings (after (change_of club c r) club).bookings
-        (charge_of_reply (ToOffice (done_answer c)))
-    done (CancelBooking key number) r = charge_cancelled p club.bookings r.2.key r.2.number r.2.charge
-    done c r = λ rest. grind arith
+    let same : (step club (Commanded command)).club.bookings ≡ club.bookings = grind arith in
+    let none : charge_of_reply (step club (Commanded command)).reply ≡ [] = grind arith in rw (same, none) (λ rest. refl)
 
 refund_step : (p : List ℕ → Bool) (told : List Entry) (club : Club) (event : Event) (later : List Entry) → IsSound club → Tells told club.bookings later
     → MovesRefunds p told club event (step club event)
-refund_step p told club (Asked words moment) later s tells = refund_moves p club words moment s
-refund_step p told club (Commanded command) later s tells =
-    outcome_cases (MovesRefunds p told club (Commanded command)) club command (λ fault rest. grind arith) (kept command) (done command)
-  where
-    kept : (c : Command) → FindsNothing club c → MovesRefunds p told club (Commanded c) (command_outcome club c (Ok None))
-    kept (CancelBooking key number) n = moves_again _ (λ b. b.cancelled) p club.bookings key number (charge_told key number told) n.0 n.1 n.2
-    kept c n = absurd n
-
-    done : (c : Command) (r : CommandRestsOn club c) → MovesRefunds p told club (Commanded c) (command_outcome club c (Ok (Some (change_of club c r))))
-    done (CancelBooking key number) r =
-        let charge : charge_told key number told ≡ r.2.charge = rw r.3 at (tells key number) in
-        let row = at_found IsBooking (is_numbered key number) club.bookings r.2 s.rows.bookings r.3 in
-        let it = numbered key number r.2 (found_passes (is_numbered key number) club.bookings r.2 r.3) in
-        rw (charge, it.0, it.1) (refund_new p club.bookings key number r.2.charge r.2 s.unique.bookings r.3 r.4 (row.kept r.4))
-    done c r = λ rest. grind arith
+refund_step p told club (Asked words moment) later s tells =
+    answer_cases (λ (v : Verdict). MovesRefund p club.bookings (after_change v.change club).bookings (refund_of_reply (ToMember v.reply))) club words
+    moment (record {
+      silent = λ reply h. grind arith;
+      repeats_booking = λ key member slot number guests booking k e found same rest. refl;
+      books = λ key member slot number guests facility k e b. refund_booked p club.bookings (written club key slot number guests facility) refl refl;
+      cancels_recorded = λ key member slot number booking k e found same before.
+          moves_again _ (λ (b : Booking). b.cancelled) p club.bookings _ _ _ booking (found_by_own key.name number booking club.bookings found) before;
+      cancels = λ key member slot number booking k e c.
+          let row = at_found IsBooking (is_numbered key.name number) club.bookings booking s.rows.bookings c.found in
+          refund_new p club.bookings booking.key booking.number (refund_at booking moment) booking s.unique.bookings
+          (found_by_own key.name number booking club.bookings c.found) c.still_booked (row.kept c.still_booked);
+    })
+refund_step p told club (Commanded (CancelBooking key number)) later s tells =
+    cancel_cases (MovesRefunds p told club (Commanded (CancelBooking key number))) club key number (λ fault rest. grind arith)
+    (λ booking found before. moves_again _ (λ b. b.cancelled) p club.bookings key number (charge_told key number told) booking found before)
+    (λ row booking found live.
+    let charge : charge_told key number told ≡ booking.charge = rw found at (tells key number) in
+    let kept = at_found IsBooking (is_numbered key number) club.bookings booking s.rows.bookings found in
+    let it = numbered key number booking (found_passes (is_numbered key number) club.bookings booking found) in
+    rw (charge, it.0, it.1) (refund_new p club.bookings key number booking.charge booking s.unique.bookings found live (kept.kept live)))
+refund_step p told club (Commanded command) later s tells = λ rest. grind arith
 
 charges_of_run : (p : List ℕ → Bool) (club : Club) (events : List Event) → total (λ b. b.charge) p (club_after club events).bookings
     ≡ total (λ b. b.charge) p club.bookings + unseen_total p (has_told (λ b. true) club.bookings) (charges_of_replies (replies_of club events))
@@ -79,13 +92,8 @@ cost_and_refund : (bookings : List Booking) → All IsBooking bookings → sum_b
 cost_and_refund [] h = refl
 cost_and_refund (b ∷ bookings) h =
     let row = (All-head IsBooking b bookings h).refund in
-    omega (
-      arith,
-      cost_and_refund bookings (All-tail IsBooking b bookings h),
-      sum_by-cons (λ (x : Booking). x.charge) b bookings,
-      sum_by-cons cost_of b bookings,
-      sum_by-cons (λ (x : Booking). x.refund) b bookings,
-    )
+    let more = λ (f : Booking → ℕ). sum_by-cons f b bookings in
+    omega (arith, cost_and_refund bookings (All-tail IsBooking b bookings h), more (λ x. x.charge), more cost_of, more (λ x. x.refund))
 
 pub sound_empty : IsSound empty_club
 sound_empty = search arith
@@ -152,8 +160,7 @@ pub spent_within : OwnBookings → SpendsWithinItsMember
 spent_within own club key here =
     let bookings = bookings_of key.member club in
     let parts = sum_by-filter_both (is_under key.name) (λ (b : Booking). not (is_under key.name b)) (λ _. refl) cost_of bookings in
-    let spent = (own club key here).spent in
-    omega arith
+    let spent = (own club key here).spent in omega arith
 
 pub used_of_account : AccountsShowWhatIsUsed
 used_of_account club name account sound e = go (member_named name club) refl e

@@ -1,19 +1,18 @@
 -- Lemmas for the proof that a member's part of the club determines the replies to the member's
 -- requests.
-use Rattle.club_laws.proofs.{AnswerCases.{known_rows, whole_basis, is_own_key, answer_cases, written, change_of, command_cases}, Common.{subst, ◌≡◌, ℕ, ◌+◌}}
-use Rattle.club_laws.proofs.Common.{Bool, List, Option, Some, None, option_map, refl, sym, ap, true, false, cond, [], ◌∷◌, Result, ◌∙◌, arith, ◌++◌, map, Slot}
-use Rattle.club_laws.proofs.Common.{Facility, Booking, persons_of, refund_at, is_in, request_slot, Words, Club, key_named, member_named, keys_of, is_key_of}
-use Rattle.club_laws.proofs.Common.{bookings_of, Basis, SlotState, basis_of, state_of, key_of, bytes_eq-Decides, Change, InsertBooking, MarkCancelled, Verdict}
-use Rattle.club_laws.proofs.Common.{Command, OfficeFault, after, answer_by_basis, verdict_in, office_verdict, Event, Asked, Commanded, step, after_change}
-use Rattle.club_laws.proofs.{Common.{command_outcome, EventReply, ToMember, replies_of, club_after, map-map}, FailedEvents.run_of_answered}
-use Rattle.club_laws.proofs.{FilteredRows.{filter_twice, sum_in_parts}, FoundRows.{found_passes, find_filtered, bytes_same, same_bytes_of, numbered}}
-use Rattle.club_laws.proofs.{FoundRows.is_numbered, MemberParts.{is_named, is_owned, has_name, is_under_one, IsFresh, part_changed, owner, IsKeyed, keyed_step}}
-use Rattle.club_laws.proofs.MemberParts.{keyed_from_sound}
-use Rattle.club_laws.specs.{Failed.{present_reply, answered_events}, Frame.LeavesThePart, RunsWithFailures.SoloLawWithFailures, SoloLaw.SoloLaw}
-use Rattle.club_laws.specs.SoloLaw.{EndsWithThePart, is_ask, replies_to, solo_part}
+use Rattle.club_laws.proofs.Common.{Ok, subst, ◌≡◌, ℕ, ◌+◌, Bool, List, Option, Some, None, option_map, refl, sym, ap, true, false, cond, [], ◌∷◌, Result, ◌∙◌}
+use Rattle.club_laws.proofs.Common.{arith, ◌++◌, map, Slot, Facility, Booking, persons_of, refund_at, is_in, request_slot, Words, Club, key_named, member_named}
+use Rattle.club_laws.proofs.Common.{keys_of, is_key_of, bookings_of, Basis, SlotState, basis_of, state_of, key_of, bytes_eq-Decides, Change, InsertBooking}
+use Rattle.club_laws.proofs.Common.{MarkCancelled, Verdict, Command, OfficeFault, after, answer_by_basis, verdict_in, office_verdict, Event, Asked, Commanded}
+use Rattle.club_laws.proofs.{Common.{step, after_change, command_outcome, EventReply, ToMember, replies_of, club_after, map-map}, AnswerCases.known_rows}
+use Rattle.club_laws.proofs.{AnswerCases.{whole_basis, is_own_key, answer_cases, written}, FailedEvents.run_of_answered, FilteredRows.filter_twice}
+use Rattle.club_laws.proofs.FilteredRows.{sum_in_parts, found_passes, find_filtered, bytes_same, same_bytes_of, numbered, is_numbered}
+use Rattle.club_laws.proofs.MemberParts.{fresh_by_command, is_named, is_owned, has_name, is_under_one, part_changed, owner, IsKeyed, keyed_step}
+use Rattle.club_laws.{proofs.MemberParts.keyed_from_sound, specs.{Failed.{present_reply, answered_events}, Frame.LeavesThePart}}
+use Rattle.club_laws.specs.{RunsWithFailures.SoloLawWithFailures, SoloLaw.{SoloLaw, EndsWithThePart, is_ask, replies_to, solo_part}}
 use Rattle.std.proofs.Common.{bytes_eq}
-use Rattle.club_core.specs.Solo.{outside, part_of, with_others, OwnEvent, OwnAsk, OwnChange, own_ask, own_change, own_part, solo_verdict, own_events}
-use Rattle.club_core.specs.{Solo.solo_replies, declared.slot_use.SlotUse.SlotUse}
+use Rattle.club_core.specs.Solo.{outside, part_of, with_others, OwnEvent, OwnAsk, OwnChange, own_ask, own_change, own_part}
+use Rattle.club_core.specs.{Solo.{solo_verdict, own_events, solo_replies}, declared.slot_use.SlotUse.SlotUse}
 
 abbrev state_with : Option Facility → ℕ → Bool → SlotState
 state_with facility taken closed = record { facility = facility; held = record { taken = taken; closed = closed } }
@@ -103,20 +102,15 @@ module _ (name : List ℕ) (club : Club) (keyed : IsKeyed club) where
   ask_follows words moment None e = grind arith
   ask_follows words moment (Some basis) e = asked_follows words moment basis (bytes_eq basis.member.name name) e refl
 
-  command_follows : (command : Command) → Follows (part_of name club) (own_change name club (office_verdict club command))
-      (command_outcome club command (office_verdict club command)).reply (part_of name (command_outcome club command (office_verdict club command)).club)
-  command_follows command =
-      command_cases (λ (v : Result (Option Change) OfficeFault). Follows (part_of name club) (own_change name club v) (command_outcome club command v).reply
-      (part_of name (command_outcome club command v).club)) club (λ fault. refl) command (λ s. refl)
-      (λ r.
-      let fresh : IsFresh club (change_of club command r) = grind arith in
-      let changed = part_changed name club (change_of club command r) keyed.known fresh in
-      grind arith)
+  command_follows : (command : Command) (v : Result (Option Change) OfficeFault) → office_verdict club command ≡ v → Follows (part_of name club)
+      (own_change name club v) (command_outcome club command v).reply (part_of name (command_outcome club command v).club)
+  command_follows command (Ok (Some change)) e = let changed = part_changed name club change keyed.known (fresh_by_command club command change e) in grind arith
+  command_follows command v e = refl
 
 pub follows : (name : List ℕ) (club : Club) (event : Event) → IsKeyed club
     → Follows (part_of name club) (own_part name club event) (step club event).reply (part_of name (step club event).club)
 follows name club (Asked words moment) keyed = ask_follows name club keyed words moment (basis_of club words) refl
-follows name club (Commanded command) keyed = command_follows name club keyed command
+follows name club (Commanded command) keyed = command_follows name club keyed command (office_verdict club command) refl
 
 pub leaves_the_part : LeavesThePart
 leaves_the_part name club event sound none = rw none at (follows name club event (keyed_from_sound club sound))

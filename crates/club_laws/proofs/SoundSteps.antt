@@ -1,23 +1,55 @@
 -- Lemmas for the proofs that suitable changes and the steps of a run keep a club sound.
-use Rattle.club_laws.proofs.Common.{MarkCancelled, ReplaceNumbers, facility_with_numbers, AddCredit, TakeCredit, debited_member, member_named, ◌≡◌, ◌≢◌, ℕ, ◌≤◌}
-use Rattle.club_laws.proofs.Common.{Bool, false, List, [], ◌∷◌, ◌++◌, get_or, map, ap, arith, All, subst, Option, Some, Contains, sum_by, bytes_eq, All-push}
-use Rattle.club_laws.proofs.Common.{All-map, map-map, Slot, Member, Facility, Key, Booking, persons_of, same_slot, cost_of, is_in, taken_in, credited_member}
-use Rattle.club_laws.proofs.Common.{revoked_key, rotated_key, after, cancelled_booking, Club, keys_of, is_key_of, bookings_of, IsSound, HasReferences}
-use Rattle.club_laws.proofs.Common.{bytes_eq-Decides, MarkOpen, ReplaceQuota, member_with_quota, All-filter, InsertMember, InsertFacility, InsertKey}
-use Rattle.club_laws.proofs.Common.{MarkRevoked, ReplaceRoot, InsertBooking, sym, key_named, All-weaker, CancelBooking, SetFacility, Debit, Ok, Result}
-use Rattle.club_laws.proofs.Common.{All-head, All-tail, refund_at, Command, AddMember, Credit, AddFacility, AddKey, RevokeKey, RotateKey, OpenSlot, SetQuota}
-use Rattle.club_laws.proofs.Common.{IsCommand, IsRequest, IsEvent, Verdict, Words, verdict_in, after_change, Asked, Commanded, step, Change, OfficeFault}
-use Rattle.club_laws.proofs.{Common.office_verdict, FilteredRows.{filter_none, sum_one_more, sum_no_more}, FoundRows.{AreApart, AllPairs-map, fresh_differs}}
-use Rattle.club_laws.proofs.FoundRows.{still_there, named_there, only_named, none_passes, same_slots, at_found, slots_same, only_numbered, named, none_named}
-use Rattle.club_laws.proofs.{FoundRows.{none_found, is_numbered, found_by_own, found_passes, numbered}, MemberParts.{edited_member, edited, bookings_of-added}}
-use Rattle.club_laws.proofs.{MemberParts.{bookings_of-edited, owner, HasKnownKeys}, AnswerCases.{outcome_cases, CommandRestsOn, change_of, Knows, Books}}
-use Rattle.club_laws.{proofs.{AnswerCases.{written, answer_cases, command_cases}, MostTaken.at_most}, specs.SoundRuns.{SuitingChangesKeepSound, ChangesFit}}
-use Rattle.club_laws.specs.SoundRuns.{RunsKeepSound, StepsKeepSound, Suits, SuitsBooking}
-use Rattle.std.proofs.lemmas.{Bool.Decides.nat_tests, List.{Kept.AllPairs-filter, Quantifiers.all_pairs_push}}
+use Rattle.club_laws.proofs.Common.{All-weaker, ◌≡◌, ℕ, ◌≤◌, Bool, false, List, [], ◌∷◌, All, All-nil, All-cons, All-contains, filter, find, sum_by, ap, arith}
+use Rattle.club_laws.proofs.Common.{Option, Some, None, refl, ◌∙◌, Slot, Booking, same_slot, persons_of, is_in, taken_in, subst, command_outcome, MarkCancelled}
+use Rattle.club_laws.proofs.Common.{ReplaceNumbers, facility_with_numbers, AddCredit, TakeCredit, debited_member, member_named, ◌≢◌, ◌++◌, get_or, map}
+use Rattle.club_laws.proofs.Common.{Contains, bytes_eq, All-push, All-map, map-map, Member, Facility, Key, cost_of, credited_member, revoked_key, rotated_key}
+use Rattle.club_laws.proofs.Common.{after, cancelled_booking, Club, keys_of, is_key_of, bookings_of, IsSound, HasReferences, bytes_eq-Decides, MarkOpen}
+use Rattle.club_laws.proofs.Common.{ReplaceQuota, member_with_quota, All-filter, InsertMember, InsertFacility, InsertKey, MarkRevoked, ReplaceRoot}
+use Rattle.club_laws.proofs.Common.{InsertBooking, sym, key_named, CancelBooking, SetFacility, Debit, Ok, Result, All-head, All-tail, refund_at, Command}
+use Rattle.club_laws.proofs.Common.{AddMember, Credit, AddFacility, AddKey, RevokeKey, RotateKey, OpenSlot, SetQuota, IsCommand, IsRequest, IsEvent, Verdict}
+use Rattle.club_laws.proofs.{Common.{Words, verdict_in, after_change, Asked, Commanded, step, Change, OfficeFault, office_verdict}, AnswerCases.{Knows, Books}}
+use Rattle.club_laws.proofs.{AnswerCases.{written, answer_cases}, FilteredRows.{filter_none, found_passes, none_found, found_is_there, find_filtered}}
+use Rattle.club_laws.proofs.FilteredRows.{slots_same, same_bytes_of, sum_one_more, sum_no_more, AreApart, AllPairs-map, fresh_differs, still_there, named_there}
+use Rattle.club_laws.proofs.FilteredRows.{only_named, none_passes, same_slots, at_found, only_numbered, named, none_named, is_numbered, found_by_own, numbered}
+use Rattle.club_laws.proofs.MemberParts.{edited_member, edited, bookings_of-added, bookings_of-edited, owner, HasKnownKeys, with_edited}
+use Rattle.club_laws.specs.SoundRuns.{SuitingChangesKeepSound, ChangesFit, RunsKeepSound, StepsKeepSound, Suits, SuitsBooking}
+use Rattle.std.{proofs.lemmas.{Bool.Decides.nat_tests, List.{Kept.AllPairs-filter, Quantifiers.all_pairs_push}}, specs.{List.fold, Prelude.max}}
+use Rattle.club_core.specs.{Store.IsTrueOf, Sums.{is_at, most_taken_in}, declared.{change.Change.TheVariants.MarkClosed, command.Command.TheVariants.CloseSlot}}
 use Rattle.club_rows.specs.{Rows.{IsMember, IsFacility, IsKey, IsBooking}, declared.key.OlderRoot.OlderRoot}
-use Rattle.club_core.specs.Store.{IsTrueOf}
 use Rattle.club_core.specs.declared.request.Request.TheVariants as asked
-use Rattle.club_core.specs.declared.{change.Change.TheVariants.MarkClosed, command.Command.TheVariants.CloseSlot}
+
+-- The maximum of `first` and of the values of `f` for all elements.
+abbrev most_of : {X : Type 0} → (X → ℕ) → ℕ → List X → ℕ
+most_of f first xs = fold (λ most x. max most (f x)) first xs
+
+first_of_most : {X : Type 0} (f : X → ℕ) (first : ℕ) (xs : List X) → first ≤ most_of f first xs
+first_of_most f first [] = omega arith
+first_of_most f first (x ∷ xs) = omega (arith, first_of_most f (max first (f x)) xs)
+
+each_of_most : {X : Type 0} (f : X → ℕ) (first : ℕ) (xs : List X) → All (λ x. f x ≤ most_of f first xs) xs
+each_of_most f first [] = All-nil (λ x. f x ≤ first)
+each_of_most f first (x ∷ xs) =
+    let more = max first (f x) in
+    All-cons (λ y. f y ≤ most_of f more xs) x xs (omega (arith, first_of_most f more xs)) (each_of_most f more xs)
+
+pub at_most : (name : List ℕ) (bookings : List Booking) (slot : Slot) → slot.facility ≡ name → taken_in slot bookings ≤ most_taken_in name bookings
+at_most name bookings slot of = go (find at bookings) refl
+  where
+    at : Booking → Bool
+    at booking = same_slot booking.slot slot
+
+    go : (found : Option Booking) → find at bookings ≡ found → taken_in slot bookings ≤ most_taken_in name bookings
+    go None e =
+        let nobody = filter_none (is_in slot) bookings (All-weaker (λ (b : Booking). at b ≡ false) (λ (b : Booking). is_in slot b ≡ false)
+        (λ b other. grind arith) bookings (none_found at bookings e)) in
+        let none : taken_in slot bookings ≡ 0 = ap (λ (kept : List Booking). sum_by persons_of kept) nobody in omega arith
+    go (Some booking) e =
+        let same = slots_same booking.slot slot (found_passes at bookings booking e) in
+        let here = same_bytes_of booking.slot.facility name (ap (λ (s : Slot). s.facility) same ∙ of) in
+        let there = found_is_there at (filter (is_at name) bookings) booking (find_filtered at (is_at name) bookings booking e here) in
+        let most = All-contains (λ (b : Booking). taken_in b.slot bookings ≤ most_taken_in name bookings) (filter (is_at name) bookings) booking
+        (each_of_most (λ (b : Booking). taken_in b.slot bookings) 0 (filter (is_at name) bookings)) there in
+        subst (λ (s : Slot). taken_in s bookings ≤ most_taken_in name bookings) same most
 
 -- The parts of `IsSound` that several changes preserve.
 abbrev HasBalances : Club → Type 0
@@ -42,7 +74,7 @@ nobody_in club slot refs fresh =
     let differs = fresh_differs (λ (f : Facility). f.name) slot.facility _ club.facilities fresh (refs.facilities k d short) in grind arith))
 
 sound_edited : (root : Key → List ℕ) (older : Key → Option OlderRoot) (is_revoked : Key → Bool) (club : Club) → IsSound club
-    → All (λ (key : Key). IsKey (edited root older is_revoked key)) club.keys → IsSound (record club { keys = map (edited root older is_revoked) club.keys })
+    → All (λ (key : Key). IsKey (edited root older is_revoked key)) club.keys → IsSound (with_edited root older is_revoked club)
 sound_edited root older is_revoked club s limits =
     let edit = edited root older is_revoked in
     let new : Club = record club { keys = map edit club.keys } in
@@ -56,50 +88,45 @@ sound_members : (credited quota : Member → ℕ) (club : Club) → IsSound club
 sound_members credited quota club s h =
     let edit = edited_member credited quota in
     let new : Club = record club { members = map edit club.members } in
-    let names = AllPairs-map edit (λ (a : Member) (b : Member). a.name ≢ b.name) club.members s.unique.members in
     let owned : HasOwners new = rw (map-map (λ (m : Member). m.name) edit club.members) s.references.keys in
     let limits = All-map IsMember edit club.members (λ k d short. (h k d short).0) in
     let balances = All-map (λ (m : Member). sum_by cost_of (bookings_of m.name club) ≤ m.credited) edit club.members (λ k d short. (h k d short).1) in
-    assumption
+    search (AllPairs-map edit (λ (a : Member) (b : Member). a.name ≢ b.name), s.unique.members)
 
 pub sound_after : SuitingChangesKeepSound
 sound_after club (InsertMember member) s h =
     let no_keys : keys_of member.name club ≡ [] =
-    filter_none (λ (key : Key). bytes_eq key.member member.name) club.keys
-    (λ k d short. fresh_differs (λ (m : Member). m.name) member.name _ club.members h.1 (s.references.keys k d short)) in
+    filter_none _ club.keys (λ k d short. fresh_differs (λ (m : Member). m.name) member.name _ club.members h.1 (s.references.keys k d short)) in
     let none : bookings_of member.name club ≡ [] =
-    filter_none (λ (booking : Booking). is_key_of member.name club booking.key) club.bookings (λ k d short. rw no_keys) in
+    filter_none _ club.bookings (λ k d short. rw no_keys) in
     let cost : sum_by cost_of (bookings_of member.name club) ≤ member.credited = rw none (omega arith) in
     search (All-push, still_there, s.references.keys, all_pairs_push (λ (a : Member) (b : Member). a.name ≢ b.name), s.unique.members, h.1)
 sound_after club (AddCredit name points) s h =
+    let is = only_named (λ (m : Member). m.name) name club.members h.0 s.unique.members h.1 in
     sound_members (λ m. (credited_member name points m).credited) (λ m. m.quota) club s
-    (λ k d short.
-    let is = only_named (λ (m : Member). m.name) name club.members h.0 s.unique.members h.1 k d short in
-    grind (arith, s.rows.members k d short, s.balances k d short))
+    (λ k d short. grind (arith, is k d short, s.rows.members k d short, s.balances k d short))
 sound_after club (TakeCredit name points) s h =
+    let is = only_named (λ (m : Member). m.name) name club.members h.0 s.unique.members h.1 in
     sound_members (λ m. (debited_member name points m).credited) (λ m. m.quota) club s
-    (λ k d short.
-    let is = only_named (λ (m : Member). m.name) name club.members h.0 s.unique.members h.1 k d short in
-    grind (arith, s.rows.members k d short, s.balances k d short))
+    (λ k d short. grind (arith, is k d short, s.rows.members k d short, s.balances k d short))
 sound_after club (ReplaceQuota name quota) s h =
     sound_members (λ m. m.credited) (λ m. (member_with_quota name quota m).quota) club s
     (λ k d short. grind (arith, s.rows.members k d short, s.balances k d short))
 sound_after club (InsertFacility facility) s h =
-    let names = all_pairs_push (λ (a : Facility) (b : Facility). a.name ≢ b.name) club.facilities facility s.unique.facilities h.1 in
     let places = All-push (λ (other : Facility). (slot : Slot) → slot.facility ≡ other.name → taken_in slot club.bookings ≤ other.places)
     club.facilities facility s.places (λ slot at. let none = nobody_in club slot s.references (rw (← at) at h.1) in omega arith) in
-    search (All-push, still_there, s.references.facilities, s.references.closed)
+    let names = all_pairs_push (λ (a : Facility) (b : Facility). a.name ≢ b.name) in
+    search (All-push, still_there, s.references.facilities, s.references.closed, names, s.unique.facilities, h.1)
 sound_after club (ReplaceNumbers name places price opens shuts) s h =
     let edit = facility_with_numbers name places price opens shuts in
-    let limits = All-map IsFacility edit club.facilities (λ k d short. let row = s.rows.facilities k d short in grind (arith, nat_tests)) in
+    let limits = All-map IsFacility edit club.facilities (λ k d short. grind (arith, nat_tests, s.rows.facilities k d short)) in
     let places = All-map (λ (f : Facility). (slot : Slot) → slot.facility ≡ f.name → taken_in slot club.bookings ≤ f.places) edit club.facilities
     (λ k d short slot at.
     grind (arith, h.1 slot, s.places k d short slot at, bytes_eq-Decides (get_or club.facilities k d).name name)) in
-    let names = AllPairs-map edit (λ (a : Facility) (b : Facility). a.name ≢ b.name) club.facilities s.unique.facilities in
     let still : (n : List ℕ) → Contains (map (λ (f : Facility). f.name) club.facilities) n
     → Contains (map (λ (f : Facility). f.name) (map edit club.facilities)) n =
     λ n there. rw (map-map (λ (f : Facility). f.name) edit club.facilities) there in
-    search (still, s.references.facilities, s.references.closed)
+    search (still, s.references.facilities, s.references.closed, AllPairs-map edit (λ (a : Facility) (b : Facility). a.name ≢ b.name), s.unique.facilities)
 sound_after club (InsertKey key) s h =
     let new : Club = record club { keys = club.keys ++ key ∷ [] } in
     let balances : HasBalances new =
@@ -181,9 +208,30 @@ suits_booking club s words key member k slot number guests facility r b =
       placed = grind (arith, nat_tests, sum_one_more persons_of (is_in slot) club.bookings (written club key slot number guests facility), same_slots slot);
     }
 
-sound_answer : (club : Club) (words : Words) (moment : ℕ) → IsSound club → IsRequest words.request
-    → IsSound (after_change (verdict_in club words moment).change club)
-sound_answer club words moment s r =
+-- If the decision is a change, then the change suits the club and matches the club's rows.
+abbrev FitsIfAny : Club → Result (Option Change) OfficeFault → Type 0
+FitsIfAny club (Ok (Some change)) = Suits change club × IsTrueOf change club
+FitsIfAny club verdict = Unit {0}
+
+suits_command : (club : Club) → IsSound club → (c : Command) → IsCommand c → FitsIfAny club (office_verdict club c)
+suits_command club s (AddMember name quota) c = let new = none_named (λ (m : Member). m.name) name club.members in grind (arith, nat_tests, new)
+suits_command club s (Credit name points) c = grind (arith, nat_tests)
+suits_command club s (Debit name points) c = grind (arith, nat_tests, covered)
+suits_command club s (SetQuota name quota) c = grind (arith, nat_tests)
+suits_command club s (AddFacility name kind places price opens shuts) c =
+    let new = none_named (λ (f : Facility). f.name) name club.facilities in grind (arith, nat_tests, new)
+suits_command club s (SetFacility name places price opens shuts) c = let most = at_most name club.bookings in grind (arith, nat_tests, most)
+suits_command club s (AddKey name member root) c =
+    let new = none_named (λ (k : Key). k.name) name club.keys in
+    let there = named_there (λ (m : Member). m.name) member club.members in grind (arith, new, there)
+suits_command club s (RevokeKey name) c = grind arith
+suits_command club s (RotateKey name root until) c = grind arith
+suits_command club s (CancelBooking key number) c = grind (arith, numbered, found_passes, found_by_own)
+suits_command club s (CloseSlot slot) c = let there = named_there (λ (f : Facility). f.name) slot.facility club.facilities in grind (arith, there)
+suits_command club s (OpenSlot slot) c = grind arith
+
+pub sound_step : StepsKeepSound
+sound_step club (Asked words moment) s r =
     answer_cases (λ (v : Verdict). IsSound (after_change v.change club)) club words moment (record {
       silent = λ reply h. s;
       repeats_booking = λ key member slot number guests booking k e found same. s;
@@ -195,33 +243,11 @@ sound_answer club words moment s r =
           sound_after club (MarkCancelled booking key.member (refund_at booking moment)) s
           (found_by_own key.name number booking club.bookings c.found, grind arith);
     })
-
-suits_command : (club : Club) → IsSound club → (c : Command) → IsCommand c → (r : CommandRestsOn club c) → Suits (change_of club c r) club
-suits_command club s (AddMember name quota) c r =
-    (record { name = c; credited = omega arith; quota = r.0 }, none_named (λ (m : Member). m.name) name club.members r.1)
-suits_command club s (Credit name points) c r = r
-suits_command club s (Debit name points) c r = grind (arith, covered)
-suits_command club s (SetQuota name quota) c r = r.0
-suits_command club s (AddFacility name kind places price opens shuts) c r =
-    (grind (arith, nat_tests), none_named (λ (f : Facility). f.name) name club.facilities r.1)
-suits_command club s (SetFacility name places price opens shuts) c r =
-    (r.0, λ slot at. let most = at_most name club.bookings slot at in omega arith)
-suits_command club s (AddKey name member root) c r =
-    let fresh = none_named (λ (k : Key). k.name) name club.keys r.2 in
-    (record { name = c.0; member = c.1; root = c.2; older = tt }, fresh, named_there (λ (m : Member). m.name) member club.members r.0 r.1)
-suits_command club s (RotateKey name root until) c r = (c.1, c.2)
-suits_command club s (CancelBooking key number) c r = (found_by_own key number r.2 club.bookings r.3, omega arith)
-suits_command club s (CloseSlot slot) c r = (c, r.2, named_there (λ (f : Facility). f.name) slot.facility club.facilities r.0 r.1)
-suits_command club s (RevokeKey name) c r = tt
-suits_command club s (OpenSlot slot) c r = tt
-
-pub sound_command : (club : Club) → IsSound club → (c : Command) → IsCommand c → (r : CommandRestsOn club c) → IsSound (after (change_of club c r) club)
-sound_command club s c e r = sound_after club (change_of club c r) s (suits_command club s c e r)
-
-pub sound_step : StepsKeepSound
-sound_step club (Asked words moment) s e = sound_answer club words moment s e
-sound_step club (Commanded command) s e =
-    outcome_cases (λ o. IsSound o.club) club command (λ fault. s) (λ _. s) (sound_command club s command e)
+sound_step club (Commanded command) s h = go (office_verdict club command) (suits_command club s command h)
+  where
+    go : (v : Result (Option Change) OfficeFault) → FitsIfAny club v → IsSound (command_outcome club command v).club
+    go (Ok (Some change)) fits = sound_after club change s fits.0
+    go v fits = s
 
 pub sound_run : RunsKeepSound
 sound_run club [] s h = s
@@ -233,22 +259,12 @@ true_answer club words moment =
     answer_cases (λ (v : Verdict). (change : Change) → v.change ≡ Some change → IsTrueOf change club) club words moment
     (grind (arith, numbered, found_passes, found_by_own))
 
-true_command : (club : Club) (command : Command) (change : Change) → office_verdict club command ≡ Ok (Some change) → IsTrueOf change club
-true_command club command =
-    command_cases (λ (v : Result (Option Change) OfficeFault). (change : Change) → v ≡ Ok (Some change) → IsTrueOf change club) club
-    (λ fault change e. absurd (cc)) command (λ s change e. absurd (cc))
-    (λ r change e. let is : change_of club command r ≡ change = cc in rw (← is) (carries command r))
-  where
-    carries : (c : Command) (r : CommandRestsOn club c) → IsTrueOf (change_of club c r) club
-    carries (CancelBooking key number) r = grind (arith, numbered, found_passes, found_by_own)
-    carries c r = grind arith
-
 pub fits_event : ChangesFit
 fits_event club (Asked words moment) change s e is = record {
   carries = true_answer club words moment change is;
   sound = rw is at (sound_step club (Asked words moment) s e);
 }
 fits_event club (Commanded command) change s e is = record {
-  carries = true_command club command change is;
+  carries = (rw is at (suits_command club s command e)).1;
   sound = rw is at (sound_step club (Commanded command) s e);
 }

@@ -2,8 +2,8 @@
 -- member, but no booking whose slot has begun.
 use Rattle.std.specs.Prelude.{true, [], ◌∷◌, Some, Ok, codes}
 use Rattle.club_core.specs.Examples.{RunsAs, root, slot_at, noon, late, ask, served_booking, account}
-use Rattle.club_core.specs.{Run.{Event, Asked, Commanded, ToMember, ToOffice}, declared.command.Command.TheVariants.AddKey}
-use Rattle.club_core.specs.declared.{command.OfficeAnswer.TheVariants.NewKey, reply.Reply.TheVariants.{Booked, Cancelled}, request.Request.Request}
+use Rattle.club_core.specs.{Run.{Event, Asked, Commanded, ToMember, ToOffice}, declared.command.{Command.TheVariants.AddKey, OfficeAnswer.TheVariants.NewKey}}
+use Rattle.club_core.specs.declared.{reply.Reply.TheVariants.{Booked, Cancelled}, request.Request.Request}
 use Rattle.club_core.specs.declared.request.Request.TheVariants as asked
 
 -- A request under amy's second key, at noon.

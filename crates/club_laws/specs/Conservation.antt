@@ -1,11 +1,10 @@
 -- Laws about points and places. Points are neither created nor lost, and no slot is overbooked.
 use Rattle.std.specs.Prelude.{◌≡◌, ℕ, ◌+◌, ◌≤◌, List, All, sum_by, Some, MatchOption}
-use Rattle.club_values.specs.declared.slot.Slot.{Slot}
-use Rattle.club_rows.specs.declared.{facility.Facility.Facility, member.Member.Member}
-use Rattle.club_core.specs.{Club.{Club, empty_club, member_named, facility_named, bookings_of, IsSound}, Events.IsEvent}
-use Rattle.club_core.specs.{Run.{Event, Commanded, replies_of, club_after, EventReply}, Sums.{cost_of, balance_of, taken_in}}
-use Rattle.club_core.specs.declared.command.Command.TheVariants.{Debit, CancelBooking}
+use Rattle.club_core.specs.{Club.{Club, empty_club, member_named, facility_named, bookings_of, IsSound}, Events.IsEvent, Run.{Event, Commanded, replies_of}}
+use Rattle.club_core.specs.{Run.{club_after, EventReply}, Sums.{cost_of, balance_of, taken_in}, declared.command.Command.TheVariants.{Debit, CancelBooking}}
 use Rattle.club_laws.specs.Points.{keys_given, credits_accepted, debits_accepted, charges_of_replies, refunds_given, refunds_of_replies, total_under}
+use Rattle.club_rows.specs.declared.{facility.Facility.Facility, member.Member.Member}
+use Rattle.club_values.specs.declared.slot.Slot.{Slot}
 
 -- The member's balance plus debits plus charges equals the member's credits plus refunds. For each
 -- booking, only the first charge and the first refund count. If the office is the first to cancel a

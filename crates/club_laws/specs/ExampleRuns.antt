@@ -1,12 +1,11 @@
 -- Example runs for the definitions of points and repeats.
-use Rattle.club_core.specs.{Acceptance.IsAcceptedIn, Club.empty_club}
-use Rattle.club_core.specs.{Examples.{served_cancellation, served_booking, opening, opened_club, slot_at, noon, late, ask}, Pass.Words}
-use Rattle.club_core.specs.{Run.{ToOffice, Event, Commanded, replies_of, club_after, EventReply}, declared.command.Command.TheVariants.{Debit, CancelBooking}}
-use Rattle.club_core.specs.declared.{command.OfficeAnswer.TheVariants.Done, reply.Reply.TheVariants.Booked}
 use Rattle.std.specs.Prelude.{◌≡◌, ℕ, true, List, [], ◌∷◌, ◌++◌, Some, Ok, codes}
 use Rattle.pass_caveats.specs.declared.caveat.Caveat.TheVariants.{Spend}
-use Rattle.club_core.specs.declared.request.Request.TheVariants as asked
+use Rattle.club_core.specs.{Acceptance.IsAcceptedIn, Club.empty_club, Examples.{served_cancellation, served_booking, opening, opened_club, slot_at, noon, late}}
+use Rattle.club_core.specs.{Examples.ask, Pass.Words, Run.{ToOffice, Event, Commanded, replies_of, club_after, EventReply}}
+use Rattle.club_core.specs.declared.{command.{Command.TheVariants.{Debit, CancelBooking}, OfficeAnswer.TheVariants.Done}, reply.Reply.TheVariants.Booked}
 use Rattle.club_laws.specs.{Points.{keys_given, credits_accepted, debits_accepted, charges_of_replies, refunds_given, total_under}, Repeats.WasServed}
+use Rattle.club_core.specs.declared.request.Request.TheVariants as asked
 
 -- The moment twelve hours before the slot at 18:00 begins.
 abbrev pub at_six : ℕ

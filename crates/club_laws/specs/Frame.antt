@@ -1,9 +1,8 @@
 -- Laws about the effect of changes and events on a member's part of the club.
 use Rattle.std.specs.Prelude.{◌≡◌, ℕ, ◌+◌, Bool, List, [], if◌then◌else◌, Some}
-use Rattle.club_values.specs.declared.slot.Slot.{Slot}
-use Rattle.club_core.specs.{After.after, Club.{Club, IsSound, is_key_of}, Run.{Event, step}, Solo.{outside, own_part, part_of}, Sums.taken_in}
-use Rattle.club_core.specs.After.{is_own}
+use Rattle.club_core.specs.{After.{after, is_own}, Club.{Club, IsSound, is_key_of}, Run.{Event, step}, Solo.{outside, own_part, part_of}, Sums.taken_in}
 use Rattle.club_core.specs.declared.change.Change.{Change, TheVariants.InsertBooking}
+use Rattle.club_values.specs.declared.slot.Slot.{Slot}
 
 -- Whether a change affects the member's part of the club.
 abbrev pub is_of_part : List ℕ → Club → Change → Bool

@@ -2,10 +2,10 @@
 -- part of the club, the solo machine sees only the requested slot. The machine sees how many
 -- persons other members have in the slot, and whether the slot is closed.
 use Rattle.std.specs.Prelude.{◌≡◌, ℕ, List, Option, Some, None, codes}
-use Rattle.club_values.specs.declared.slot.Slot.{Slot}
-use Rattle.club_core.specs.{Basis.{Basis, basis_of}, Club.{Club, empty_club, is_closed}, Pass.Words, Request.request_slot, Run.Asked}
-use Rattle.club_core.specs.{Solo.{bookings_of_others, own_part, own_events}, Sums.taken_in}
+use Rattle.club_core.specs.{Basis.{Basis, basis_of}, Club.{Club, empty_club, is_closed}, Pass.Words, Request.request_slot, Run.Asked, Solo.bookings_of_others}
+use Rattle.club_core.specs.{Solo.{own_part, own_events}, Sums.taken_in}
 use Rattle.club_laws.specs.SoloExamples.{amy_alone, amy_among_others}
+use Rattle.club_values.specs.declared.slot.Slot.{Slot}
 
 -- The members other than `name` have the same number of persons in the slot in both clubs. The slot
 -- is closed in both clubs or in neither club.

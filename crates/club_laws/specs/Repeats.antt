@@ -1,11 +1,10 @@
 -- Laws about repeated requests. An accepted repeat of a served booking or cancellation changes
 -- nothing.
-use Rattle.club_rows.specs.declared.booking.Booking.{Booking}
-use Rattle.club_core.specs.{Acceptance.IsAcceptedIn, Basis.key_of, Club.Club, Pass.Words}
-use Rattle.club_core.specs.{Run.{Commanded, ToOffice, Event, Asked, step, replies_of, club_after, EventReply, ToMember}, Sums.booking_under}
-use Rattle.club_core.specs.declared.{command.{Command.TheVariants.CancelBooking, OfficeAnswer.TheVariants.Done}, reply.Reply.Reply}
-use Rattle.club_core.specs.declared.reply.Reply.TheVariants.{Booked, Cancelled}
 use Rattle.std.specs.Prelude.{Some, if◌then◌else◌, ◌≡◌, ℕ, List, ◌∷◌, ◌++◌}
+use Rattle.club_rows.specs.declared.booking.Booking.{Booking}
+use Rattle.club_core.specs.{Acceptance.IsAcceptedIn, Basis.key_of, Club.Club, Pass.Words, Run.{Commanded, ToOffice, Event, Asked, step, replies_of, club_after}}
+use Rattle.club_core.specs.{Run.{EventReply, ToMember}, Sums.booking_under, declared.command.{Command.TheVariants.CancelBooking, OfficeAnswer.TheVariants.Done}}
+use Rattle.club_core.specs.declared.reply.Reply.{Reply, TheVariants.{Booked, Cancelled}}
 use Rattle.club_core.specs.declared.request.Request.TheVariants as asked
 
 -- The reply confirms a booking or a cancellation.

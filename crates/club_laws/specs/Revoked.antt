@@ -1,7 +1,7 @@
 -- Defines when a key was revoked in a run.
 use Rattle.std.specs.Prelude.{◌≡◌, ℕ, List, ◌∷◌, ◌++◌, Some}
-use Rattle.club_core.specs.{Acceptance.IsServed, Answer.verdict_in, Basis.key_of, Club.Club, Pass.Words, Run.{Event, Commanded, step, club_after, ToOffice}}
-use Rattle.club_core.specs.declared.command.{Command.TheVariants.RevokeKey, OfficeAnswer.TheVariants.Done}
+use Rattle.club_core.specs.{Acceptance.IsServed, Answer.verdict_in, Basis.key_of, Club.Club, Pass.Words}
+use Rattle.club_core.specs.{Run.{Event, Commanded, step, club_after, ToOffice}, declared.command.{Command.TheVariants.RevokeKey, OfficeAnswer.TheVariants.Done}}
 
 -- The office revoked the key within the history.
 pub record WasRevoked (club : Club) (history : List Event) (name : List ℕ) : Type 0 where

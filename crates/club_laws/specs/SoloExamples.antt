@@ -1,12 +1,12 @@
 -- Example runs from the empty club, with the requests of one member. Another member's events don't
 -- change the replies to a member's requests, unless both members use the same slot.
-use Rattle.club_core.specs.{Club.empty_club, Examples.{opening, root, slot_at, noon, late, ask, served_booking, account, served_cancellation}}
-use Rattle.club_core.specs.{Run.{Event, Asked, Commanded, replies_of, EventReply, ToMember}, declared.command.Command.TheVariants.{AddMember, Credit, Debit}}
+use Rattle.std.specs.Prelude.{◌≡◌, true, List, [], ◌∷◌, ◌++◌, Some, Ok, codes}
+use Rattle.club_core.specs.{Club.empty_club, Examples.{opening, root, slot_at, noon, late, ask, served_booking, account, served_cancellation}, Run.Event}
+use Rattle.club_core.specs.{Run.{Asked, Commanded, replies_of, EventReply, ToMember}, declared.command.Command.TheVariants.{AddMember, Credit, Debit}}
 use Rattle.club_core.specs.declared.command.Command.TheVariants.{SetFacility, CancelBooking, AddKey, RevokeKey, CloseSlot, OpenSlot, SetQuota}
 use Rattle.club_core.specs.declared.{refusal.Refusal.TheVariants.NoPlaces, reply.Reply.TheVariants.Refused, request.Request.Request}
-use Rattle.std.specs.Prelude.{◌≡◌, true, List, [], ◌∷◌, ◌++◌, Some, Ok, codes}
-use Rattle.club_core.specs.declared.request.Request.TheVariants as asked
 use Rattle.club_laws.specs.SoloLaw.{replies_to}
+use Rattle.club_core.specs.declared.request.Request.TheVariants as asked
 
 -- The replies to amy's requests in a run from the empty club.
 abbrev pub replies_to_amy : List Event → List EventReply

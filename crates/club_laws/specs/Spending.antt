@@ -1,7 +1,7 @@
 -- Laws about the points that a key has spent and the points that its member has used.
 use Rattle.std.specs.Prelude.{◌≡◌, ℕ, ◌-◌, ◌≤◌, List, sum_by, Contains, Some}
-use Rattle.club_rows.specs.declared.key.Key.{Key}
 use Rattle.club_core.specs.{Basis.account_named, Club.{Club, IsSound, bookings_of}, Sums.{cost_of, spent_under}, declared.account.MemberAccount.MemberAccount}
+use Rattle.club_rows.specs.declared.key.Key.{Key}
 
 -- No key has spent more points than its member has used. The points that a member has used are the
 -- cost of the bookings under all the member's keys.

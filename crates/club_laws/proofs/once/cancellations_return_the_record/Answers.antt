@@ -1,4 +1,4 @@
-use Rattle.club_laws.proofs.RepeatAnswers.{cancelled_by_record}
+use Rattle.club_laws.proofs.ServedPasses.{cancelled_by_record}
 use Rattle.club_laws.proofs.once.cancellations_return_the_record.Goals as goal
 
 pub returns : goal.returns

@@ -1,4 +1,4 @@
-use Rattle.club_laws.proofs.RepeatAnswers.{left_out}
+use Rattle.club_laws.proofs.ServedPasses.{left_out}
 use Rattle.club_laws.proofs.once.repeats_may_be_left_out.Goals as goal
 
 pub returns : goal.returns

@@ -1,4 +1,4 @@
-use Rattle.club_laws.proofs.RepeatAnswers.{step_of_repeat}
+use Rattle.club_laws.proofs.ServedPasses.{step_of_repeat}
 use Rattle.club_laws.proofs.once.repeats_return_the_same.Goals as goal
 
 pub returns : goal.returns
