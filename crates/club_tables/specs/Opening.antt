@@ -1,15 +1,14 @@
 -- This file defines how the tables of a database are opened, migrated or created.
 use Rattle.std.specs.Prelude.{◌≡◌, ◌≢◌, ◌⊎◌, ℕ, List, [], ◌∷◌, ◌++◌, map, All, Ok, Result, OnOk, OnErr, IfErr, IsTrue, false, codes}
-use Rattle.sqlite.specs.{Change.is_used, Effect.{Database, Reads}, Held.{Held, state}, Listing.understood, Order.Row, Schema.Schema}
-use Rattle.sqlite.specs.{State.{State, HasCleanDisk, Survives}, Store.Ghosts}
-use Rattle.sqlite_resolve.specs.declared.compiled.Compiled.{Compiled}
-use Rattle.club_tables.specs.{Answers.IsAfterReadings, Columns.{HasValues, version_values}, Fault.{FailsToAsk, FailsToPrepare, FailsToRun}}
-use Rattle.club_tables.specs.Tables.{Represents, RepresentsVersion1, RepresentsVersion2, IsFound}
-use Rattle.club_tables.specs.{Transaction.{BoundStatement, Asked, Ran, IsIdle, IsKept, IsUnderstood, MayCommit}, declared.texts.TheConstants.{VERSION, KEY}}
-use Rattle.club_tables.specs.declared.texts.TheConstants.{MEMBER, FACILITY, SLOT, BOOKING, OLDER_ROOT, MAKE_DESK, MAKE_MEMBERS, MAKE_FACILITIES, MAKE_KEYS}
-use Rattle.club_tables.specs.declared.texts.TheConstants.{MAKE_SLOTS, MAKE_BOOKINGS, MAKE_KEYS_BY_MEMBER, MAKE_OLD_ROOTS, ADD_VERSION, SET_VERSION}
-use Rattle.club_tables.specs.declared.texts.TheConstants.{MAKE_BOOKINGS_BY_KEY, DROP_BOOKINGS_BY_KEY}
 use Rattle.club_core.specs.{Club.Club, Store.KeepsClub, declared.store.StoreFault.{StoreFault, TheVariants.{Memory, Storage}}}
+use Rattle.club_tables.specs.{Answers.IsAfterReadings, Columns.{HasValues, version_values}, Fault.{FailsToAsk, FailsToPrepare, FailsToRun}, Tables.Represents}
+use Rattle.club_tables.specs.{Tables.{RepresentsVersion1, RepresentsVersion2, IsFound}, Transaction.{BoundStatement, Asked, Ran, IsIdle, IsKept, IsUnderstood}}
+use Rattle.club_tables.specs.{Transaction.MayCommit, declared.texts.TheConstants.{VERSION, KEY, MEMBER, FACILITY, SLOT, BOOKING, OLDER_ROOT, MAKE_DESK}}
+use Rattle.club_tables.specs.declared.texts.TheConstants.{MAKE_MEMBERS, MAKE_FACILITIES, MAKE_KEYS, MAKE_SLOTS, MAKE_BOOKINGS, MAKE_KEYS_BY_MEMBER}
+use Rattle.club_tables.specs.declared.texts.TheConstants.{MAKE_OLD_ROOTS, ADD_VERSION, SET_VERSION, MAKE_BOOKINGS_BY_KEY, DROP_BOOKINGS_BY_KEY}
+use Rattle.sqlite.specs.{Change.is_used, Effect.{Database, Reads}, Held.{Held, state}, Listing.understood, Order.Row, Schema.Schema, State.State}
+use Rattle.sqlite.specs.{State.{HasCleanDisk, Survives}, Store.Ghosts}
+use Rattle.sqlite_resolve.specs.declared.compiled.Compiled.{Compiled}
 
 abbrev pub version_text : List ℕ
 version_text = VERSION.now

@@ -29,10 +29,7 @@ module _ {S : Type 0} (g : Ghosts S) (old : Held S) (club : Club) (tables : Hold
 
   member_of : (p : MemberRow → Bool) (name : List ℕ) → (row : MemberRow) × StoresMember name tables.rows.members row × (p row ≡ true)
       → (m : Member) × (member_named name club ≡ Some m) × (p (member_row club m) ≡ true)
-  member_of p name it =
-      let is_of : MemberRow → Bool = λ r. bytes_eq (name_of r) name in
-      by (member_named name club) refl (sym (find_mapped is_of (member_row club) club.members)
-      ∙ subst (λ ms. find is_of ms ≡ Some it.0) tables.storage.members it.1)
+  member_of p name it = by (member_named name club) refl (simp (tables.storage.members, find_mapped) at it.1)
     where
       by : (o : Option Member) → member_named name club ≡ o → option_map (member_row club) o ≡ Some it.0
           → (m : Member) × (member_named name club ≡ Some m) × (p (member_row club m) ≡ true)
@@ -52,9 +49,7 @@ module _ {S : Type 0} (g : Ghosts S) (old : Held S) (club : Club) (tables : Hold
       let t2 = t1.3 in
       let t3 = t2.3 in
       let first = when_ran (booking_put tables.rows booking) ran in
-      let known = subst (λ (fs : List Facility). Contains (map (λ (f : Facility). f.name) fs) booking.slot.facility) tables.storage.facilities
-      (all_last (λ (b : Booking). Contains (map (λ (f : Facility). f.name) tables.rows.facilities) b.slot.facility) tables.rows.bookings booking
-      (booking_facilities first.0)) in
+      let known = rw tables.storage.facilities at (all_last _ tables.rows.bookings booking (booking_facilities first.0)) in
       let second = filled g old club tables booking row known (state g t1.0) (state g t2.0) t2.1 first.0 t2.2 in
       record {
         free = bookings_apart tables.rows booking first.0;
@@ -75,36 +70,26 @@ module _ {S : Type 0} (g : Ghosts S) (old : Held S) (club : Club) (tables : Hold
       grind (arith, nat_tests, bytes_eq-Decides, it.room) in
       let once = slot_once booking.slot (take_use (adds g old club tables booking)) tables.rows.slots tables.storage.once in
       let taken = filled_use g old club tables booking it.at (the_slot booking.slot _ it.at once it.among room.1) in
-      let there = subst (λ (fs : List Facility). Has fs it.facility) tables.storage.facilities it.located in
+      let there = simp tables.storage.facilities at it.located in
       record {
         row = within;
         free = All-from_recursion (λ (b : Booking). ¬ ((b.key ≡ booking.key) × (b.number ≡ booking.number))) club.bookings
-            (all_weaker _ _ (λ b other same. grind (arith, nat_tests, bytes_eq-Decides)) club.bookings
-            (subst (λ bs. AllByRecursion (λ (b : Booking). (bytes_eq booking.key b.key && booking.number == b.number) ≡ false) bs)
-            tables.storage.bookings by.free));
+            (all_weaker _ _ (λ b other same. grind (arith, nat_tests, bytes_eq-Decides)) club.bookings (rw tables.storage.bookings at by.free));
         key = it.owner;
-        known = subst (λ ks. find (λ (k : Key). bytes_eq k.name booking.key) ks ≡ Some it.owner) tables.storage.keys it.known;
+        known = simp tables.storage.keys at it.known;
         payer = m.0;
-        owned = subst (λ n. member_named n club ≡ Some m.0) (sym it.own) m.1;
+        owned = rw it.own m.1;
         paid = grind (arith, nat_tests, paid);
         facility = it.facility;
         located = subst (λ n. facility_named n club ≡ Some it.facility) room.0
             (the_named (λ (f : Facility). f.name) club.facilities it.facility tables.sound.unique.facilities there);
-        placed = subst (λ n. n ≤ it.facility.places) taken room.2;
+        placed = rw taken at room.2;
       }
 
   fits : (db : Database) (change : Change) → InLimits change → Ran g 1 (statements_of change) old db → IsTrueOf change club × Suits change club
   fits db (InsertMember member) within ran =
-      let put = when_ran (member_put tables.rows member) ran in
-      let apart = subst (λ ms. AllByRecursion (λ (y : MemberRow). bytes_eq member.name y.member.name ≡ false) ms) tables.storage.members
-      (members_apart tables.rows (new_row member) put.0) in (
-        tt,
-        (
-          within,
-          unnamed (λ (m : Member). m.name) member.name club.members
-              (all_from_map (λ (y : MemberRow). bytes_eq member.name y.member.name ≡ false) (member_row club) club.members apart),
-        ),
-      )
+      let apart = rw tables.storage.members at (members_apart tables.rows (new_row member) (when_ran (member_put tables.rows member) ran).0) in
+      (tt, (within, unnamed (λ (m : Member). m.name) member.name club.members (all_from_map _ (member_row club) club.members apart)))
   fits db (AddCredit name points) within ran =
       let m = member_of _ name (one_found (when_ran (credit_finds tables.rows (members_once g old club tables) name points) ran) ran.turns.4) in
       let few = credited_little club tables.sound name points m.0 m.1 in
@@ -120,63 +105,43 @@ module _ {S : Type 0} (g : Ghosts S) (old : Held S) (club : Club) (tables : Hold
       let m = member_of _ name (one_found (when_ran (quota_finds tables.rows (members_once g old club tables) name quota) ran) ran.turns.4) in
       ((m.0, m.1), within)
   fits db (InsertFacility facility) within ran =
-      let put = when_ran (facility_put tables.rows facility) ran in
-      let apart = subst (λ fs. AllByRecursion (λ (y : Facility). bytes_eq facility.name y.name ≡ false) fs) tables.storage.facilities
-      (facilities_apart tables.rows facility put.0) in
+      let apart = rw tables.storage.facilities at (facilities_apart tables.rows facility (when_ran (facility_put tables.rows facility) ran).0) in
       (tt, (within, unnamed (λ (f : Facility). f.name) facility.name club.facilities apart))
   fits db (ReplaceNumbers name places price opens shuts) within ran =
-      let finds = when_ran (numbers_finds tables.rows (facilities_once g old club tables) name places price opens shuts) ran in
-      let it = one_found finds ran.turns.4 in (
-        (it.0, subst (λ fs. find (λ (f : Facility). bytes_eq f.name name) fs ≡ Some it.0) tables.storage.facilities it.1),
-        (within, few_by_rows club tables.rows tables.storage name places (and_parts _ _ it.2).1),
-      )
+      let it = one_found (when_ran (numbers_finds tables.rows (facilities_once g old club tables) name places price opens shuts) ran) ran.turns.4 in
+      ((it.0, simp tables.storage.facilities at it.1), (within, few_by_rows club tables.rows tables.storage name places (and_parts _ _ it.2).1))
   fits db (InsertKey key) within ran =
       let put = when_ran (key_put tables.rows key) ran in
-      let apart = subst (λ ks. AllByRecursion (λ (y : Key). bytes_eq key.name y.name ≡ false) ks) tables.storage.keys (keys_apart tables.rows key put.0) in
-      let known = all_last (λ (k : Key). Contains (map (λ (row : MemberRow). row.member.name) tables.rows.members) k.member) tables.rows.keys key
-      (key_members put.0) in (
-        within.1,
-        (
-          within.0,
-          unnamed (λ (k : Key). k.name) key.name club.keys apart,
-          subst (λ names. Contains names key.member) (ap (map (λ (row : MemberRow). row.member.name)) tables.storage.members
-              ∙ map-map (λ (row : MemberRow). row.member.name) (member_row club) club.members)
-              known,
-        ),
-      )
+      let apart = rw tables.storage.keys at (keys_apart tables.rows key put.0) in
+      let known = simp (tables.storage.members, map-map) at (all_last _ tables.rows.keys key (key_members put.0)) in
+      (within.1, (within.0, unnamed (λ (k : Key). k.name) key.name club.keys apart, known))
   fits db (MarkRevoked name) within ran =
       let one = one_found (when_ran (revoke_finds tables.rows (keys_once g old club tables) name) ran) ran.turns.4 in
-      ((one.0, subst (λ keys. StoresKey name keys one.0) tables.storage.keys one.1), tt)
+      ((one.0, simp tables.storage.keys at one.1), tt)
   fits db (ReplaceRoot name was root until) within ran =
       let put = when_ran (older_represents tables.rows tables.storage.olders_once name (good_until until was)) ran in
       let t1 = ran.turns in
       let t2 = t1.3 in
       let one = one_found (root_finds _ (keys_once g old club tables) name root was (state g t1.0) (state g t2.0) t2.1 put.0 t2.2) t2.4 in
-      let same = (bytes_eq-Decides one.0.root was).0 (and_parts _ _ one.2).1 in
-      ((one.0, subst (λ keys. StoresKey name keys one.0) tables.storage.keys one.1, same), within)
+      ((one.0, simp tables.storage.keys at one.1, (bytes_eq-Decides one.0.root was).0 (and_parts _ _ one.2).1), within)
   fits db (MarkClosed slot) within ran =
       let opened = when_ran (slot_was_open tables.rows tables.storage.once slot) ran ran.turns.4 in
-      let put = when_ran (slot_closed tables.rows tables.storage.once slot opened) ran in (
-        tt,
-        (
-          within,
-          sym (ap (λ (u : SlotUse). u.closed) (tables.storage.slots slot)) ∙ opened,
-          slot_placed club.facilities tables.rows tables.storage.facilities slot close_use put.0,
-        ),
-      )
+      let put = when_ran (slot_closed tables.rows tables.storage.once slot opened) ran in
+      let placed = slot_placed club.facilities tables.rows tables.storage.facilities slot close_use put.0 in
+      (tt, (within, sym (ap (λ (u : SlotUse). u.closed) (tables.storage.slots slot)) ∙ opened, placed))
   fits db (MarkOpen slot) within ran =
       let put = when_ran (slot_opened tables.rows tables.storage.once slot) ran in
       (facility_there club slot.facility (slot_placed club.facilities tables.rows tables.storage.facilities slot open_use put.0), tt)
   fits db (InsertBooking booking member) within ran =
       let by = booked_by booking member within ran in
       let it = by.charged in
-      ((it.owner, subst (λ keys. StoresKey booking.key keys it.owner) tables.storage.keys it.known, it.own), booking_suits booking member within by)
+      ((it.owner, simp tables.storage.keys at it.known, it.own), booking_suits booking member within by)
   fits db (MarkCancelled booking member refund) within ran =
       let t1 = ran.turns in
       let t2 = t1.3 in
       let given = when_ran (cancel_found tables.rows (bookings_once g old club tables) booking refund) ran t1.4 in
       let first = when_ran (booking_cancelled tables.rows (bookings_once g old club tables) booking refund given.0 given.1) ran in
-      let on_record = subst (λ bookings. booking_under booking.key booking.number bookings ≡ Some booking) tables.storage.bookings given.0 in
+      let on_record = simp tables.storage.bookings at given.0 in
       let next : Rows = record tables.rows { bookings = map (cancelled_booking booking.key booking.number refund) tables.rows.bookings } in
       let once = members_once g old club tables in
       let finds = used_finds next once member (neg_ℤ (pos refund)) booking.key (state g t1.0) (state g t2.0) t2.1 first.0 t2.2 in

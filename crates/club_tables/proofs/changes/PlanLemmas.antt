@@ -29,10 +29,10 @@ module _ {S : Type 0} (g : Ghosts S) (old : Held S) (club : Club) (tables : Hold
   bookings_once = subst AreBookingsOnce (sym tables.storage.bookings) tables.sound.unique.bookings
 
   pub facilities_once : AllPairs (λ (a : Facility) (b : Facility). a.name ≢ b.name) tables.rows.facilities
-  facilities_once = subst (AllPairs (λ (a : Facility) (b : Facility). a.name ≢ b.name)) (sym tables.storage.facilities) tables.sound.unique.facilities
+  facilities_once = rw tables.storage.facilities tables.sound.unique.facilities
 
   pub members_once : AreNamedOnce tables.rows.members
-  members_once = subst AreNamedOnce (sym tables.storage.members)
+  members_once = rw tables.storage.members
       (pairs_mapped (λ (a : MemberRow) (b : MemberRow). name_of a ≢ name_of b) (member_row club) (λ row. row.member) club.members tables.sound.unique.members)
 
   -- The rows after a booking is inserted.
@@ -81,12 +81,10 @@ module _ {S : Type 0} (g : Ghosts S) (old : Held S) (club : Club) (tables : Hold
       (_, (_, λ a b. step (state g a) (state g b), (_, λ a b. again (state g a) (state g b), (_, λ a b. finally (state g a) (state g b), refl))), stored)
 
   stored_key : (name : List ℕ) (key : Key) → key_named name club ≡ Some key → StoresKey name tables.rows.keys key
-  stored_key name key h = subst (λ keys. StoresKey name keys key) (sym tables.storage.keys) h
+  stored_key name key h = rw tables.storage.keys h
 
   stored_member : (name : List ℕ) (member : Member) → member_named name club ≡ Some member → StoresMember name tables.rows.members (member_row club member)
-  stored_member name member h =
-      subst (λ ms. StoresMember name ms (member_row club member)) (sym tables.storage.members)
-      (find_mapped (λ (row : MemberRow). bytes_eq (name_of row) name) (member_row club) club.members ∙ ap (option_map (member_row club)) h)
+  stored_member name member h = rw tables.storage.members (find_mapped _ (member_row club) club.members ∙ ap (option_map (member_row club)) h)
 
   owner_of : (member key : List ℕ) → IsOwnedBy member key club → (m : Member) × (member_named member club ≡ Some m) × (m.name ≡ member)
       × (used_by club m.name ≤ credited_limit)
@@ -98,12 +96,9 @@ module _ {S : Type 0} (g : Ghosts S) (old : Held S) (club : Club) (tables : Hold
       let passes : is_of of_member.0 ≡ true = (bytes_eq-Decides of_member.0.name member).1 (of_member.2 ∙ owns.2) in
       let one = find_some is_of club.members (contains_counts is_of club.members of_member.0 of_member.1 passes) in
       let here = found is_of club.members one.0 one.1 in
-      let low = All-contains (λ (m : Member). used_by club m.name ≤ m.credited) club.members one.0 tables.sound.balances here.0 in (
-        one.0,
-        one.1,
-        (bytes_eq-Decides one.0.name member).0 here.1,
-        omega (arith, low, (All-contains IsMember club.members one.0 tables.sound.rows.members here.0).credited),
-      )
+      let low = All-contains (λ (m : Member). used_by club m.name ≤ m.credited) club.members one.0 tables.sound.balances here.0 in
+      let few = (All-contains IsMember club.members one.0 tables.sound.rows.members here.0).credited in
+      (one.0, one.1, (bytes_eq-Decides one.0.name member).0 here.1, omega (arith, low, few))
 
   booking_through : (booking : Booking) (member : List ℕ) → FitsClub (InsertBooking booking member) club
       → LeaveRows (adding_booking booking member) (after (InsertBooking booking member) club)
@@ -117,9 +112,8 @@ module _ {S : Type 0} (g : Ghosts S) (old : Held S) (club : Club) (tables : Hold
       let mine = (bytes_eq-Decides m.0.name member).1 m.2 in
       let costs : used_by (after (InsertBooking booking member) club) m.0.name ≡ used_by club m.0.name + cost_of booking =
       grind (arith, used_more club tables.sound member booking fits.carries m.0, mine) in
-      let m_there = found (λ (n : Member). bytes_eq n.name member) club.members m.0 m.1 in
       let enough = All-contains (λ (n : Member). used_by (after (InsertBooking booking member) club) n.name ≤ n.credited) club.members m.0 fits.sound.balances
-      m_there.0 in
+      (found (λ (n : Member). bytes_eq n.name member) club.members m.0 m.1).0 in
       let can_pay : nat_le (used_by club m.0.name + cost_of booking) m.0.credited ≡ true = grind (arith, nat_tests) in
       let at = put_there booking.slot (take_use (adds booking)) tables.rows.slots in
       let at_is = has_found (λ (row : SlotRow). same_slot row.slot booking.slot) (put_slot booking.slot (take_use (adds booking)) tables.rows.slots) at.0
@@ -140,15 +134,8 @@ module _ {S : Type 0} (g : Ghosts S) (old : Held S) (club : Club) (tables : Hold
         at = at.0;
         among = at_is.0;
         facility = place.0;
-        located = subst (λ fs. Has fs place.0) (sym tables.storage.facilities) (has_contained club.facilities place.0 place.1);
-        room = rw (
-          (bytes_eq-Decides place.0.name booking.slot.facility).1 place.2,
-          same,
-          (bytes_eq-Decides booking.slot.facility booking.slot.facility).1 refl,
-          (unsigned_Decides booking.slot.day booking.slot.day).1 refl,
-          (unsigned_Decides booking.slot.hour booking.slot.hour).1 refl,
-          roomy,
-        ) refl;
+        located = rw tables.storage.facilities (has_contained club.facilities place.0 place.1);
+        room = grind (arith, nat_tests, bytes_eq-Decides, place.2, same, roomy);
       } in
       three_steps _ _ _ (booking_put tables.rows booking) (filled booking limits known)
       (member_charged (filled_rows booking) members_once member (pos (cost_of booking)) booking.key booking.slot it used sum)
@@ -180,8 +167,7 @@ module _ {S : Type 0} (g : Ghosts S) (old : Held S) (club : Club) (tables : Hold
       (λ none. absurd (omega (arith, ap (λ (u : SlotUse). u.taken) (sym held ∙ none), there_are)))
       (subst (λ (u : SlotUse). binary (Arith Add) (whole u.taken) (Int (neg_ℤ (pos persons))) ≡ whole (u.taken - persons)) (sym held)
       (minus (taken_in booking.slot club.bookings) persons there_are (omega (arith, few)))) in
-      three_steps _ _ _ (booking_cancelled tables.rows bookings_once booking refund
-      (subst (λ bookings. booking_under booking.key booking.number bookings ≡ Some booking) (sym tables.storage.bookings) cancels.0) cancels.1) second third
+      three_steps _ _ _ (booking_cancelled tables.rows bookings_once booking refund (rw tables.storage.bookings cancels.0) cancels.1) second third
       (bookings_stored club tables.rows tables.storage change member (λ n. n - refund) booking.slot (λ n. n - persons)
       (used_less club tables.sound booking cancels refund fits.sound member owns) (taken_less club tables.sound booking cancels refund fits.sound))
 
@@ -190,18 +176,17 @@ module _ {S : Type 0} (g : Ghosts S) (old : Held S) (club : Club) (tables : Hold
   plan (InsertFacility facility) fits =
       one_step _ (facility_put tables.rows facility) (facilities_stored club tables.rows tables.storage (λ fs. fs ++ facility ∷ []))
   plan (ReplaceNumbers name places price opens shuts) fits =
-      let is = subst (λ fs. find (λ (f : Facility). bytes_eq f.name name) fs ≡ Some fits.carries.0) (sym tables.storage.facilities) fits.carries.1 in
       let roomy = few_in_rows club tables.rows tables.storage name places (few_if_fits club name places price opens shuts fits) in
-      one_step _ (facility_renumbered tables.rows facilities_once name places price opens shuts fits.carries.0 is roomy)
+      one_step _ (facility_renumbered tables.rows facilities_once name places price opens shuts fits.carries.0
+      (rw tables.storage.facilities fits.carries.1) roomy)
       (facilities_stored club tables.rows tables.storage (map (facility_with_numbers name places price opens shuts)))
   plan (InsertKey key) fits =
       one_step _ (key_put tables.rows key) (key_stored club tables.rows tables.storage tables.sound key fits.carries fits.sound)
   plan (AddCredit name points) fits =
       let m = fits.carries.0 in
-      let next = mapped_holds IsMember (credited_member name points) club.members m fits.sound.rows.members
-      (found (λ (m : Member). bytes_eq m.name name) club.members m fits.carries.1).0 in
-      let low : m.credited + points ≤ credited_limit = subst (λ b. cond b (m.credited + points) m.credited ≤ credited_limit)
-      (found (λ (m : Member). bytes_eq m.name name) club.members m fits.carries.1).1 next.credited in
+      let here = found (λ (m : Member). bytes_eq m.name name) club.members m fits.carries.1 in
+      let next = mapped_holds IsMember (credited_member name points) club.members m fits.sound.rows.members here.0 in
+      let low : m.credited + points ≤ credited_limit = grind (arith, here.1, next.credited) in
       one_step _ (member_credited tables.rows members_once name points (member_row club m) (stored_member name m fits.carries.1)
       (total m.credited points (omega (arith, low))) (let small : nat_le (m.credited + points) 999_999_999 ≡ true = grind (arith, nat_tests) in small))
       (members_stored club tables.rows tables.storage (credited_member name points) (λ m. refl))
@@ -237,5 +222,4 @@ module _ {S : Type 0} (g : Ghosts S) (old : Held S) (club : Club) (tables : Hold
   made db change fits ran =
       let it = plan change fits in
       let holds_rows = left_by g (statements_of change) tables.rows it.0 it.1 (transaction_start old) ran.last tables.holds_rows ran.turns in
-      subst (λ (d : Database). HoldsClub d (after change club)) (sym ran.is)
-      (record { rows = it.0; holds_rows = holds_rows; storage = it.2; sound = fits.sound })
+      rw ran.is (record { rows = it.0; holds_rows = holds_rows; storage = it.2; sound = fits.sound })

@@ -1,4 +1,6 @@
 -- Lemmas about the rows that the tables store for the club after each change.
+use Rattle.std.specs.Prelude.{Option}
+use Rattle.club_core.specs.declared.change.Change.TheVariants.{MarkClosed}
 use Rattle.club_tables.proofs.Common.{rules, ◌≡◌, ℕ, ◌≤◌, pos, neg_ℤ, Bool, List, Some, refl, sym, ◌∙◌, ◌≢◌, ◌-◌, true, if◌then◌else◌, [], ◌∷◌, ◌++◌, map}
 use Rattle.club_tables.proofs.Common.{Contains, ap, arith, All-contains, bytes_eq-Decides, find, bytes_eq, binary, Arith, Add, ◌<◌, ◌^◌, SlotUse, IsFacility}
 use Rattle.club_tables.proofs.Common.{Int, Club, IsSound, taken_in, same_slot, IsBooking, Booking, Facility, Slot, whole, persons_taken, SlotRow, AllPairs, Has}
@@ -8,16 +10,13 @@ use Rattle.club_tables.proofs.Common.{member_row, used_by, nat_tests, IsMember, 
 use Rattle.club_tables.proofs.Common.{not, ◌&&◌, cond, Option, None, sum_by, option_and_then, map-append, list_any-append, or-true, or-false}
 use Rattle.club_tables.proofs.Common.{recursion_from_All, Key, OlderRoot, InsertMember, InsertKey, MarkRevoked, ReplaceRoot, InsertBooking, after, revoked_key}
 use Rattle.club_tables.proofs.Common.{good_until, rotated_key, persons_of, key_named, is_key_of, slot_use, older_root_of, IsOwnedBy, HasRoot, is_in, cost_of}
-use Rattle.club_tables.proofs.{Common.{OlderRow, IsStoredAs, older_by, map-map, MarkOpen, closed_but}, changes.ObeyLemmas.slot_facilities}
-use Rattle.club_tables.proofs.{lists.OwnerLemmas.{apart_last, map_agree, not_among, unequal, sum_more, owner_is}, changes.ChangeLemmas.{whole_to, used_row}}
+use Rattle.club_tables.proofs.{Common.{OlderRow, IsStoredAs, older_by, map-map, MarkOpen, closed_but}, changes.AddLemmas.{new_row, close_use, open_use}}
+use Rattle.club_tables.proofs.changes.{AddLemmas.{take_use, put_older, older_put, put_once as olders_once}, CancelLemmas.mapped_holds, ChangeLemmas.whole_to}
+use Rattle.club_tables.proofs.{changes.{ChangeLemmas.used_row, ObeyLemmas.slot_facilities}, lists.KeyedRows.{not_same, put_slot, changed, new_row as slot_row}}
+use Rattle.club_tables.proofs.lists.{KeyedRows.{same_itself, by_put, same_row, use_put, slot_once}, OwnerLemmas.{apart_last, map_agree, not_among, unequal}}
+use Rattle.club_tables.proofs.{lists.OwnerLemmas.{sum_more, owner_is}, queries.{KeyLemmas.{one_named, same_slots}, MemberLemmas.total}}
 use Rattle.club_tables.proofs.statements.SelectLemmas.{apart_from_pairs, find_first, only, contains_counts, find_some, found, none_pass, filter_same, none_of}
-use Rattle.club_tables.proofs.{changes.CancelLemmas.mapped_holds, queries.MemberLemmas.total, lists.KeyedRows.{not_same, put_slot, changed}}
-use Rattle.club_tables.proofs.lists.KeyedRows.{new_row as slot_row}
-use Rattle.club_tables.proofs.{lists.KeyedRows.{same_itself, by_put, same_row, use_put, slot_once}, queries.KeyLemmas.{one_named, same_slots}}
-use Rattle.club_tables.proofs.{statements.UpdateLemmas.each_of, changes.AddLemmas.{new_row, close_use, open_use, take_use, put_older, older_put}}
-use Rattle.club_tables.proofs.changes.AddLemmas.{put_once as olders_once}
-use Rattle.std.specs.Prelude.{Option}
-use Rattle.club_core.specs.declared.change.Change.TheVariants.{MarkClosed}
+use Rattle.club_tables.proofs.statements.UpdateLemmas.{each_of}
 
 pub contains_mapped : {X Y : Type 0} (f : X → Y) (xs : List X) (y : Y) → Contains (map f xs) y → (x : X) × Contains xs x × (f x ≡ y)
 contains_mapped f xs y has = let it = has_mapped f xs y (has_contained (map f xs) y has) in (it.0, contains_had xs it.0 it.1, sym it.2)
@@ -50,8 +49,7 @@ slot_placed facilities rows same slot change holds =
     let at = put_there slot change rows.slots in
     let at_is = has_found (λ (row : SlotRow). same_slot row.slot slot) (put_slot slot change rows.slots) at.0 at.1 in
     let known = all_has _ (put_slot slot change rows.slots) at.0 (slot_facilities holds) at_is.0 in
-    subst (λ (s : Slot). Contains (map (λ (f : Facility). f.name) facilities) s.facility) (same_slots at.0.slot slot at_is.1)
-    (subst (λ (fs : List Facility). Contains (map (λ (f : Facility). f.name) fs) at.0.slot.facility) same known)
+    rw (same, same_slots at.0.slot slot at_is.1) at known
 
 pub facility_there : (club : Club) (name : List ℕ) → Contains (map (λ (f : Facility). f.name) club.facilities) name → HasFacility name club
 facility_there club name named =
@@ -96,10 +94,7 @@ module _ (club : Club) (sound : IsSound club) (name : List ℕ) (points : ℕ) (
 
   pub enough_left : points < 2 ^ 32 → leaves points (member_row club member) ≡ true → used_by club member.name + points ≤ member.credited
   enough_left few passes =
-      let is = rw (
-        total (used_by club member.name) points (omega (arith, few, spent_little, credited_little)),
-        whole_to (used_by club member.name + points) member.credited,
-      ) at passes in
+      let is = rw (total (used_by club member.name) points (omega (arith, few, spent_little, credited_little)), whole_to) at passes in
       grind (arith, nat_tests)
 
   pub enough_if_fits : FitsClub (TakeCredit name points) club → points ≤ member.credited → used_by club member.name + points ≤ member.credited
@@ -110,11 +105,7 @@ module _ (club : Club) (sound : IsSound club) (name : List ℕ) (points : ℕ) (
 -- Lemmas about the rows of members.
 
 used_none : (club : Club) (name : List ℕ) → AllByRecursion (λ (key : Key). bytes_eq key.member name ≡ false) club.keys → used_by club name ≡ 0
-used_none club name none =
-    let owns : Key → Bool = λ key. bytes_eq key.member name in
-    let no_keys : filter owns club.keys ≡ [] = none_pass owns club.keys none in
-    ap (λ keys. sum_by cost_of (filter (λ (booking : Booking). list_any (λ (key : Key). bytes_eq key.name booking.key) keys) club.bookings)) no_keys
-    ∙ ap (sum_by cost_of) (none_of club.bookings)
+used_none club name none = simp (none_pass (λ (key : Key). bytes_eq key.member name) club.keys none, none_of)
 
 keys_of_none : (club : Club) → IsSound club → (name : List ℕ) → AllByRecursion (λ (m : Member). m.name ≢ name) club.members
     → AllByRecursion (λ (key : Key). bytes_eq key.member name ≡ false) club.keys

@@ -5,8 +5,7 @@ use Rattle.club_tables.proofs.Common.{State, HasCleanDisk, Survives, Shown, Held
 use Rattle.club_tables.proofs.Common.{key_values, booking_values, HoldsClub, Holds, RepresentsBy, Represents, keys_tree, bookings_tree, select, BoundStatement}
 use Rattle.club_tables.proofs.Common.{Asked, IsKept, transaction_start, shown, Result, IfOk, IfErr, inl, inr, arith, IfErr-weaker, IfOk-weaker, StoreFault}
 use Rattle.club_tables.proofs.Common.{FailsAtReading, FailsToRead, IsAfterReadings, IsReadFault, Reading, CanRead, reading_statement, ReadsClub}
-use Rattle.club_tables.proofs.{statements.SelectLemmas.selected, crashes.SurviveLemmas.kept_when_idle}
-use Rattle.club_tables.specs.Answers.{Answers}
+use Rattle.club_tables.{proofs.{crashes.SurviveLemmas.kept_when_idle, statements.SelectLemmas.selected}, specs.Answers.Answers}
 
 pub represents_by : (IsHeld : Database → Club → Type 0) (old new : State) → IsKept old new → (HasCleanDisk new → HasCleanDisk old) → (club : Club)
     (others next : List Club) → RepresentsBy IsHeld old club others

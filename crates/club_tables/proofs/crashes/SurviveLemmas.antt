@@ -114,10 +114,6 @@ module _ {S : Type 0} (g : Ghosts S) (fewest : ℕ) where
       rw (add-one, take-suc statements at d within, map-append bound_statement (take at statements) (get_or statements at d ∷ [])) in
       subst (λ all. RanInTurn g fewest all a c) (sym more) (turn_more front (bound_statement (get_or statements at d)) a b c count before one enough opened)
 
-  pub turn_all : (statements : List Statement) (at : ℕ) (a b : Held S) → length statements ≤ at
-      → RanInTurn g fewest (map bound_statement (take at statements)) a b → RanInTurn g fewest (map bound_statement statements) a b
-  turn_all statements at a b past before = subst (λ all. RanInTurn g fewest (map bound_statement all) a b) (take_all at statements past) before
-
   pub fails_at : (statements : List Statement) (at : ℕ) (d : Statement) (a b c : Held S) (fault : StoreFault) → at < length statements
       → RanInTurn g fewest (map bound_statement (take at statements)) a b → StopsAt g fewest (bound_statement (get_or statements at d)) b c fault
       → FailsInTurn g fewest (map bound_statement statements) a c fault
@@ -132,23 +128,31 @@ module _ {S : Type 0} (g : Ghosts S) (fewest : ℕ) where
   fails_last (statement ∷ all) a b c error fault before last is =
       inr (before.0, before.1, before.2, fails_last all before.0 b c error fault before.3 last is, before.4, before.5)
 
+-- The first `at` of these statements ran in a transaction that started from `old`.
+pub record RanUpTo {S : Type 0} (g : Ghosts S) (fewest : ℕ) (statements : List Statement) (at : ℕ) (old mid : Held S) : Type 0 where
+  pub survives : Survives (state g (transaction_start old)) (state g mid) (λ _. ⊥)
+  pub ran : HasCleanDisk (state g mid) → RanInTurn g fewest (map bound_statement (take at statements)) (transaction_start old) mid
+  pub inside : HasCleanDisk (state g mid) → IsTrue mid.in_transaction
+  pub keeps : HasCleanDisk (state g mid) → Keeps (state g (transaction_start old)) (state g mid)
+  pub opened : HasCleanDisk (state g mid) → 0 < at → IsTrue (state g mid).is_open
+
+module _ {S : Type 0} {g : Ghosts S} {fewest : ℕ} {statements : List Statement} {at : ℕ} {old mid : Held S} (it : RanUpTo g fewest statements at old mid) where
+  pub all_ran : length statements ≤ at → HasCleanDisk (state g mid) → RanInTurn g fewest (map bound_statement statements) (transaction_start old) mid
+  all_ran past clean = subst (λ all. RanInTurn g fewest (map bound_statement all) (transaction_start old) mid) (take_all at statements past) (it.ran clean)
+
   -- Whether or not the commit succeeds, a crash leaves the effects of all statements, or a state
   -- that a crash before the transaction could leave.
-  pub commit_survives : (statements : List Statement) (at : ℕ) (old mid new : Held S) → length statements ≤ at
-      → Survives (state g (transaction_start old)) (state g mid) (λ _. ⊥)
-      → (HasCleanDisk (state g mid) → RanInTurn g fewest (map bound_statement (take at statements)) (transaction_start old) mid)
-      → (HasCleanDisk (state g mid) → 0 < at → IsTrue (state g old).is_open) → Survives (state g mid) (state g new) (λ trees. trees ≡ (state g mid).now.trees)
+  pub commit_survives : (new : Held S) → length statements ≤ at → Survives (state g mid) (state g new) (λ trees. trees ≡ (state g mid).now.trees)
       → Survives (state g old) (state g new) (λ trees. (db : Database) × Ran g fewest (map bound_statement statements) old db × (trees ≡ db.trees))
-  commit_survives statements at old mid new past begun ran was_open commit =
+  commit_survives new past commit =
       let all = map bound_statement statements in
       let P = λ (trees : Trees). (db : Database) × Ran g fewest all old db × (trees ≡ db.trees) in
       let made = λ (clean : HasCleanDisk (state g new)) (trees : Trees) (is : trees ≡ (state g mid).now.trees).
       let earlier : HasCleanDisk (state g mid) = omega (arith, commit.clean) in
-      let turn : RanInTurn g fewest all (transaction_start old) mid = turn_all statements at (transaction_start old) mid past (ran earlier) in
       let was = λ (some : 0 < length all). let more : 0 < length statements = subst (λ n. 0 < n) (length-map statements bound_statement) some in
-      was_open earlier (omega arith) in
-      let p : P trees = ((state g mid).now, record { last = mid; was_open = was; turns = turn; is = refl }, is) in p in
-      survives_then (state g old) (state g mid) (state g new) _ _ P (λ _ db none. absurd none) made (survives_begin g old (state g mid) _ begun) commit
+      (it.keeps earlier (it.opened earlier (omega arith))).0 in
+      let p : P trees = ((state g mid).now, record { last = mid; was_open = was; turns = all_ran past earlier; is = refl }, is) in p in
+      survives_then (state g old) (state g mid) (state g new) _ _ P (λ _ db none. absurd none) made (survives_begin g old (state g mid) _ it.survives) commit
 
 module _ {S : Type 0} (g : Ghosts S) where
   abbrev Moves : BoundStatement → Rows → Rows → Type 0

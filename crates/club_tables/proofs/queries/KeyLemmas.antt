@@ -33,9 +33,8 @@ pub key_shown : {S : Type 0} (g : Ghosts S) (old : Held S) (name : List ℕ)
     → Shows g old (KEY.now, Text name ∷ []) (λ club rows. rows ≡ map key_values (option_to_list (key_named name club)))
 unfolding understood everything
 key_shown g old name =
-    let asks : Asks club_schema KEY.now (select (inner keys_tree end) (is_given 1 0 ∷ []) (map (col 1) (1 ∷ 2 ∷ 3 ∷ 4 ∷ [])))
-    (map codes ("name" ∷ "member" ∷ "root" ∷ "revoked" ∷ [])) = record { is = refl; plain = (refl, refl); unlisted = refl } in
-    shown_by asks key_values (λ key. bytes_eq key.name name) key_values (λ id key. and-true _ ∙ text_equal key.name name) (λ id key. refl) (λ club tables. (
+    shown_by (record { is = refl; plain = (refl, refl); unlisted = refl }) key_values (λ key. bytes_eq key.name name) key_values
+    (λ id key. and-true _ ∙ text_equal key.name name) (λ id key. refl) (λ club tables. (
       club.keys,
       keys_held _ club tables,
       λ rows. first_returned key_values _ club.keys rows (one_named (λ (key : Key). key.name) name club.keys tables.sound.unique.keys),
@@ -49,11 +48,10 @@ pub older_shown : {S : Type 0} (g : Ghosts S) (old : Held S) (name : List ℕ)
     → Shows g old (OLDER_ROOT.now, Text name ∷ []) (λ club rows. rows ≡ map older_root_values (option_to_list (older_root_of name club)))
 unfolding understood everything
 older_shown g old name =
-    let asks : Asks club_schema OLDER_ROOT.now (select (inner olders_tree end) (is_given 1 0 ∷ []) (map (col 1) (2 ∷ 3 ∷ [])))
-    (map codes ("root" ∷ "until" ∷ [])) = record { is = refl; plain = (refl, refl); unlisted = refl } in
     let p : OlderRow → Bool = λ row. bytes_eq row.key name in
     let show : OlderRow → Row = λ row. older_root_values row.older in
-    shown_by asks older_values p show (λ id row. and-true _ ∙ text_equal row.key name) (λ id row. refl) (λ club tables.
+    shown_by (record { is = refl; plain = (refl, refl); unlisted = refl }) older_values p show (λ id row. and-true _ ∙ text_equal row.key name)
+    (λ id row. refl) (λ club tables.
     let olders = tables.rows.olders in (
       olders,
       tables.holds_rows.held.olders,
@@ -65,10 +63,9 @@ pub member_shown : {S : Type 0} (g : Ghosts S) (old : Held S) (name : List ℕ) 
     (λ club rows. rows ≡ map member_values (option_to_list (option_map (member_row club) (member_named name club))))
 unfolding understood everything
 member_shown g old name =
-    let asks : Asks club_schema MEMBER.now (select (inner members_tree end) (is_given 1 0 ∷ []) (map (col 1) (1 ∷ 2 ∷ 3 ∷ 4 ∷ [])))
-    (map codes ("name" ∷ "credited" ∷ "quota" ∷ "used" ∷ [])) = record { is = refl; plain = (refl, refl); unlisted = refl } in
     let p : MemberRow → Bool = λ row. bytes_eq row.member.name name in
-    shown_by asks member_values p member_values (λ id row. and-true _ ∙ text_equal row.member.name name) (λ id row. refl) (λ club tables.
+    shown_by (record { is = refl; plain = (refl, refl); unlisted = refl }) member_values p member_values
+    (λ id row. and-true _ ∙ text_equal row.member.name name) (λ id row. refl) (λ club tables.
     let unique = pairs_mapped (λ (a : MemberRow) (b : MemberRow). a.member.name ≢ b.member.name) (member_row club) (λ row. row.member) club.members
     tables.sound.unique.members in (
       map (member_row club) club.members,
@@ -81,9 +78,8 @@ pub facility_shown : {S : Type 0} (g : Ghosts S) (old : Held S) (name : List ℕ
     → Shows g old (FACILITY.now, Text name ∷ []) (λ club rows. rows ≡ map facility_values (option_to_list (facility_named name club)))
 unfolding understood everything
 facility_shown g old name =
-    let asks : Asks club_schema FACILITY.now (select (inner facilities_tree end) (is_given 1 0 ∷ []) (map (col 1) (1 ∷ 2 ∷ 3 ∷ 4 ∷ 5 ∷ 6 ∷ [])))
-    (map codes ("name" ∷ "kind" ∷ "places" ∷ "price" ∷ "opens" ∷ "shuts" ∷ [])) = record { is = refl; plain = (refl, refl); unlisted = refl } in
-    shown_by asks facility_values (λ facility. bytes_eq facility.name name) facility_values (λ id facility. and-true _ ∙ text_equal facility.name name)
+    shown_by (record { is = refl; plain = (refl, refl); unlisted = refl }) facility_values (λ facility. bytes_eq facility.name name) facility_values
+    (λ id facility. and-true _ ∙ text_equal facility.name name)
     (λ id facility. refl) (λ club tables. (
       club.facilities,
       subst (Holds facility_values _) tables.storage.facilities tables.holds_rows.held.facilities,
@@ -107,11 +103,9 @@ shows_by club slot found rows is same = grind arith
 pub slot_shown : {S : Type 0} (g : Ghosts S) (old : Held S) (slot : Slot) → Shows g old (SLOT.now, name_values slot) (λ club. ShowsUse club slot)
 unfolding understood everything
 slot_shown g old slot =
-    let asks : Asks club_schema SLOT.now (select (inner slots_tree end) (is_given 1 0 ∷ is_given 2 1 ∷ is_given 3 2 ∷ []) (col 1 4 ∷ col 1 5 ∷ []))
-    (codes "closed" ∷ codes "taken" ∷ []) = record { is = refl; plain = (refl, refl); unlisted = refl } in
     let p : SlotRow → Bool = λ row. same_slot row.slot slot in
     let show : SlotRow → Row = λ row. use_values row.held in
-    shown_by asks slot_values p show (λ id row.
+    shown_by (record { is = refl; plain = (refl, refl); unlisted = refl }) slot_values p show (λ id row.
     grind (arith, text_equal, whole_equal)) (λ id row. refl) (λ club tables.
     let slots = tables.rows.slots in (
       slots,
@@ -119,12 +113,6 @@ slot_shown g old slot =
       λ rows same. shows_by club slot (row_of slot slots) rows
           (first_returned show p slots rows (one_slot slot slots tables.storage.once) same) (tables.storage.slots slot),
     ))
-
-abbrev pub booking_terms : List Term
-booking_terms = map (col 1) (1 ∷ 2 ∷ 3 ∷ 4 ∷ 5 ∷ 6 ∷ 7 ∷ 8 ∷ 9 ∷ 10 ∷ [])
-
-abbrev pub booking_names : List (List ℕ)
-booking_names = map codes ("pass_key" ∷ "number" ∷ "facility" ∷ "day" ∷ "hour" ∷ "guests" ∷ "charge" ∷ "remains" ∷ "cancelled" ∷ "refund" ∷ [])
 
 abbrev pub AreBookingsOnce : List Booking → Type 0
 AreBookingsOnce = AllPairs (λ (a : Booking) (b : Booking). ¬ ((a.key ≡ b.key) × (a.number ≡ b.number)))
@@ -145,9 +133,8 @@ pub booking_shown : {S : Type 0} (g : Ghosts S) (old : Held S) (key : List ℕ) 
     (λ club rows. rows ≡ map booking_values (option_to_list (booking_under key number club.bookings)))
 unfolding understood everything
 booking_shown g old key number =
-    let asks : Asks club_schema BOOKING.now (select (inner bookings_tree end) (is_given 1 0 ∷ is_given 2 1 ∷ []) booking_terms) booking_names =
-    record { is = refl; plain = (refl, refl); unlisted = refl } in
-    shown_by asks booking_values (is_numbered key number) booking_values (λ id b. both_tests _ _ _ _ (text_equal b.key key) (whole_equal b.number number))
+    shown_by (record { is = refl; plain = (refl, refl); unlisted = refl }) booking_values (is_numbered key number) booking_values
+    (λ id b. both_tests _ _ _ _ (text_equal b.key key) (whole_equal b.number number))
     (λ id b. refl) (λ club tables. (
       club.bookings,
       bookings_held _ club tables,
@@ -165,7 +152,6 @@ pub costs_shown : {S : Type 0} (g : Ghosts S) (old : Held S) (key : List ℕ) �
     (λ club. IsPermutation (map cost_values (filter (is_under key) club.bookings)))
 unfolding understood everything
 costs_shown g old key =
-    let asks : Asks club_schema COSTS_UNDER_KEY.now (select (inner bookings_tree end) (is_given 1 0 ∷ []) (col 1 7 ∷ col 1 10 ∷ []))
-    (map codes ("charge" ∷ "refund" ∷ [])) = record { is = refl; plain = (refl, refl); unlisted = refl } in
-    shown_by asks booking_values (is_under key) cost_values (λ id b. and-true _ ∙ text_equal b.key key) (λ id b. refl) (λ club tables.
+    shown_by (record { is = refl; plain = (refl, refl); unlisted = refl }) booking_values (is_under key) cost_values
+    (λ id b. and-true _ ∙ text_equal b.key key) (λ id b. refl) (λ club tables.
     (club.bookings, bookings_held _ club tables, λ rows same. same))

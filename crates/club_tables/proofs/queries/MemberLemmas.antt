@@ -9,26 +9,10 @@ use Rattle.club_tables.proofs.Common.{booking_values, keys_tree, bookings_tree, 
 use Rattle.club_tables.proofs.Common.{on, then_cmp, is_gt, IsTotalOrder, ranked, nat_cmp_total, in_order, nat_list_cmp_total, on_total, then_total, ascending}
 use Rattle.club_tables.proofs.Common.{value_cmp-Text, then-Equal, value_cmp, key_cmp, DAY, ShowsDay, start_of, is_on, Precedes}
 use Rattle.club_tables.proofs.crashes.RepresentsLemmas.{Asks, Shows, asked_tables, asked_reads, keys_held, bookings_held}
-use Rattle.club_tables.proofs.queries.KeyLemmas.{no_truth, booking_terms, booking_names, is_uncancelled}
+use Rattle.club_tables.proofs.{Common.ap₂, queries.KeyLemmas.{no_truth, both_tests}}
 use Rattle.club_tables.proofs.statements.SelectLemmas.{apart_from_pairs, text_equal, whole_equal, filter_same, pairs_from_apart, selected_in_order}
 use Rattle.club_tables.proofs.statements.{SelectLemmas.{none_greater, apart-permutation}, JoinLemmas.{filter_filter, IsElsewhere, pairs_counted, selected_both}}
 use Rattle.std.{proofs.{Common.int_cmp, lemmas.{List.Kept.AllPairs-filter, Map.Lookups.{exact_bytes, exact_unsigned}}}, specs.Cmp.Lexicographic.slice_cmp}
-
-abbrev under_it : Term
-under_it = op2 (Compare Eq Binary) (col 1 1) (col 2 1)
-
-abbrev is_not_cancelled : Term
-is_not_cancelled = op2 (Compare Eq Binary) (col 2 9) (lit (Int (pos 0)))
-
-abbrev begins_later : Term
-begins_later = op2 (Compare Gt Binary) (op2 (Arith Add) (op2 (Arith Mul) (col 2 4) (lit (Int (pos 1440)))) (op2 (Arith Mul) (col 2 5) (lit (Int (pos 60)))))
-    (col 0 1)
-
-abbrev from_day : Term
-from_day = op2 (Compare Ge Binary) (col 2 4) (col 0 2)
-
-abbrev open_tests : List Term
-open_tests = under_it ∷ is_given 2 0 ∷ is_not_cancelled ∷ begins_later ∷ from_day ∷ []
 
 pub whole_above : (m n : ℕ) → is_true (binary (Compare Gt Binary) (Int (pos m)) (Int (pos n))) ≡ nat_lt n m
 unfolding binary
@@ -101,20 +85,12 @@ pub open_shown : {S : Type 0} (g : Ghosts S) (old : Held S) (member : List ℕ) 
 unfolding understood everything
 open_shown g old member moment rows clean asked club others represents =
     let tables = asked_tables asked clean club others represents in
-    let asks : Asks club_schema OPEN.now (select (inner keys_tree (inner bookings_tree end)) open_tests (col 2 2 ∷ [])) (codes "number" ∷ []) =
-    record { is = refl; plain = (refl, refl); unlisted = refl } in
-    let reads = asked_reads asked asks tables.holds_rows.schema in
+    let reads = asked_reads {schema = club_schema} asked (record { is = refl; plain = (refl, refl); unlisted = refl }) tables.holds_rows.schema in
     let number : Booking → Row = λ b. whole b.number ∷ [] in
-    let both = selected_both key_values booking_values (Text member ∷ whole moment ∷ whole (moment / 1440) ∷ [])
-    open_tests (col 2 2 ∷ []) (is_owned member (comes moment)) number (λ i j k b. rw (
-      text_equal k.name b.key,
-      text_equal k.member member,
-      whole_equal (truth b.cancelled) 0,
-      no_truth b.cancelled,
-      and-true (is_true (binary (Compare Ge Binary) (whole b.slot.day) (whole (moment / 1440)))),
-    ) refl) (λ i j k b. refl)
-    keys_tree bookings_tree (codes "number" ∷ []) (state g old).now club.keys club.bookings rows (keys_held _ club tables) (bookings_held _ club tables)
-    reads in
+    let both = selected_both key_values booking_values (is_owned member (comes moment)) number reads (λ i j k b. ap₂ ◌&&◌ (text_equal k.name b.key)
+    (ap₂ ◌&&◌ (text_equal k.member member) (ap₂ ◌&&◌ (whole_equal (truth b.cancelled) 0 ∙ no_truth b.cancelled)
+    (ap (λ c. is_true (binary (Compare Gt Binary) (start_value b) (whole moment)) && c) (and-true _)))))
+    (λ i j k b. refl) club.keys club.bookings (keys_held _ club tables) (bookings_held _ club tables) in
     let own = bookings_of member club in
     owned_count member (comes moment) number club rows tables.sound.unique.keys both
     ∙ ap length (filter_same (comes moment) (is_to_come moment) own (recursion_from_All _ own (All-weaker IsBooking _ (comes_is moment) own
@@ -145,32 +121,22 @@ precedes a b fails differ = grind (arith, nat_tests, exact_bytes, exact_unsigned
 abbrev sheet_key : Booking → Row
 sheet_key b = Text b.slot.facility ∷ whole b.slot.hour ∷ Text b.key ∷ whole b.number ∷ []
 
-abbrev sheet_terms : List Term
-sheet_terms = map (col 1) (3 ∷ 5 ∷ 1 ∷ 2 ∷ [])
-
-abbrev day_tests : List Term
-day_tests = is_given 4 0 ∷ is_uncancelled ∷ []
-
 whole_cmp : (m n : ℕ) → value_cmp (whole m) (whole n) ≡ nat_cmp m n
 whole_cmp m n = let same : int_cmp (pos m) (pos n) ≡ nat_cmp m n = grind (arith, nat_tests) in value_cmp-Int (pos m) (pos n) ∙ same
 
-by_values : (a b : Booking) → key_cmp 0 (map (λ _. ascending Binary) sheet_terms) (sheet_key a) (sheet_key b) ≡ sheet_cmp a b
+by_values : (a b : Booking) → key_cmp 0 (map (λ _. ascending Binary) (sheet_key a)) (sheet_key a) (sheet_key b) ≡ sheet_cmp a b
 by_values a b = simp (value_cmp-Text, whole_cmp, then-Equal)
 
 pub day_shown : {S : Type 0} (g : Ghosts S) (old : Held S) (day : ℕ) → Shows g old (DAY.now, whole day ∷ []) (λ club. ShowsDay club day)
 unfolding understood everything
 day_shown g old day rows clean asked club others represents =
     let tables = asked_tables asked clean club others represents in
-    let asks : Asks club_schema DAY.now (in_order sheet_terms (select (inner bookings_tree end) day_tests booking_terms)) booking_names =
-    record { is = refl; plain = (refl, refl); unlisted = refl } in
-    let reads = asked_reads asked asks tables.holds_rows.schema in
-    let day_selection = selected_in_order booking_values (whole day
-    ∷ []) day_tests booking_terms (map (λ term. (term, ascending Binary)) sheet_terms) (is_on day)
-    booking_values sheet_key (λ id b. rw (whole_equal b.slot.day day, whole_equal (truth b.cancelled) 0, no_truth b.cancelled, and-true (not b.cancelled))
-    (and_comm (b.slot.day == day) (not b.cancelled))) (λ id b. refl) (λ id b. refl) bookings_tree booking_names (state g old).now
-    club.bookings rows (bookings_held _ club tables) reads in
+    let reads = asked_reads {schema = club_schema} asked (record { is = refl; plain = (refl, refl); unlisted = refl }) tables.holds_rows.schema in
+    let day_selection = selected_in_order booking_values (is_on day) booking_values sheet_key reads
+    (λ id b. both_tests _ _ _ _ (whole_equal b.slot.day day) (whole_equal (truth b.cancelled) 0 ∙ no_truth b.cancelled)
+    ∙ and_comm (b.slot.day == day) (not b.cancelled)) (λ id b. refl) (λ id b. refl) club.bookings (bookings_held _ club tables) in
     let bookings = day_selection.ordered in
-    let same_cmp : (λ (a b : Booking). key_cmp 0 (map (λ _. ascending Binary) sheet_terms) (sheet_key a) (sheet_key b)) ≡ sheet_cmp =
+    let same_cmp : (λ (a b : Booking). key_cmp 0 (map (λ _. ascending Binary) (sheet_key a)) (sheet_key a) (sheet_key b)) ≡ sheet_cmp =
     λ i a b. by_values a b i in
     let none_after = none_greater sheet_cmp sheet_total bookings (subst (λ cmp. IsSorted cmp bookings) same_cmp day_selection.sorted) in
     let unique = AllPairs-filter Differ (is_on day) club.bookings tables.sound.unique.bookings in

@@ -89,9 +89,8 @@ pub taken_shown : {S : Type 0} (g : Ghosts S) (old : Held S) (facility : List �
     (λ club rows. most_in rows ≡ most_taken_in facility club.bookings)
 unfolding understood everything
 taken_shown g old facility =
-    let asks : Asks club_schema TAKEN.now (select (inner slots_tree end) (is_given 1 0 ∷ []) (col 1 5 ∷ [])) (codes "taken" ∷ []) =
-    record { is = refl; plain = (refl, refl); unlisted = refl } in
-    shown_by asks slot_values (λ row. bytes_eq row.slot.facility facility) (λ row. whole row.held.taken ∷ []) (λ id row.
+    shown_by (record { is = refl; plain = (refl, refl); unlisted = refl }) slot_values (λ row. bytes_eq row.slot.facility facility)
+    (λ row. whole row.held.taken ∷ []) (λ id row.
     and-true _ ∙ text_equal row.slot.facility facility) (λ id row. refl) (λ club tables. (
       tables.rows.slots,
       tables.holds_rows.held.slots,

@@ -1,4 +1,5 @@
 -- Lemmas about queries of two joined tables, and about queries with EXISTS.
+use Rattle.std.proofs.{Common.sum_by, lemmas.List.Concat.length-flat_map}
 use Rattle.club_tables.proofs.Common.{◌≡◌, ℕ, ℤ, Bool, true, false, cond, ◌||◌, ◌&&◌, List, [], ◌∷◌, map, refl, ap, subst, ◌∙◌, ◌≤◌, pos, min, length, arith}
 use Rattle.club_tables.proofs.Common.{filter, flat_map, IsPermutation, AllByRecursion, list_all, list_any, length-map, Int, Row, Term, Env, holds, eval_all}
 use Rattle.club_tables.proofs.Common.{inner, end, IsAnswer, output, counted, Select, Database, Reads, Answers, map-map, map-flat_map, flat_map-map}
@@ -41,34 +42,24 @@ module _ (params : Row) (tests : List Term) (project : List Term) where
       → Answers db (record { lets = []; body = select (inner outer (inner inside end)) tests project }) params rows
       → IsPermutation (flat_map (λ a. map (shows_both a) (filter (joins a) (db.trees inside))) (db.trees outer)) rows
   answered_both outer inside db rows h =
-      let query = select (inner outer (inner inside end)) tests project in
-      let a : IsAnswer query db.trees params rows = plain_answer h in
-      let pair : Row → Row → Env = λ x y. params ∷ x ∷ y ∷ [] in
-      let below : Row → List Env = λ x. map (pair x) (filter (joins x) (db.trees inside)) in
-      let staged : a.staged ≡ flat_map below (db.trees outer) =
-      a.grouped ∙ flat_map_same_on _ below (λ x. pick_by_if (joins x) (pair x) (db.trees inside)) (db.trees outer) in
-      let shown : Env → Row = λ env. (output query env).1 in
-      let all : map shown (flat_map below (db.trees outer)) ≡ flat_map (λ x. map (shows_both x) (filter (joins x) (db.trees inside))) (db.trees outer) =
-      map-flat_map shown below (db.trees outer)
-      ∙ flat_map_same_on (λ x. map shown (below x)) (λ x. map (shows_both x) (filter (joins x) (db.trees inside))) (λ x.
-      map-map shown (pair x) (filter (joins x) (db.trees inside))) (db.trees outer) in
-      subst (λ ys. IsPermutation ys rows) all (shown_of a (flat_map below (db.trees outer)) staged a.distinct a.shown)
+      let a : IsAnswer (select (inner outer (inner inside end)) tests project) db.trees params rows = plain_answer h in
+      let below : Row → List Env = λ x. map (λ y. params ∷ x ∷ y ∷ []) (filter (joins x) (db.trees inside)) in
+      let staged : a.staged ≡ flat_map below (db.trees outer) = a.grouped ∙ simp pick_by_if in
+      simp (map-flat_map, map-map) at (shown_of a (flat_map below (db.trees outer)) staged a.distinct a.shown)
 
-module _ {X Y : Type 0} (outer_values : X → Row) (values : Y → Row) (params : Row) (tests : List Term) (project : List Term) (p : X → Y → Bool) (show : Y → Row)
-    (tested : (i j : ℤ) (x : X) (y : Y) → list_all (holds (params ∷ (Int i ∷ outer_values x) ∷ (Int j ∷ values y) ∷ [])) tests ≡ p x y)
-    (shown : (i j : ℤ) (x : X) (y : Y) → eval_all project (params ∷ (Int i ∷ outer_values x) ∷ (Int j ∷ values y) ∷ []) ≡ show y) where
-  pub selected_both : (outer inside : ℕ) (names : List (List ℕ)) (db : Database) (xs : List X) (ys : List Y) (rows : List Row)
-      → Holds outer_values (db.trees outer) xs → Holds values (db.trees inside) ys
-      → Reads (Select (record { lets = []; body = select (inner outer (inner inside end)) tests project }) names) db params rows
-      → IsPermutation (flat_map (λ x. map show (filter (p x) ys)) xs) rows
-  selected_both outer inside names db xs ys rows held_outer held h =
+module _ {X Y : Type 0} (outer_values : X → Row) (values : Y → Row) (p : X → Y → Bool) (show : Y → Row) {params : Row} {tests project : List Term} where
+  pub selected_both : {outer inside : ℕ} {db : Database} {rows : List Row}
+      → Answers db (record { lets = []; body = select (inner outer (inner inside end)) tests project }) params rows
+      → ((i j : ℤ) (x : X) (y : Y) → list_all (holds (params ∷ (Int i ∷ outer_values x) ∷ (Int j ∷ values y) ∷ [])) tests ≡ p x y)
+      → ((i j : ℤ) (x : X) (y : Y) → eval_all project (params ∷ (Int i ∷ outer_values x) ∷ (Int j ∷ values y) ∷ []) ≡ show y) → (xs : List X) (ys : List Y)
+      → Holds outer_values (db.trees outer) xs → Holds values (db.trees inside) ys → IsPermutation (flat_map (λ x. map show (filter (p x) ys)) xs) rows
+  selected_both {outer = outer} {inside = inside} {db = db} {rows = rows} h tested shown xs ys held_outer held =
       let it = with_rowids outer_values (db.trees outer) xs held_outer.same in
       let shows_of = λ (a : Row). map (shows_both params tests project a) (filter (joins params tests project a) (db.trees inside)) in
-      let show_of = λ (x : X). map show (filter (p x) ys) in
-      let all = ap (flat_map shows_of) it.rows_are ∙ flat_map-map shows_of (row_of outer_values) it.pairs
-      ∙ flat_map_same_on (λ q. shows_of (row_of outer_values q)) (λ q. show_of q.1) (λ q.
-      picked values (p q.1) show _ _ (λ id y. tested q.0 id q.1 y) (λ id y. shown q.0 id q.1 y) (db.trees inside) ys held.same) it.pairs
-      ∙ sym (ap (flat_map show_of) it.xs_are ∙ flat_map-map show_of (λ q. q.1) it.pairs) in
+      let all = ap (flat_map shows_of) it.rows_are ∙ simp flat_map-map (λ i. flat_map (λ q.
+      picked values (p q.1) show (joins params tests project (row_of outer_values q)) (shows_both params tests project (row_of outer_values q))
+      (λ id y. tested q.0 id q.1 y) (λ id y. shown q.0 id q.1 y) (db.trees inside) ys held.same i) it.pairs)
+      ∙ sym (ap (flat_map (λ x. map show (filter (p x) ys))) it.xs_are) in
       subst (λ zs. IsPermutation zs rows) all (answered_both params tests project outer inside db rows h)
 
 abbrev pub is_counted : ℕ → Bool
@@ -100,21 +91,9 @@ module _ (params : Row) (inside_tests tests project : List Term) where
       → Answers db (record { lets = []; body = select (inner outer (counted 1 (inner inside end) inside_tests end)) tests project }) params rows
       → IsPermutation (map (shown (db.trees inside)) (filter (passes (db.trees inside)) (db.trees outer))) rows
   answered_counted outer inside db rows h =
-      let query = select (inner outer (counted 1 (inner inside end) inside_tests end)) tests project in
-      let others = db.trees inside in
-      let a : IsAnswer query db.trees params rows = plain_answer h in
-      let inner_env : Row → Row → Env = λ row other. params ∷ row ∷ other ∷ [] in
-      let found : Row → ℕ = λ row. length (flat_map (λ other. cond (passes_inside row other) (inner_env row other ∷ []) []) others) in
-      let one : ℕ → Row → List Env = λ n row. cond (list_all (holds (with_count n row)) tests) (with_count n row ∷ []) [] in
-      let counts : (row : Row) → found row ≡ count_in others row = λ row.
-      ap length (pick_by_if (passes_inside row) (inner_env row) others) ∙ length-map (filter (passes_inside row) others) (inner_env row) in
-      let each : Row → Env = λ row. with_count (count_in others row) row in
-      let staged : a.staged ≡ map each (filter (passes others) (db.trees outer)) =
-      a.grouped
-      ∙ flat_map_same_on (λ row. one (found row) row) (λ row. one (count_in others row) row) (λ row. ap (λ n. one n row) (counts row)) (db.trees outer)
-      ∙ pick_by_if (passes others) each (db.trees outer) in
-      subst (λ ys. IsPermutation ys rows) (map-map (λ env. (output query env).1) each (filter (passes others) (db.trees outer)))
-      (shown_of a (map each (filter (passes others) (db.trees outer))) staged a.distinct a.shown)
+      let a : IsAnswer (select (inner outer (counted 1 (inner inside end) inside_tests end)) tests project) db.trees params rows = plain_answer h in
+      let staged = map (λ row. with_count (count_in (db.trees inside) row) row) (filter (passes (db.trees inside)) (db.trees outer)) in
+      simp map-map at (shown_of a staged (a.grouped ∙ simp (pick_by_if, length-map)) a.distinct a.shown)
 
   pub counts_elements : {X : Type 0} (values : X → Row) (p : X → Bool) → ((id : ℤ) (row : Row) (x : X) → passes_inside row (Int id ∷ values x) ≡ p x)
       → (others : List Row) (xs : List X) → Holds values others xs → (row : Row) → count_in others row ≡ length (filter p xs)
@@ -126,8 +105,10 @@ has_some (y ∷ xs) x has = omega arith
 
 lengths_alike : {X A B : Type 0} (f : X → List A) (g : X → List B) → ((x : X) → length (f x) ≡ length (g x)) → (xs : List X)
     → length (flat_map f xs) ≡ length (flat_map g xs)
-lengths_alike f g same [] = refl
-lengths_alike f g same (x ∷ xs) = grind (arith, length-append, same x, lengths_alike f g same xs)
+lengths_alike f g same xs = length-flat_map f xs ∙ (λ i. sum_by (λ x. same x i) xs) ∙ sym (length-flat_map g xs)
+
+count_mapped : {X A B : Type 0} (f : X → A → B) (g : X → List A) (xs : List X) → length (flat_map (λ x. map (f x) (g x)) xs) ≡ length (flat_map g xs)
+count_mapped f g = lengths_alike (λ x. map (f x) (g x)) g (λ x. length-map (g x) (f x))
 
 any_pair : {X Y : Type 0} (p : X → Y → Bool) (xs : List X) (ys : List Y) → 1 ≤ length (flat_map (λ x. filter (p x) ys) xs)
     → list_any (λ x. list_any (p x) ys) xs ≡ true
@@ -185,28 +166,8 @@ module _ (params : Row) (inside_tests pair_tests tests project : List Term) wher
       (filter (passes_both (db.trees inside) (db.trees one) (db.trees two)) (db.trees outer))) rows
   answered_counted_both outer inside one two db rows h =
       let query = select (inner outer (counted 1 (inner inside end) inside_tests (counted 1 (inner one (inner two end)) pair_tests end))) tests project in
-      let others = db.trees inside in
-      let ones = db.trees one in
-      let twos = db.trees two in
       let a : IsAnswer query db.trees params rows = plain_answer h in
-      let inner_env : Row → Row → Env = λ row other. params ∷ row ∷ other ∷ [] in
-      let pair_env : ℕ → Row → Row → Row → Env = λ n row x y. params ∷ row ∷ counts n ∷ x ∷ y ∷ [] in
-      let found : Row → ℕ = λ row.
-      length (flat_map (λ other. cond (passes_inside params inside_tests tests project row other) (inner_env row other ∷ []) []) others) in
-      let met : ℕ → Row → ℕ = λ n row.
-      length (flat_map (λ x. flat_map (λ y. cond (joins_inside n row x y) (pair_env n row x y ∷ []) []) twos) ones) in
-      let each : ℕ → ℕ → Row → List Env = λ n m row. cond (list_all (holds (with_counts n m row)) tests) (with_counts n m row ∷ []) [] in
-      let founds : (row : Row) → found row ≡ count_of others row = λ row.
-      ap length (pick_by_if (passes_inside params inside_tests tests project row) (inner_env row) others)
-      ∙ length-map (filter (passes_inside params inside_tests tests project row) others) (inner_env row) in
-      let mets : (n : ℕ) (row : Row) → met n row ≡ pairs_in ones twos n row = λ n row.
-      lengths_alike (λ x. flat_map (λ y. cond (joins_inside n row x y) (pair_env n row x y ∷ []) []) twos) (λ x. filter (joins_inside n row x) twos) (λ x.
-      ap length (pick_by_if (joins_inside n row x) (pair_env n row x) twos) ∙ length-map (filter (joins_inside n row x) twos) (pair_env n row x)) ones in
-      let last : Row → Env = λ row. with_counts (count_of others row) (pairs_in ones twos (count_of others row) row) row in
-      let staged : a.staged ≡ map last (filter (passes_both others ones twos) (db.trees outer)) =
-      a.grouped ∙ flat_map_same_on (λ row. each (found row) (met (found row) row) row)
-      (λ row. each (count_of others row) (pairs_in ones twos (count_of others row) row) row)
-      (λ row. ap (λ n. each n (met n row) row) (founds row) ∙ ap (λ m. each (count_of others row) m row) (mets (count_of others row) row)) (db.trees outer)
-      ∙ pick_by_if (passes_both others ones twos) last (db.trees outer) in
-      subst (λ ys. IsPermutation ys rows) (map-map (λ env. (output query env).1) last (filter (passes_both others ones twos) (db.trees outer)))
-      (shown_of a (map last (filter (passes_both others ones twos) (db.trees outer))) staged a.distinct a.shown)
+      let passing = filter (passes_both (db.trees inside) (db.trees one) (db.trees two)) (db.trees outer) in
+      let last : Row → Env = λ row.
+      with_counts (count_of (db.trees inside) row) (pairs_in (db.trees one) (db.trees two) (count_of (db.trees inside) row) row) row in
+      simp map-map at (shown_of a (map last passing) (a.grouped ∙ simp (pick_by_if, length-map, count_mapped)) a.distinct a.shown)

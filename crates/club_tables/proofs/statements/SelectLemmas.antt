@@ -12,8 +12,7 @@ use Rattle.club_tables.proofs.Common.{option_to_list, Contains, not, list_any, l
 use Rattle.club_tables.proofs.Common.{IsAscending}
 use Rattle.std.{proofs.lemmas.{List.Kept.AllPairs-cons, Map.Text.is_eq-slice_cmp}, specs.declared.cmp.Ordering.Ordering}
 use Rattle.sqlite_value.specs.declared.keys.Key.{Key}
-pub use Rattle.sqlite_trees.proofs.ListLemmas.{filter_same}
-pub use Rattle.sqlite_trees.proofs.ListLemmas.{filter_none as none_pass}
+pub use Rattle.sqlite_trees.proofs.ListLemmas.{filter_same, filter_none as none_pass}
 
 pub from_truth_is : (b : Bool) → is_true (from_truth (Some b)) ≡ b
 from_truth_is b = grind arith
@@ -66,12 +65,8 @@ module _ (params : Row) (tests : List Term) (project : List Term) where
   pub answered : (tree : ℕ) (db : Database) (rows : List Row) → Answers db (record { lets = []; body = select (inner tree end) tests project }) params rows
       → IsPermutation (map shows (filter test (db.trees tree))) rows
   answered tree db rows h =
-      let query = select (inner tree end) tests project in
-      let a : IsAnswer query db.trees params rows = plain_answer h in
-      let each : Row → Env = λ row. params ∷ row ∷ [] in
-      let staged : a.staged ≡ map each (filter test (db.trees tree)) = a.grouped ∙ pick_by_if test each (db.trees tree) in
-      subst (λ ys. IsPermutation ys rows) (map-map (λ env. (output query env).1) each (filter test (db.trees tree)))
-      (shown_of a (map each (filter test (db.trees tree))) staged a.distinct a.shown)
+      let a : IsAnswer (select (inner tree end) tests project) db.trees params rows = plain_answer h in
+      simp map-map at (shown_of a _ (a.grouped ∙ pick_by_if test (λ row. params ∷ row ∷ []) (db.trees tree)) a.distinct a.shown)
 
 -- The row of an element: its rowid, and then its values.
 abbrev pub row_of : {X : Type 0} → (X → Row) → ℤ × X → Row
@@ -190,33 +185,22 @@ pub record InOrder {X : Type 0} (show : X → Row) (cmp : X → X → Ordering) 
   pub sorted : IsSorted cmp ordered
   pub shown : rows ≡ map show ordered
 
-module _ {X : Type 0} (values : X → Row) (params : Row) (tests project : List Term) (order : List (Term × Key)) (p : X → Bool) (show sort : X → Row)
-    (tested : (id : ℤ) (x : X) → list_all (holds (params ∷ (Int id ∷ values x) ∷ [])) tests ≡ p x)
-    (shown : (id : ℤ) (x : X) → eval_all project (params ∷ (Int id ∷ values x) ∷ []) ≡ show x)
-    (keyed : (id : ℤ) (x : X) → eval_all (map (λ k. k.0) order) (params ∷ (Int id ∷ values x) ∷ []) ≡ sort x) where
-  abbrev query : ℕ → Query
-  query tree = record (select (inner tree end) tests project) { order = order }
-
-  abbrev each : Row → Env
-  each row = params ∷ row ∷ []
-
-  abbrev out : X → Output
-  out x = (sort x, show x)
-
-  yields : (tree : ℕ) (id : ℤ) (x : X) → output (query tree) (each (Int id ∷ values x)) ≡ out x
-  yields tree id x = let k = keyed id x in let s = shown id x in λ i. (k i, s i)
-
-  pub selected_in_order : (tree : ℕ) (names : List (List ℕ)) (db : Database) (xs : List X) (rows : List Row) → Holds values (db.trees tree) xs
-      → Reads (Select (record { lets = []; body = query tree }) names) db params rows
-      → InOrder show (λ x y. key_cmp 0 (map (λ k. k.1) order) (sort x) (sort y)) (filter p xs) rows
-  selected_in_order tree names db xs rows held h =
-      let q = query tree in
+module _ {X : Type 0} (values : X → Row) (p : X → Bool) (show sort : X → Row) {params : Row} {tests project : List Term} {order : List (Term × Key)} where
+  pub selected_in_order : {tree : ℕ} {db : Database} {rows : List Row}
+      → Answers db (record { lets = []; body = record (select (inner tree end) tests project) { order = order } }) params rows
+      → ((id : ℤ) (x : X) → list_all (holds (params ∷ (Int id ∷ values x) ∷ [])) tests ≡ p x)
+      → ((id : ℤ) (x : X) → eval_all project (params ∷ (Int id ∷ values x) ∷ []) ≡ show x)
+      → ((id : ℤ) (x : X) → eval_all (map (λ k. k.0) order) (params ∷ (Int id ∷ values x) ∷ []) ≡ sort x)
+      → (xs : List X) → Holds values (db.trees tree) xs → InOrder show (λ x y. key_cmp 0 (map (λ k. k.1) order) (sort x) (sort y)) (filter p xs) rows
+  selected_in_order {tree = tree} {db = db} {rows = rows} h tested shown keyed xs held =
+      let q = record (select (inner tree end) tests project) { order = order } in
       let a : IsAnswer q db.trees params rows = plain_answer h in
-      let passes = test params tests project in
-      let staged : a.staged ≡ map each (filter passes (db.trees tree)) = a.grouped ∙ pick_by_if passes each (db.trees tree) in
+      let out : X → Output = λ x. (sort x, show x) in
+      let each : Row → Env = λ row. params ∷ row ∷ [] in
+      let yields : (id : ℤ) (x : X) → output q (each (Int id ∷ values x)) ≡ out x = λ id x i. (keyed id x i, shown id x i) in
       let kept : a.kept ≡ map out (filter p xs) =
-      a.distinct ∙ ap (map (output q)) staged ∙ map-map (output q) each (filter passes (db.trees tree))
-      ∙ picked values p out passes (λ row. output q (each row)) tested (yields tree) (db.trees tree) xs held.same in
+      a.distinct ∙ ap (map (output q)) (a.grouped ∙ pick_by_if (test params tests project) each (db.trees tree)) ∙ map-map (output q) each _
+      ∙ picked values p out (test params tests project) (λ row. output q (each row)) tested yields (db.trees tree) xs held.same in
       let back = pull_back out a.kept a.ordered a.same (filter p xs) kept in
       record {
         ordered = back.0;

@@ -1,5 +1,4 @@
-use Rattle.club_tables.proofs.Common.{arith, nat_tests}
-use Rattle.club_tables.proofs.changes.{NumberLemmas.numbers_if_fits, WriteLemmas.{quota_if_fits, refund_if_fits}}
+use Rattle.club_tables.proofs.{Common.{arith, nat_tests}, changes.{NumberLemmas.numbers_if_fits, WriteLemmas.{quota_if_fits, refund_if_fits}}}
 use Rattle.club_tables.proofs.writes.is_within.Goals as goal
 
 pub returns-in-ReplaceQuota-clause-unfit : goal.returns-in-ReplaceQuota-clause-unfit
