@@ -1,17 +1,14 @@
 -- Lemmas about the database that a crash leaves, and about the store that opens the database
 -- afterwards.
-use Rattle.std.proofs.{Common.{◌≡◌, List, [], ◌∷◌, length, IsTrue, inl, inr, map, refl, sym, ap, subst, arith}, Math.Logic.{∥∥₁_map}}
-use Rattle.std.specs.List.{AllZip}
-use Rattle.sqlite_catalog.specs.Listing.{IsSound, AreListed, IsTableRow, IsIndexRow, IsViewRow, cut}
-use Rattle.sqlite_catalog.proofs.ReadLemmas.{reads, read_once}
-use Rattle.sqlite_trees.specs.Objects.{catalog_tree}
-use Rattle.sqlite_disk.specs.declared.Disk.{Ghosts}
-use Rattle.sqlite.specs.{Effect.{Database, IsDatabase}, FileStore.recovers, Held.AreDatabases, Recovery.Image, Schema.Schema, Start.FindsIn}
-use Rattle.sqlite.specs.{State.{State, Opens, IsLive}, Tree.Trees, declared.FileStore.FileStore}
-use Rattle.sqlite.proofs.Theorems.{opens_again}
+use Rattle.std.{proofs.{Common.{◌≡◌, List, [], ◌∷◌, length, IsTrue, inl, inr, map, refl, sym, ap, subst, arith}, Math.Logic.∥∥₁_map}, specs.List.AllZip}
 use Rattle.club_core.specs.Club.{Club, empty_club}
-use Rattle.club_tables.specs.{Schema.no_schema, Tables.{HoldsClubAnyVersion, IsLeftOf, Represents, IsFound}}
 use Rattle.club_store.specs.Crash.{RepresentsOne, OneIsFound, HoldsOneOf, CrashLeaves}
+use Rattle.club_tables.specs.{Schema.no_schema, Tables.{HoldsClubAnyVersion, IsLeftOf, Represents, IsFound}}
+use Rattle.sqlite.{proofs.Theorems.opens_again, specs.{Effect.{Database, IsDatabase}, FileStore.recovers, Held.AreDatabases, Recovery.Image, Schema.Schema}}
+use Rattle.sqlite.specs.{Start.FindsIn, State.{State, Opens, IsLive}, Tree.Trees, declared.FileStore.FileStore}
+use Rattle.sqlite_catalog.{proofs.ReadLemmas.{reads, read_once}, specs.Listing.{IsSound, AreListed, IsTableRow, IsIndexRow, IsViewRow, cut}}
+use Rattle.sqlite_disk.specs.declared.Disk.{Ghosts}
+use Rattle.sqlite_trees.specs.Objects.{catalog_tree}
 
 -- Every crash leaves exactly the committed contents of the database.
 abbrev IsSettled : State → Type 0

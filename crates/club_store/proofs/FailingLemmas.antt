@@ -1,11 +1,10 @@
 -- Lemmas for the proof that `Store` implements `ClubStore`.
-use Rattle.std.specs.Prelude.{Option, Some, None, Result, Ok, Err, IfErr}
 use Rattle.std.proofs.{Common.{arith, [], ◌∷◌, Ok, Err}, lemmas.{List.Elements.{All-cons, All-head, All-nil, All-tail}, Result.MatchResult-weaker}}
+use Rattle.std.specs.Prelude.{Option, Some, None, Result, Ok, Err, IfErr}
 use Rattle.club_core.specs.{After.after, Club.{Club, IsSound}, Store.{Changes, ReadsStore}, declared.{change.Change.Change, store.StoreFault.StoreFault}}
-use Rattle.sqlite.specs.{Held.{Held, state}, State.HasCleanDisk, Store.Ghosts}
+use Rattle.club_store.{proofs.ReadingLemmas.{change_fault, later_fault}, specs.Failing.{Fails, over_connection}}
 use Rattle.club_tables.specs.ReadsAndChanges.{ChangesClub, ReadsClub, sound_in, represents_in}
-use Rattle.club_store.specs.Failing.{Fails, over_connection}
-use Rattle.club_store.proofs.ReadingLemmas.{change_fault, later_fault}
+use Rattle.sqlite.specs.{Held.{Held, state}, State.HasCleanDisk, Store.Ghosts}
 
 fails_since : {S A : Type 0} {g : Ghosts S} {old new : Held S} {first : Result A StoreFault} {IsReturned : Club → A → Type 0}
     → ReadsClub g old new first IsReturned → HasCleanDisk (state g new) → (wish : Option Change) (fault : StoreFault) (later : Held S)

@@ -1,11 +1,10 @@
 -- Lemmas about calls to the store that read several times, or that read and then apply a change.
-use Rattle.std.proofs.Common.{◌≡◌, Result, Ok, Err, IfOk, IsErrAnd, inl, inr, sym, ◌∙◌, arith, rules}
-use Rattle.std.proofs.lemmas.Result.{IfOk-weaker, IfErr-weaker, err_from_is_err_and}
-use Rattle.sqlite.specs.{Held.{Held, state}, State.{State, HasCleanDisk}, Store.Ghosts}
-use Rattle.sqlite.proofs.StateLemmas.{survives_then}
+use Rattle.std.proofs.{Common.{◌≡◌, Result, Ok, Err, IfOk, IsErrAnd, inl, inr, sym, ◌∙◌, arith, rules}, lemmas.Result.{IfOk-weaker, IfErr-weaker}}
+use Rattle.std.proofs.lemmas.Result.{err_from_is_err_and}
 use Rattle.club_core.specs.{Club.Club, declared.{change.Change.Change, store.StoreFault.StoreFault}}
-use Rattle.club_tables.specs.{Answers.{IsAfterReadings, IsReadFault}, ReadsAndChanges.ReadsClub, Transaction.IsUntouched}
 use Rattle.club_store.specs.{Failing.FailsToChange, Opening.SurvivesOpening}
+use Rattle.club_tables.specs.{Answers.{IsAfterReadings, IsReadFault}, ReadsAndChanges.ReadsClub, Transaction.IsUntouched}
+use Rattle.sqlite.{proofs.StateLemmas.survives_then, specs.{Held.{Held, state}, State.{State, HasCleanDisk}, Store.Ghosts}}
 
 pub untouched_then : (a b c : State) → (HasCleanDisk c → HasCleanDisk b) → IsUntouched a b → IsUntouched b c → IsUntouched a c
 untouched_then a b c earlier first next rest clean is_open =

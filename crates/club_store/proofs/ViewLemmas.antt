@@ -1,12 +1,10 @@
 -- Lemmas for the proof of `Store::view`, which reads the rows of a view one after another.
 use Rattle.std.proofs.{Common.{◌≡◌, ℕ, suc, Bool, true, List, [], ◌∷◌, Option, Some, None, refl, sym, ap, ◌∙◌, arith, inl, inr}, lemmas.Bool.cases_Bool}
-use Rattle.std.proofs.lemmas.Slice.Eq.{bytes_eq-Decides}
-use Rattle.std.specs.{Prelude.{find, Contains, option_map, option_and_then}, Str.bytes_eq}
+use Rattle.std.{proofs.lemmas.Slice.Eq.bytes_eq-Decides, specs.{Prelude.{find, Contains, option_map, option_and_then}, Str.bytes_eq}}
+use Rattle.club_core.specs.{Basis.{account_named, club_account, key_view_in, state_of}, Club.{Club, bookings_of, key_named, member_named}, Laws.OwnBookings}
+use Rattle.club_core.specs.{Laws.HasOwnBookings, Request.{request_number, request_slot}, Sums.{balance_of, booking_under, count_to_come, spent_under}}
+use Rattle.club_core.specs.declared.{account.MemberAccount.MemberAccount, request.Request.Request}
 use Rattle.club_rows.specs.{Key.{key_of_row, row_of_key}, declared.{key.{Key.Key, KeyRow.KeyRow, OlderRoot.OlderRoot}, member.Member.Member}}
-use Rattle.club_core.specs.{Basis.{account_named, club_account, key_view_in, state_of}, Club.{Club, bookings_of, key_named, member_named}}
-use Rattle.club_core.specs.{Laws.{OwnBookings, HasOwnBookings}, Request.{request_number, request_slot}}
-use Rattle.club_core.specs.{Sums.{balance_of, booking_under, count_to_come, spent_under}, declared.account.MemberAccount.MemberAccount}
-use Rattle.club_core.specs.declared.request.Request.{Request}
 
 pub found : {X : Type 0} (p : X → Bool) (xs : List X) (x : X) → find p xs ≡ Some x → Contains xs x × (p x ≡ true)
 found p [] x h = absurd (cc)
