@@ -1,7 +1,6 @@
 -- Lemmas for editing the elements of a list one by one.
 use Rattle.std.proofs.Common.{◌≡◌, ℕ, ◌+◌, ◌<◌, zero, suc, List, [], ◌∷◌, ◌++◌, length, take, drop, get_or, set, refl, arith, ◌∙◌, sym, ap, subst, add-one}
-use Rattle.std.proofs.lemmas.List.{get_or-map, length-map}
-use Rattle.std.specs.Prelude.{map, All}
+use Rattle.std.{proofs.lemmas.List.{get_or-map, length-map}, specs.Prelude.{map, All}}
 
 -- The list after `f` has edited the elements before index `i`.
 abbrev pub edited : {X : Type 0} → (X → X) → ℕ → List X → List X
@@ -20,10 +19,7 @@ edited-next f (suc i) (x ∷ xs) d h = ap (λ ys. f x ∷ ys) (edited-next f i x
 
 pub edited_more : {X : Type 0} (f : X → X) (i : ℕ) (xs ys : List X) (x y : X) → i < length xs → ys ≡ edited f i xs → y ≡ f (get_or ys i x)
     → set ys i y ≡ edited f (i + 1) xs
-edited_more f i xs ys x y h same made =
-    ap (λ z. set ys i z) made
-    ∙ (ap (λ zs. set zs i (f (get_or zs i x))) same
-    ∙ (edited-next f i xs x h ∙ ap (λ n. edited f n xs) (sym (add-one i))))
+edited_more f i xs ys x y h same made = grind (arith, edited-next f i xs x h, add-one i)
 
 pub holds_next : {X : Type 0} (P : X → Type 0) (f : X → X) (i : ℕ) (xs ys : List X) (x : X) → i < length xs → ys ≡ edited f i xs → All P (map f xs)
     → P (f (get_or ys i x))

@@ -2,13 +2,12 @@
 use Rattle.std.proofs.{Common.{arith, ◌≡◌, ℕ, List, [], ◌∷◌, map, Option, Some, None, refl, sym, ap, subst, Decides}, Math.Path.fun_ext}
 use Rattle.std.proofs.lemmas.{Bool.Decides.{same_from_decides, Decides-like, Decides-by_or}, List.Elements.at_from_Contains, Slice.Eq.bytes_eq-Decides}
 use Rattle.std.specs.{List.list_any, Prelude.{Contains, Result, Ok, Err, option_map}, Str.bytes_eq, Vec.vec_items}
-use Rattle.pass_caveats.specs.{Caveat.Understood, Fault.AreUnderstoodAs, Laws.ReadsWhatIsUnderstood, computed.CaveatOf.caveat_of, declared.caveat.Caveat.Caveat}
-use Rattle.club_values.specs.Reading.{Reads}
 use Rattle.club_core.specs.{Answer.answer_to, Basis.{Basis, seen_of}, Pass.{Pass, Words}, Solo.with_others, declared.pass_fault.PassFault.PassFault}
 use Rattle.club_core.specs.declared.{request.Request.Request, slot_use.SlotUse.SlotUse}
-use Rattle.club_reference.specs.{Laws.ModelsWords, Solo.with_outside, Words.{IsModelOf, IsPassModel, IsResultModel, answer_seen}}
-use Rattle.club_reference.specs.{computed.Words.{pass_model, pass_result_model, words_model}, declared.words.Pass.Pass as PassInCode}
-use Rattle.club_reference.specs.declared.words.Words.{Words as WordsInCode}
+use Rattle.club_reference.specs.{Laws.ModelsWords, Solo.with_outside, Words.{IsModelOf, IsPassModel, IsResultModel, answer_seen}, computed.Words.pass_model}
+use Rattle.club_reference.specs.{computed.Words.{pass_result_model, words_model}, declared.words.{Pass.Pass as PassInCode, Words.Words as WordsInCode}}
+use Rattle.club_values.specs.Reading.{Reads}
+use Rattle.pass_caveats.specs.{Caveat.Understood, Fault.AreUnderstoodAs, Laws.ReadsWhatIsUnderstood, computed.CaveatOf.caveat_of, declared.caveat.Caveat.Caveat}
 
 Decides-signed : (roots : List (List ℕ)) (root : List ℕ) → Decides (list_any (λ other. bytes_eq other root) roots) (Contains roots root)
 Decides-signed roots root =
@@ -23,8 +22,7 @@ module _ (reads : ReadsWhatIsUnderstood) where
 
   one_reading : (text : List ℕ) (one : Option Caveat) → Reads (Understood text) one → caveat_of text ≡ one
   one_reading text (Some caveat) h = (reads text caveat).0 h
-  one_reading text None h =
-      let never = λ (caveat : Caveat) (e : caveat_of text ≡ Some caveat). h caveat ((reads text caveat).1 e) in grind (arith, never)
+  one_reading text None h = let never = λ (caveat : Caveat) (e : caveat_of text ≡ Some caveat). h caveat ((reads text caveat).1 e) in grind (arith, never)
 
   all_read : (texts : List (List ℕ)) → AreUnderstoodAs texts (map caveat_of texts)
   all_read [] = tt
@@ -32,10 +30,7 @@ module _ (reads : ReadsWhatIsUnderstood) where
 
   one_list : (texts : List (List ℕ)) (caveats : List (Option Caveat)) → AreUnderstoodAs texts caveats → map caveat_of texts ≡ caveats
   one_list [] [] h = refl
-  one_list (text ∷ texts) (caveat ∷ caveats) h =
-      let here = one_reading text caveat h.0 in
-      let rest = one_list texts caveats h.1 in
-      cc
+  one_list (text ∷ texts) (caveat ∷ caveats) h = cc (one_reading text caveat h.0, one_list texts caveats h.1)
   one_list texts caveats h = absurd h
 
   is_model : (pass : PassInCode) → IsPassModel pass (pass_model pass)
@@ -50,9 +45,7 @@ module _ (reads : ReadsWhatIsUnderstood) where
       let computed = pass_model pass in
       let caveats = one_list (map vec_items pass.caveats.items) model.caveats h.caveats in
       let roots : computed.is_signed ≡ model.is_signed =
-      fun_ext (λ (root : List ℕ).
-      sym (same_from_decides (model.is_signed root) (computed.is_signed root) (h.signed root) (Decides-signed pass.roots.items root)))
-      in
+      fun_ext (λ (root : List ℕ). sym (same_from_decides _ _ (h.signed root) (Decides-signed pass.roots.items root))) in
       λ i. record { key = sym h.key i; caveats = caveats i; is_signed = roots i }
 
   is_result_model : (pass : Result PassInCode PassFault) → IsResultModel pass (pass_result_model pass)
@@ -65,14 +58,10 @@ module _ (reads : ReadsWhatIsUnderstood) where
   one_result pass model h = absurd h
 
   one_of : (words : WordsInCode) (model : Words) → IsModelOf words model → words_model words ≡ model
-  one_of words model h =
-      let pass = one_result words.pass model.pass h.0 in
-      let request = sym h.1 in
-      λ i. record { pass = pass i; request = request i }
+  one_of words model h = let pass = one_result words.pass model.pass h.0 in λ i. record { pass = pass i; request = sym h.1 i }
 
   pub models_words : ModelsWords
-  models_words words model =
-      (one_of words model, λ e. subst (λ (m : Words). IsModelOf words m) e (is_result_model words.pass, refl))
+  models_words words model = (one_of words model, λ e. subst (λ (m : Words). IsModelOf words m) e (is_result_model words.pass, refl))
 
 pub their_model : ModelsWords → (words : WordsInCode) → IsModelOf words (words_model words)
 their_model law words = (law words (words_model words)).1 refl

@@ -1,8 +1,7 @@
-use Rattle.std.proofs.Common.{◌≡◌}
 use Rattle.club_reference.proofs.EditLemmas.{edited}
-use Rattle.club_core.specs.After as after
+use Rattle.std.proofs.Common.{◌≡◌}
+use Rattle.club_core.specs.After.{facility_with_numbers}
 use Rattle.club_reference.proofs.edits.set_numbers.Given as goal
 
 abbrev pub invariant-loop-facility : goal.invariant-loop-facility
-invariant-loop-facility l =
-    l.facilities ≡ edited (after.facility_with_numbers l.name l.places l.price l.opens l.shuts) l.facility-index l.initial.facilities
+invariant-loop-facility l = l.facilities ≡ edited (facility_with_numbers l.name l.places l.price l.opens l.shuts) l.facility-index l.initial.facilities

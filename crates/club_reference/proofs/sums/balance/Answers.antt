@@ -1,7 +1,6 @@
+use Rattle.club_reference.{proofs.WidthLemmas.fold_less, specs.Ownership.own_bookings}
 use Rattle.std.proofs.Common.{◌∙◌}
 use Rattle.club_core.specs.Sums.{cost_of}
-use Rattle.club_reference.specs.Ownership.{own_bookings}
-use Rattle.club_reference.proofs.WidthLemmas.{fold_less}
 use Rattle.club_reference.proofs.sums.balance.Goals as goal
 
 pub returns : goal.returns

@@ -1,5 +1,4 @@
-use Rattle.std.proofs.{Common.{◌∙◌, ◌==◌, ◌&&◌, rules, tests}, lemmas.Iterator.{YieldsList-from_slice, Search.find_from_yields_List}}
-use Rattle.std.specs.Str.{bytes_eq}
+use Rattle.std.{proofs.{Common.{◌∙◌, ◌==◌, ◌&&◌, rules, tests}, lemmas.Iterator.{YieldsList-from_slice, Search.find_from_yields_List}}, specs.Str.bytes_eq}
 use Rattle.club_rows.specs.declared.booking.Booking.{Booking}
 use Rattle.club_reference.proofs.sums.booking_under.Goals as goal
 

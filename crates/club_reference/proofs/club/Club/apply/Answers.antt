@@ -1,7 +1,7 @@
 use Rattle.std.proofs.{Common.{◌≡◌, List, length, map, sym, ap, subst, ◌∙◌}, lemmas.List.{length-map, with_items_is}}
-use Rattle.club_rows.specs.declared.booking.Booking.{Booking}
 use Rattle.club_core.specs.{After.{after, cancelled_booking}, Club.Club, declared.change.Change.Change}
 use Rattle.club_reference.specs.{Rows.rows_of, Widths.FitsWidths}
+use Rattle.club_rows.specs.declared.booking.Booking.{Booking}
 use Rattle.club_reference.proofs.club.Club.apply.Goals as goal
 
 -- After a cancellation, the club still satisfies its invariant.

@@ -1,5 +1,4 @@
-use Rattle.std.proofs.{Common.{◌∙◌, ap, rules, tests}, lemmas.Iterator.{YieldsList-from_slice, Search.find_from_yields_List}}
-use Rattle.std.specs.Str.{bytes_eq}
+use Rattle.std.{proofs.{Common.{◌∙◌, ap, rules, tests}, lemmas.Iterator.{YieldsList-from_slice, Search.find_from_yields_List}}, specs.Str.bytes_eq}
 use Rattle.club_rows.specs.declared.key.Key.{Key}
 use Rattle.club_core.specs.Club.{Club as Rows, key_named}
 use Rattle.club_reference.proofs.club.Club.key_named.Goals as goal

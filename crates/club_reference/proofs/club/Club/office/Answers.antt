@@ -1,5 +1,5 @@
-use Rattle.std.proofs.Common.{◌∙◌, sym}
 use Rattle.club_reference.proofs.WidthLemmas.{fits_after, allows_command}
+use Rattle.std.proofs.Common.{◌∙◌, sym}
 use Rattle.club_reference.proofs.club.Club.office.Goals as goal
 
 pub apply-requires : goal.apply-requires

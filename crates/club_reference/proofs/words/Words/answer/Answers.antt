@@ -1,5 +1,4 @@
-use Rattle.club_reference.specs.computed.Words.{words_model}
-use Rattle.club_reference.proofs.WordLemmas.{their_model}
+use Rattle.club_reference.{proofs.WordLemmas.their_model, specs.computed.Words.words_model}
 use Rattle.club_reference.proofs.words.Words.answer.Goals as goal
 
 pub returns : goal.returns
