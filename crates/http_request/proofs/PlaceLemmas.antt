@@ -1,14 +1,12 @@
 -- This file proves that `place_of` computes the place that a target names.
-use Rattle.http_request.proofs.Common.{◌≡◌, ℕ, ◌==◌, Bool, true, false, cond, List, [], ◌∷◌, Option, Some, None, codes, refl, sym, ap, ◌∙◌, arith, ◌&&◌, nat_le}
+use Rattle.http_request.proofs.Common.{◌≡◌, ℕ, Bool, true, cond, List, [], ◌∷◌, Option, Some, None, codes, refl, sym, ap, ◌∙◌, arith, ◌&&◌, nat_le}
 use Rattle.http_request.proofs.Common.{option_map, IfSome, bytes_eq, cond-true, eqb-true, nat_tests, segments, account_at, place_of, under_root, under_slots}
-use Rattle.http_request.proofs.Common.{ReadsPlaces}
-use Rattle.std.specs.Fmt.{decimal}
-use Rattle.std.proofs.lemmas.{Option.IfSome_then, Slice.Eq.bytes_eq-Decides}
+use Rattle.http_request.{proofs.Common.ReadsPlaces, specs.{Path.{HasRealValues, IsPlace, place_parts}, computed.Parts.{number_of_text, slot_of_parts}}}
+use Rattle.http_request.specs.{computed.Parts.{within_limits, ◌>>=◌}, declared.path.Place.Place}
+use Rattle.std.{proofs.lemmas.Slice.Eq.bytes_eq-Decides, specs.Fmt.decimal}
+use Rattle.club_rows.specs.{Limits.{IsBookingNumber, booking_number_limit}, Rows.IsSlot}
 use Rattle.club_values.specs.{Day.day_text, Digits.two_digits, Laws.{IsTextOfDay, ReadsDays, ReadsHours, ReadsNames, ReadsNumbers}}
 use Rattle.club_values.specs.{computed.TextOf.{name_of_text, day_of_text, hour_of_text}, declared.slot.Slot.Slot}
-use Rattle.club_rows.specs.{Limits.{IsBookingNumber, booking_number_limit}, Rows.IsSlot}
-use Rattle.http_request.specs.{Path.{HasRealValues, IsPlace, place_parts}, computed.Parts.{number_of_text, slot_of_parts, within_limits, ◌>>=◌}}
-use Rattle.http_request.specs.declared.path.Place.{Place}
 
 if_all : {A : Type 0} (P : A → Type 0) (test : Bool) (found : Option A) → (test ≡ true → IfSome found P) → IfSome (cond test found None) P
 if_all P test found is = grind arith
@@ -65,17 +63,10 @@ module _ (names : ReadsNames) (days : ReadsDays) (texts : IsTextOfDay) (hours : 
       (record { facility = rw name.1 name.0; day = date.0; hour = time.within }, sym name.1, date.1, time.spelling))))
 
   slots_spelled : (parts : List (List ℕ)) → IfSome (under_slots parts) (Spells (codes "slots" ∷ parts))
-  slots_spelled (facility ∷ day ∷ hour ∷ []) = then_all _ (slot_of_parts facility day hour) _ (λ slot e.
-      let is = rw e at (slot_spelled facility day hour) in
-      (cc (is.1, is.2, is.3), is.0))
-  slots_spelled (facility ∷ day ∷ hour ∷ word ∷ []) = then_all _ (slot_of_parts facility day hour) _ (λ slot e. tt)
-  slots_spelled (facility ∷ day ∷ hour ∷ word ∷ number ∷ []) = then_all _ (slot_of_parts facility day hour) _ (λ slot e.
-      let is = rw e at (slot_spelled facility day hour) in
-      if_all _ (bytes_eq word (codes "bookings")) _ (λ test. map_all _ (number_of_text number) _ (λ n spelled.
-      let booked = rw spelled at (number_spelled number) in
-      (cc (is.1, is.2, is.3, same word (codes "bookings") test, booked.1), (is.0, booked.0)))))
-  slots_spelled (facility ∷ day ∷ hour ∷ word ∷ number ∷ other ∷ parts) = then_all _ (slot_of_parts facility day hour) _ (λ slot e. tt)
-  slots_spelled parts = tt
+  slots_spelled (facility ∷ day ∷ hour ∷ []) = grind (arith, slot_spelled facility day hour)
+  slots_spelled (facility ∷ day ∷ hour ∷ word ∷ number ∷ []) =
+      grind (arith, slot_spelled facility day hour, number_spelled number, same word (codes "bookings"))
+  slots_spelled parts = grind arith
 
   account_spelled : (word : List ℕ) (parts : List (List ℕ)) → IfSome (account_at word parts) (Spells (word ∷ parts))
   account_spelled word [] = if_all _ (bytes_eq word (codes "account")) _ (λ test. (ap (λ (w : List ℕ). w ∷ []) (same word (codes "account") test), tt))
@@ -83,17 +74,11 @@ module _ (names : ReadsNames) (days : ReadsDays) (texts : IsTextOfDay) (hours : 
 
   root_spelled : (parts : List (List ℕ)) → IfSome (under_root parts) (Spells parts)
   root_spelled [] = tt
-  root_spelled (word ∷ parts) = elim (bytes_eq word (codes "slots")) as (λ is. bytes_eq word (codes "slots") ≡ is
-      → IfSome (cond is (under_slots parts) (account_at word parts)) (Spells (word ∷ parts))) [
-        | true ↦ λ is. rw (same word (codes "slots") is) (slots_spelled parts)
-        | false ↦ λ is. account_spelled word parts
-      ] refl
+  root_spelled (word ∷ parts) = grind (arith, same word (codes "slots"), slots_spelled parts, account_spelled word parts)
 
   target_spelled : (target : List ℕ) → IfSome (place_of target) (IsPlace target)
   target_spelled [] = tt
-  target_spelled (byte ∷ path) = if_all _ (byte == 47) _ (λ slash.
-      IfSome_then _ {P = Spells (segments path)} {Q = IsPlace (byte ∷ path)} (root_spelled (segments path)) (λ place is.
-      record { path = path; slash = ap (λ (b : ℕ). b ∷ path) (eqb-true byte 47 slash); parts = is.0; real = is.1 }))
+  target_spelled (byte ∷ path) = grind (arith, root_spelled (segments path), eqb-true byte 47)
 
   target_found : (target : List ℕ) (place : Place) → IsPlace target place → place_of target ≡ Some place
   target_found target place h = ap place_of h.slash ∙ (ap under_root h.parts ∙ place_found place h.real)

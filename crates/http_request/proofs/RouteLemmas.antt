@@ -1,13 +1,110 @@
--- This file proves that every place of the desk has a route.
-use Rattle.http_request.proofs.Common.{◌≡◌, ℕ, ◌<◌, List, [], ◌∷◌, ◌++◌, length, Some, true, false, cond, ◌==◌, append-nil, codes, refl, sym, ap, subst, ◌∙◌}
-use Rattle.http_request.proofs.{Common.{arith, IsSome, eqb-true, ReadsPlaces, with_front, segments}, Segments.first_part}
-use Rattle.http_request.proofs.Walks.{over_bytes, over_part, takes_two, takes_one, takes_last, takes_end}
-use Rattle.std.specs.Fmt.{decimal}
-use Rattle.std.proofs.lemmas.Fmt.{decimal_nonempty}
-use Rattle.matchit.specs.{Rows.{RowsOf, param_token}, Seek.{has_slash, seek, first, own, step, param_step}}
-use Rattle.club_values.specs.{Day.day_text, Digits.two_digits}
-use Rattle.http_request.specs.{Path.{HasRealValues, IsPlace, place_parts}, Routes.KnowsPlaces, declared.path.Place.Place}
-use Rattle.http_request.specs.declared.path.Place.TheVariants.{SlotPlace, BookingPlace, AccountPlace}
+-- This file proves that every place of the desk has a route. It has lemmas about the parts of a path
+-- between its slashes, and about matchit's search for the route of a path.
+use Rattle.std.{proofs.lemmas.{Fmt.decimal_nonempty, Grind.common_steps}, specs.{Cmp.Lexicographic.pointwise, Fmt.decimal}}
+use Rattle.club_values.specs.{Day.day_text, Digits.two_digits, declared.slot.Slot.Slot}
+use Rattle.http_request.proofs.Common.{Bor, List, None, Option, Some, [], ap, cond, eqb, false, refl, segments, sym, true, with_front, ℕ, ◌∙◌, ◌∷◌, ◌≡◌}
+use Rattle.http_request.proofs.Common.{account_at, at_slot, following_parts, is_some, zero, suc, ◌-◌, ◌<◌, ◌++◌, length, drop, ◌==◌, nat_eq, arith}
+use Rattle.http_request.{proofs.Common.{length-append, IsSome, and_right, append-nil, codes, subst, eqb-true, ReadsPlaces}, specs.Path.{HasRealValues, IsPlace}}
+use Rattle.http_request.specs.{Path.place_parts, Routes.KnowsPlaces, declared.path.Place.{Place, TheVariants.{SlotPlace, BookingPlace, AccountPlace}}}
+use Rattle.matchit.specs.{Rows.{RowsOf, param_token}, Seek.{segment, has_slash, cuts, step, or_else, param_step, seek, first, own}}
+
+pub first_part : (path : List ℕ) → (part : List ℕ) × (parts : List (List ℕ)) × (segments path ≡ part ∷ parts)
+first_part [] = ([], [], refl)
+first_part (byte ∷ path) = elim (eqb byte 47) as (λ b. (part : List ℕ) × (parts : List (List ℕ))
+    × (cond b ([] ∷ segments path) (with_front (byte ∷ []) (segments path)) ≡ part ∷ parts)) [
+      | true ↦ ([], segments path, refl)
+      | false ↦ let rest = first_part path in (byte ∷ rest.0, rest.1, ap (with_front (byte ∷ [])) rest.2)
+    ]
+
+pub from_the_front : (path : List ℕ) → segments path ≡ with_front [] (segments path)
+from_the_front path = let first = first_part path in first.2 ∙ sym (ap (with_front []) first.2)
+
+pub past_number : (slot : Slot) (word number : List ℕ) (rest : Option (Bor (List ℕ))) → is_some rest ≡ true
+    → at_slot slot (word ∷ number ∷ following_parts rest) ≡ None
+past_number slot word number None e = cc
+past_number slot word number (Some path) e = let first = first_part path.now in rw first.2 refl
+
+pub past_account : (word : List ℕ) (rest : Option (Bor (List ℕ))) → is_some rest ≡ true → account_at word (following_parts rest) ≡ None
+past_account word None e = cc
+past_account word (Some path) e = let first = first_part path.now in rw first.2 refl
+
+-- The rows of the router that still match after the given bytes of a path. Each of these rows has
+-- only the rest of its route.
+abbrev pub steps : {K : Type 0} → List ℕ → RowsOf K → RowsOf K
+steps [] rs = rs
+steps (b ∷ word) rs = steps word (step b rs)
+
+some_first : {K : Type 0} (a b : Option K) → IsSome a → IsSome (or_else a b)
+some_first a b is = grind arith
+
+some_second : {K : Type 0} (a b : Option K) → IsSome b → IsSome (or_else a b)
+some_second a b is = grind arith
+
+pub over_bytes : {K : Type 0} (word : List ℕ) (rs : RowsOf K) (rest : List ℕ) → IsSome (seek 0 (steps word rs) rest) → IsSome (seek 0 rs (word ++ rest))
+unfolding seek
+over_bytes [] rs rest is = is
+over_bytes (b ∷ word) rs rest is = some_first _ _ (over_bytes word (step b rs) rest is)
+
+skipped : {K : Type 0} (part : List ℕ) (rs : RowsOf K) (rest : List ℕ) → seek (length part) rs (part ++ rest) ≡ seek 0 rs rest
+unfolding seek
+skipped [] rs rest = refl
+skipped (b ∷ part) rs rest = skipped part rs rest
+
+past : {K : Type 0} (gone : ℕ × RowsOf K) (b : ℕ) (part rest : List ℕ) (kept : RowsOf K) → gone ≡ (length (b ∷ part), kept) → IsSome (seek 0 kept rest)
+    → IsSome (seek (gone.0 - 1) gone.1 (part ++ rest))
+past gone b part rest kept e is = let less : length (b ∷ part) - 1 ≡ length part = omega arith in rw (e, less, skipped part kept rest) is
+
+pub over_part : {K : Type 0} (rs ts kept : RowsOf K) (part rest : List ℕ) → 0 < length part → step param_token rs ≡ ts
+    → param_step ts (part ++ rest) ≡ (length part, kept) → IsSome (seek 0 kept rest) → IsSome (seek 0 rs (part ++ rest))
+unfolding seek
+over_part rs ts kept [] rest some from takes is = let no : ⊥ = omega arith in absurd no
+over_part rs ts kept (b ∷ part) rest some from takes is =
+    some_second _ _ (some_first _ _ (past _ b part rest kept (ap (λ (r : _). param_step r (b ∷ part ++ rest)) from ∙ takes) is))
+
+no_slash : (b : ℕ) (part : List ℕ) → has_slash (b ∷ part) ≡ false → ((b == 47) ≡ false) × (has_slash part ≡ false)
+no_slash b part none = grind arith
+
+segment_of : (part rest : List ℕ) → has_slash part ≡ false → segment (part ++ 47 ∷ rest) ≡ part ++ 47 ∷ []
+segment_of [] rest none = refl
+segment_of (b ∷ part) rest none = rw (no_slash b part none).0 (ap (λ (l : List ℕ). b ∷ l) (segment_of part rest (no_slash b part none).1))
+
+last_segment : (part : List ℕ) → has_slash part ≡ false → segment part ≡ part
+last_segment [] none = refl
+last_segment (b ∷ part) none = rw (no_slash b part none).0 (ap (λ (l : List ℕ). b ∷ l) (last_segment part (no_slash b part none).1))
+
+one_less : (part : List ℕ) → length (part ++ 47 ∷ []) - 1 ≡ length part
+one_less part = rw (length-append part (47 ∷ [])) (omega arith)
+
+cuts_slash : (part : List ℕ) → 0 < length part → cuts (part ++ 47 ∷ []) (47 ∷ []) ≡ true
+cuts_slash part some = grind (arith, common_steps, length-append)
+
+not_at : (n : ℕ) (part : List ℕ) → has_slash part ≡ false → pointwise nat_eq (47 ∷ []) (drop n part) ≡ false
+not_at zero [] none = refl
+not_at zero (b ∷ part) none = grind arith
+not_at (suc n) [] none = refl
+not_at (suc n) (b ∷ part) none = not_at n part (no_slash b part none).1
+
+cuts_no_slash : (part : List ℕ) → has_slash part ≡ false → cuts part (47 ∷ []) ≡ false
+cuts_no_slash part none = and_right _ _ (not_at (length part - 1) part none)
+
+pub takes_two : {K : Type 0} (t s : List ℕ) (k j : K) (part rest : List ℕ) → 0 < length part → has_slash part ≡ false
+    → param_step ((47 ∷ t, k) ∷ (47 ∷ s, j) ∷ []) (part ++ 47 ∷ rest) ≡ (length part, (47 ∷ t, k) ∷ (47 ∷ s, j) ∷ [])
+unfolding param_step
+takes_two t s k j part rest some none = rw (segment_of part rest none, cuts_slash part some, one_less part) refl
+
+pub takes_one : {K : Type 0} (t : List ℕ) (k j : K) (part rest : List ℕ) → 0 < length part → has_slash part ≡ false
+    → param_step ((47 ∷ t, k) ∷ ([], j) ∷ []) (part ++ 47 ∷ rest) ≡ (length part, (47 ∷ t, k) ∷ [])
+unfolding param_step
+takes_one t k j part rest some none = rw (segment_of part rest none, cuts_slash part some, one_less part) refl
+
+pub takes_last : {K : Type 0} (t : List ℕ) (k j : K) (part : List ℕ) → has_slash part ≡ false
+    → param_step ((47 ∷ t, k) ∷ ([], j) ∷ []) part ≡ (length part, (47 ∷ t, k) ∷ ([], j) ∷ [])
+unfolding param_step
+takes_last t k j part none = rw (last_segment part none, cuts_no_slash part none, none) refl
+
+pub takes_end : {K : Type 0} (k : K) (part : List ℕ) → has_slash part ≡ false → param_step (([], k) ∷ []) part ≡ (length part, ([], k) ∷ [])
+unfolding param_step
+takes_end k part none = rw none refl
 
 -- The path with the given parts, separated by slashes.
 abbrev glued : List (List ℕ) → List ℕ
@@ -27,13 +124,7 @@ parted : (path : List ℕ) → (path ≡ glued (segments path)) × AreParts (seg
 parted [] = (refl, (refl, tt))
 parted (byte ∷ path) =
     let first = first_part path in
-    let before = rw first.2 at (parted path) in
-    rw first.2 (elim (byte == 47) as (λ slash. (byte == 47) ≡ slash
-    → (byte ∷ path ≡ glued (cond slash ([] ∷ first.0 ∷ first.1) (with_front (byte ∷ []) (first.0 ∷ first.1))))
-    × AreParts (cond slash ([] ∷ first.0 ∷ first.1) (with_front (byte ∷ []) (first.0 ∷ first.1)))) [
-      | true ↦ λ is. (rw (eqb-true byte 47 is) (ap (λ (l : List ℕ). 47 ∷ l) before.0), (refl, before.1))
-      | false ↦ λ is. (ap (λ (l : List ℕ). byte ∷ l) before.0 ∙ sym (glued_more byte first.0 first.1), (rw is before.1.0, before.1.1))
-    ] refl)
+    let before = rw first.2 at (parted path) in grind (arith, eqb-true byte 47, glued_more byte first.0 first.1)
 
 -- The routes of the desk's three places: the account, a booking, and a slot.
 abbrev pub routes : {K : Type 0} → K → K → K → RowsOf K
@@ -46,8 +137,7 @@ over_last : {K : Type 0} (rs ts kept : RowsOf K) (part : List ℕ) → 0 < lengt
 unfolding seek
 over_last rs ts kept part some from takes is =
     let at : part ++ [] ≡ part = append-nil part in
-    let all = over_part rs ts kept part [] some from (ap (param_step ts) at ∙ takes) is in
-    rw at at all
+    let all = over_part rs ts kept part [] some from (ap (param_step ts) at ∙ takes) is in rw at at all
 
 has_account : {K : Type 0} (account booking slot : K) → IsSome (first (routes account booking slot) (codes "/account"))
 unfolding seek

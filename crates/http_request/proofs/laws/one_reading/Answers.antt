@@ -1,4 +1,4 @@
-use Rattle.http_request.proofs.WholeLemmas.{one}
+use Rattle.http_request.proofs.FrameLemmas.{one}
 use Rattle.http_request.proofs.laws.one_reading.Goals as goal
 
 pub returns : goal.returns

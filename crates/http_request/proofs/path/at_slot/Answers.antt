@@ -1,4 +1,4 @@
-use Rattle.http_request.proofs.{Common.{List, ap, following_parts, segments, sym, ℕ, ◌∙◌, ◌∷◌, ◌≡◌}, Segments.past_number}
+use Rattle.http_request.proofs.{Common.{List, ap, following_parts, segments, sym, ℕ, ◌∙◌, ◌∷◌, ◌≡◌}, RouteLemmas.past_number}
 use Rattle.http_request.proofs.path.at_slot.Goals as goal
 
 pub returns-then-is_some : goal.returns-then-is_some

@@ -1,4 +1,4 @@
-use Rattle.http_request.proofs.{Common.{bytes_eq, codes, false, sym, ◌∙◌, ◌≡◌}, Segments.past_account}
+use Rattle.http_request.proofs.{Common.{bytes_eq, codes, false, sym, ◌∙◌, ◌≡◌}, RouteLemmas.past_account}
 use Rattle.http_request.proofs.path.under_root.Goals as goal
 
 pub returns-then-is_some : goal.returns-then-is_some

@@ -1,5 +1,5 @@
-use Rattle.matchit.proofs.OnLiterals.{matchit_on_literals}
 use Rattle.http_request.proofs.RouteLemmas.{knows_places}
+use Rattle.matchit.proofs.OnLiterals.{matchit_on_literals}
 use Rattle.http_request.proofs.routes.Routes.new.Goals as goal
 
 pub invariant_of-result : goal.invariant_of-result

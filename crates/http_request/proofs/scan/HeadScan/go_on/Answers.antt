@@ -1,4 +1,4 @@
-use Rattle.http_request.proofs.{Common.{take, drop, take-append-drop}, WholeLemmas.head_result_more}
+use Rattle.http_request.proofs.{Common.{take, drop, take-append-drop}, FrameLemmas.head_result_more}
 use Rattle.http_request.proofs.scan.HeadScan.go_on.Goals as goal
 
 pub returns-in-Refused : goal.returns-in-Refused

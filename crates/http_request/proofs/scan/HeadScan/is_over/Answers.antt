@@ -1,4 +1,4 @@
-use Rattle.http_request.proofs.{Common.{IsTrue, arith, false, nat_eq, true, ℕ, ◌↔◌, ◌≡◌}, FrameLemmas.{no_piece, not_refused, only}, WholeLemmas.body_only}
+use Rattle.http_request.proofs.{Common.{IsTrue, arith, false, nat_eq, true, ℕ, ◌↔◌, ◌≡◌}, FrameLemmas.{no_piece, not_refused, only, body_only}}
 use Rattle.http_request.proofs.scan.HeadScan.is_over.Goals as goal
 
 tested_same : (a b : ℕ) (P : Type 0) → (a ≡ b) ↔ P → IsTrue (nat_eq a b) ↔ P

@@ -1,5 +1,5 @@
-use Rattle.http_request.proofs.Common.{IsTrue, arith, cases_lt, le-leb, leb, leb-true, ℕ, ◌<◌, ◌↔◌, ◌≤◌}
-use Rattle.http_request.proofs.{Common.{endless, has_frame, length-drop}, FrameLemmas.{asks_at, whole_frame}, WholeLemmas.{open_body, open_head}}
+use Rattle.http_request.proofs.{Common.{IsTrue, arith, cases_lt, le-leb, leb, leb-true, ℕ, ◌<◌, ◌↔◌, ◌≤◌, endless, has_frame, length-drop}, FrameLemmas.asks_at}
+use Rattle.http_request.proofs.FrameLemmas.{whole_frame, open_body, open_head}
 use Rattle.http_request.proofs.scan.HeadScan.is_whole.Goals as goal
 
 tested : (a b : ℕ) (P : Type 0) → (a ≤ b → P) → (b < a → ¬ P) → IsTrue (leb a b) ↔ P
