@@ -1,18 +1,75 @@
--- Lemmas about clap's walk over the arguments of a command.
-use Rattle.std.proofs.Common.{Bool, List, None, Option, Some, [], append_assoc, false, fold, is_some, not, refl, sym, true, ℕ, ◌++◌, ◌==◌, ◌∙◌, ◌∷◌, ◌≡◌}
-use Rattle.std.proofs.{Common.{ap, ap₂, arith, codes, cond, inl, inr, map, subst}, lemmas.Bool.{and_parts, cases_Bool}}
-use Rattle.std.proofs.lemmas.{Bool.Decides.nat_tests, Grind.common_steps, List.{append-nil}}
-use Rattle.std.specs.List.{list_any}
-use Rattle.clap.specs.Faults.{check_fault, defaults_fault, flag_word_fault, level_fault, settle_fault, step_fault, turn_fault, walk_fault}
-use Rattle.clap.specs.{Kinds.{Kinds, or_else}, Lexer.{long_of, strip_byte}, Simple.{filled, filled_from, index_after, wants_index, with_index}, Walk.Held}
-use Rattle.clap.specs.Walk.{Waiting, Walk, after_step, arg_by_index, finished, has_row, idle, is_multiple, long_or_other, arg_by_long}
-use Rattle.clap.specs.Walk.{next_position, nothing_held, option, positional, rows_after, settled, takes_several, walk_from, walked}
-use Rattle.clap.specs.{Walk.{with_default, without}, Words.{Row as Found, Rule, Shape, Text}}
-use Rattle.clap.proofs.{CutLemmas.Lacks, LexerLemmas.{name_and_value-at, name_and_value-without}, SimpleLemmas.is_false}
-use Rattle.command_line.specs.{Application.{positionals_named, option_named}, Given.{Given, option_given, flag_given, positional_given, positionals_given}}
-use Rattle.command_line.specs.Given.{left_out, rule_given, options_spelled, AreSpelled, row_given, option_rows, positional_rows, rows_given, are_apart, are_new}
-use Rattle.command_line.specs.Given.{are_options_named, is_in_order, has_no_positionals, positionals_spelled, end_fault}
-use Rattle.command_line.proofs.FoundLemmas.{same_text, added, set_row, grown, AreFound, all_found, IsFound}
+-- Lemmas about the rows that clap collects for arguments, about clap's search for an argument by
+-- name, and about clap's walk over the arguments of a command.
+use Rattle.std.proofs.Common.{Bool, List, Some, [], ap, append_assoc, arith, false, is_some, map, not, refl, sym, true, ℕ, ◌&&◌, ◌++◌, ◌==◌, ◌∙◌, ◌∷◌, ◌≡◌}
+use Rattle.std.proofs.{Common.{find, unwrap_or, None, Option, fold, ap₂, codes, cond, inl, inr, subst}, lemmas.Bool.{and_parts, cases_Bool, Decides.nat_tests}}
+use Rattle.std.{proofs.lemmas.{Grind.common_steps, List.append-nil, Slice.Eq.bytes_eq-Decides}, specs.{List.list_any, Option.option_map_or, Str.bytes_eq}}
+use Rattle.clap.{proofs.{CutLemmas.Lacks, LexerLemmas.{name_and_value-at, name_and_value-without}, SimpleLemmas.is_false}, specs.Faults.check_fault}
+use Rattle.clap.specs.{Faults.{defaults_fault, flag_word_fault, level_fault, settle_fault, step_fault, turn_fault, walk_fault}, Kinds.{Kinds, or_else}}
+use Rattle.clap.specs.{Lexer.{long_of, strip_byte}, Simple.{filled, filled_from, index_after, with_index, wants_index}, Walk.{arg_by_id, arg_by_index}}
+use Rattle.clap.specs.Walk.{arg_by_long, at_row, has_long, has_row, Held, Waiting, Walk, after_step, finished, idle, is_multiple, long_or_other, next_position}
+use Rattle.clap.specs.Walk.{nothing_held, option, positional, rows_after, settled, takes_several, walk_from, walked, more_values, without, with_default}
+use Rattle.clap.specs.{Words.{Row as Found, Rule, Text, Shape}, declared.parser.matches.ValueSource.TheVariants.CommandLine}
+use Rattle.command_line.specs.{Application.{positionals_named, option_named}, Given.{Given, rule_given, row_given, are_apart, option_given, flag_given}}
+use Rattle.command_line.specs.Given.{positional_given, positionals_given, left_out, options_spelled, AreSpelled, option_rows, positional_rows, rows_given}
+use Rattle.command_line.specs.Given.{are_new, are_options_named, is_in_order, has_no_positionals, positionals_spelled, end_fault}
+
+pub same_text : (text : Text) → bytes_eq text text ≡ true
+same_text text = (bytes_eq-Decides text text).1 refl
+
+past : (id : Text) (change : Found → List Found) (missing before tail : List Found) → has_row id before ≡ false
+    → at_row id change missing (before ++ tail) ≡ before ++ at_row id change missing tail
+past id change missing [] tail new = refl
+past id change missing (row ∷ before) tail new = grind (arith, past id change missing before tail)
+
+pub added : (name : Text) (values : List Text) (rows : List Found) → has_row name rows ≡ false
+    → at_row name (more_values CommandLine values) (row_given name values ∷ []) rows ≡ rows ++ row_given name values ∷ []
+added name values rows new = ap (at_row name (more_values CommandLine values) (row_given name values ∷ [])) (sym (append-nil rows))
+    ∙ past name (more_values CommandLine values) (row_given name values ∷ []) rows [] new
+
+untouched : (name : Text) (rows : List Found) → has_row name rows ≡ false → without name rows ≡ rows
+untouched name rows new = ap (at_row name (λ _. []) []) (sym (append-nil rows)) ∙ (past name (λ _. []) [] rows [] new ∙ append-nil rows)
+
+pub set_row : (name : Text) (values : List Text) (rows : List Found) → has_row name rows ≡ false
+    → at_row name (more_values CommandLine values) (row_given name values ∷ []) (without name rows) ≡ rows ++ row_given name values ∷ []
+set_row name values rows new =
+    ap (at_row name (more_values CommandLine values) (row_given name values ∷ [])) (untouched name rows new) ∙ added name values rows new
+
+pub grown : (name : Text) (some more : List Text) (rows : List Found) → has_row name rows ≡ false
+    → at_row name (more_values CommandLine more) (row_given name more ∷ []) (rows ++ row_given name some ∷ []) ≡ rows ++ row_given name (some ++ more) ∷ []
+grown name some more rows new = grind (arith, past, same_text)
+
+find_there : {X : Type 0} (test : X → Bool) (before : List X) (x : X) (after : List X) → list_any test before ≡ false → test x ≡ true
+    → find test (before ++ x ∷ after) ≡ Some x
+find_there test [] x after none is = rw is refl
+find_there test (y ∷ before) x after none is = grind (arith, find_there test before x after)
+
+pub record IsFound (rules : List Rule) (rule : Rule) : Type 0 where
+  pub by_id : arg_by_id rules rule.id ≡ Some rule
+  pub by_name : (not (is_some rule.index) && has_long rule rule.id) ≡ true → arg_by_long rules rule.id ≡ Some rule
+  pub by_place : option_map_or (λ place. place == unwrap_or rule.index 0) rule.index false ≡ true → arg_by_index rules (unwrap_or rule.index 0) ≡ Some rule
+
+unfoldable pub AreFound : List Rule → ℕ → List Given → Type 0
+AreFound rules i [] = Unit {0}
+AreFound rules i (one ∷ given) = IsFound rules (with_index i (filled (rule_given one))) × AreFound rules (index_after i (rule_given one)) given
+
+pub all_found : (rules before : List Rule) (i : ℕ) (given : List Given) (others : List Rule) → rules ≡ before ++ filled_from i (map rule_given given ++ others)
+    → are_apart before (filled_from i (map rule_given given ++ others)) ≡ true → AreFound rules i given
+unfolding AreFound
+all_found rules before i [] others same apart = tt
+all_found rules before i (one ∷ given) others same apart =
+    let rule = with_index i (filled (rule_given one)) in
+    let rest = filled_from (index_after i (rule_given one)) (map rule_given given ++ others) in
+    let parts = and_parts _ _ apart in
+    let here = and_parts _ _ parts.0 in
+    let ways = and_parts _ _ here.1 in (
+      record {
+        by_id = ap (find (λ other. bytes_eq other.id rule.id)) same ∙ find_there _ before rule rest (is_false _ here.0) (same_text rule.id);
+        by_name = λ is. ap (find (λ other. not (is_some other.index) && has_long other rule.id)) same ∙ find_there _ before rule rest (is_false _ ways.0) is;
+        by_place = λ is. ap (find (λ other. option_map_or (λ place. place == unwrap_or rule.index 0) other.index false)) same
+            ∙ find_there _ before rule rest (is_false _ ways.1) is;
+      },
+      all_found rules (before ++ rule ∷ []) (index_after i (rule_given one)) given others (same ∙ sym (append_assoc before (rule ∷ []) rest)) parts.1,
+    )
 
 lacks : (name : Text) → not (list_any (λ byte. byte == 61) name) ≡ true → Lacks 61 name
 lacks name without i within is = grind (arith, common_steps, nat_tests)

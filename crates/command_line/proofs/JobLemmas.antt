@@ -1,7 +1,7 @@
 -- Lemmas for the proof of `read_job`.
 use Rattle.std.proofs.Common.{◌≡◌, List, [], Option, IsSome, Result, Err, arith, true}
-use Rattle.clap.specs.Words.{subcommand_rows_of, IsAmong, Row, Text, fault_of, subcommand_of, App, HasKind, HasMatchesOf, is_simple_and_free}
-use Rattle.clap.specs.{Words.kind_of, declared.{error.{Error.Error, kind.ErrorKind.ErrorKind}, parser.matches.ArgMatches.ArgMatches}}
+use Rattle.clap.specs.Words.{subcommand_rows_of, IsAmong, Row, Text, fault_of, subcommand_of, App, HasKind, HasMatchesOf, is_simple_and_free, kind_of}
+use Rattle.clap.specs.declared.{error.{Error.Error, kind.ErrorKind.ErrorKind}, parser.matches.ArgMatches.ArgMatches}
 use Rattle.command_line.specs.{Job.{ReadsAccepted, ReadsFound, ReadsJob, ReadsRow}, JobLaws.{RowsAnswerOnce, WordsNameARow}, Table.{IsGood, Table}}
 use Rattle.command_line.specs.{Table.{app_of_table, asked, asked_in, refusals}, declared.errors.ArgumentsFault.ArgumentsFault}
 use Rattle.clap.specs.declared.error.kind.ErrorKind.TheVariants as kind

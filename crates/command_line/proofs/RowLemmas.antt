@@ -1,18 +1,43 @@
--- This file proves that clap accepts all values that `can_be_given` allows, and finds these values.
-use Rattle.std.proofs.Common.{List, None, Option, Some, [], ap, arith, codes, false, find, fold, map, refl, sym, true, ◌++◌, ◌∙◌, ◌∷◌, ◌≡◌}
-use Rattle.std.proofs.{Common.{IsSome, drop, inl, inr, is_some, option_map, subst}, lemmas.Bool.{and_parts, cases_Bool}}
-use Rattle.std.proofs.lemmas.{Bool.Decides.nat_tests, Grind.common_steps, List.append-nil, Slice.Eq.bytes_eq-Decides}
-use Rattle.std.specs.Str.{bytes_eq}
-use Rattle.clap.specs.Faults.{built_fault, defaults_fault, level_fault, other_fault, step_fault, turn_fault}
-use Rattle.clap.specs.{Faults.walk_fault, Kinds.{Kinds, or_else}, Simple.{built, built_leaf, entered, help_shape, inherited, label_of, marked_built, names_of}}
-use Rattle.clap.specs.{Simple.{help_rule, new_shape, on_top, rows_at, with_leaf_noted}, Walk.{Names, Walk, after_step, answers_to, idle}}
-use Rattle.clap.specs.Walk.{nothing_held, rows_after, stop_after, subcommand_met, subcommand_or_other, walk, walk_from, walked}
-use Rattle.clap.specs.Words.{App, Row as Found, Rule, Shape, Text, fault_of, new_app, subcommand_of, with_rule, with_subcommand}
-use Rattle.clap.proofs.{SimpleLemmas.{is_false, is_nil}, WalkLemmas.find-map}
-use Rattle.command_line.specs.{Application.program_named, Given.{AreSpelled, Given, can_be_given, found_given, rule_given, shape_given}}
-use Rattle.command_line.specs.JobLaws.{RowsTakeWhatTheyAreGiven, WordsNameARow}
-use Rattle.command_line.specs.Table.{Entry, Table, asked, asked_in, entry_app, entry_named, refusals, with_entries}
-use Rattle.command_line.proofs.{GivenLemmas.given_taken, NamedLemmas.{StopsNotAtHelp, enters_command}}
+-- This file proves that if clap accepts arguments, the arguments name one of the program's commands.
+-- It also proves that clap accepts all values that `can_be_given` allows, and finds these values.
+use Rattle.std.proofs.Common.{Bool, List, None, Option, Some, [], arith, codes, false, fold, is_some, true, ◌∷◌, ◌≡◌, ap, find, map, refl, sym, ◌++◌, ◌∙◌}
+use Rattle.std.proofs.{Common.{IsSome, drop, option_map, subst}, lemmas.{Bool.{and_parts, Decides.nat_tests}, Grind.common_steps, List.append-nil}}
+use Rattle.std.{proofs.lemmas.Slice.Eq.bytes_eq-Decides, specs.Str.bytes_eq}
+use Rattle.clap.{proofs.{SimpleLemmas.{is_false, is_nil}, WalkLemmas.find-map}, specs.Faults.{built_fault, check_fault, turn_fault, walk_fault, defaults_fault}}
+use Rattle.clap.specs.{Faults.{level_fault, other_fault, step_fault}, Kinds.{or_else, Kinds}, Simple.{entered, names_of, built, built_leaf, help_shape}}
+use Rattle.clap.specs.{Simple.{inherited, label_of, marked_built, help_rule, new_shape, on_top, rows_at, with_leaf_noted}, Walk.{Names, Walk, nothing_held}}
+use Rattle.clap.specs.{Walk.{stop_after, walked, after_step, answers_to, idle, rows_after, subcommand_met, subcommand_or_other, walk, walk_from}, Words.App}
+use Rattle.clap.specs.Words.{Kinds, Row, Shape, Text, Row as Found, Rule, fault_of, new_app, subcommand_of, with_rule, with_subcommand}
+use Rattle.command_line.{proofs.GivenLemmas.given_taken, specs.{Application.program_named, Given.{AreSpelled, Given, can_be_given, found_given, rule_given}}}
+use Rattle.command_line.specs.{Given.shape_given, JobLaws.{RowsTakeWhatTheyAreGiven, WordsNameARow}, Table.{Entry, Table, asked, asked_in, entry_app}}
+use Rattle.command_line.specs.Table.{entry_named, refusals, with_entries}
+
+or_else_nil : (a b : Kinds) → or_else a b ≡ [] → (a ≡ []) × (b ≡ [])
+or_else_nil a b h = grind arith
+
+-- The walk found no subcommand, or a subcommand other than `help`.
+abbrev pub StopsNotAtHelp : Option (Text × List Text) → Type 0
+StopsNotAtHelp None = Unit {0}
+StopsNotAtHelp (Some p) = bytes_eq p.0 (codes "help") ≡ false
+
+module _ (s : Shape) (helps : s.disable_help_subcommand ≡ false) (names : Names) where
+  turn_stops : (w : Walk) (word : Text) → turn_fault s names w word ≡ [] → StopsNotAtHelp w.stopped → StopsNotAtHelp (walked s.rules names w word).stopped
+  unfolding walked
+  turn_stops w word clear before = grind arith
+
+  walk_stops : (words : List Text) (w : Walk) → walk_fault s names w words ≡ [] → StopsNotAtHelp w.stopped
+      → StopsNotAtHelp (fold (walked s.rules names) w words).stopped
+  unfolding walk_fault
+  walk_stops [] w clear before = before
+  walk_stops (word ∷ rest) w clear before = grind (arith, walk_stops rest (walked s.rules names w word), turn_stops w word, or_else_nil)
+
+check_needs : (s : Shape) (rows : List Row) (has : Bool) → s.subcommand_required ≡ true → check_fault s rows has ≡ [] → has ≡ true
+check_needs s rows has needs clear = grind arith
+
+pub enters_command : (a : App) (words : List Text) → a.top.subcommand_required ≡ true → built_fault a nothing_held words ≡ []
+    → let stop = stop_after a.top.rules (names_of a) words in
+    (is_some (entered a stop) ≡ true) × (a.top.disable_help_subcommand ≡ false → StopsNotAtHelp stop)
+enters_command a words needs clear = grind (arith, or_else_nil, check_needs, walk_stops)
 
 rules_added : (app : App) (rules : List Rule) → fold with_rule app rules ≡ on_top (λ s. record s { rules = s.rules ++ rules }) app
 rules_added app [] = ap (λ (rules : List Rule). on_top (λ s. record s { rules = rules }) app) (sym (append-nil app.top.rules))
@@ -111,12 +136,7 @@ module _ {C : Type 0} (title : Text) (first : Entry C) (others : List (Entry C))
 
 name_found : {C : Type 0} (name : Text) (entries : List (Entry C)) (entry : Entry C) → entry_named name entries ≡ Some entry → entry.name ≡ name
 name_found name [] entry is = cc
-name_found {C} name (next ∷ entries) entry is = elim (cases_Bool (bytes_eq next.name name)) [
-  | inl here ↦
-      let found = rw here at is in
-      let same : next ≡ entry = cc in ap (λ (e : Entry C). e.name) (sym same) ∙ (bytes_eq-Decides next.name name).0 here
-  | inr past ↦ name_found name entries entry (rw past at is)
-]
+name_found name (next ∷ entries) entry is = grind (arith, name_found name entries entry, bytes_eq-Decides next.name name)
 
 asked_where_entered : {C : Type 0} (title : Text) (first : Entry C) (others : List (Entry C)) (stop : Option (Text × List Text))
     → is_some (entered (app title first others) stop) ≡ true → StopsNotAtHelp stop

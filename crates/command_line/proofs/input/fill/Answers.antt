@@ -1,8 +1,7 @@
-use Rattle.std.proofs.{Common.{arith, subst, sym}, KnownBytes.{Consumes-kept, Consumes-trans}}
-use lib.Seq.{take-add}
-use Rattle.std.specs.Io.KnownBytes.{Consumes}
-use Rattle.command_line.proofs.input.fill.Goals as goal
+use Rattle.std.{proofs.{Common.{arith, subst, sym}, KnownBytes.{Consumes-kept, Consumes-trans}}, specs.Io.KnownBytes.Consumes}
 use Rattle.command_line.proofs.input.fill.Goals.{in-Ok, in-Err+else-not-is_interrupted}
+use lib.Seq.{take-add}
+use Rattle.command_line.proofs.input.fill.Goals as goal
 
 pub filling-preserved : goal.filling-preserved
 filling-preserved g c =

@@ -1,5 +1,4 @@
-use Rattle.std.proofs.Common.{◌≤◌, take, length}
-use Rattle.std.specs.Io.KnownBytes.{Consumes}
+use Rattle.std.{proofs.Common.{◌≤◌, take, length}, specs.Io.KnownBytes.Consumes}
 use Rattle.command_line.proofs.input.fill.Given as goal
 
 abbrev pub invariant-filling : goal.invariant-filling

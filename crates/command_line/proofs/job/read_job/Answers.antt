@@ -1,6 +1,5 @@
 use Rattle.std.proofs.Common.{arith, refl}
-use Rattle.command_line.specs.Table.{asked, refusals}
-use Rattle.command_line.proofs.JobLemmas.{accepted, refused, reads_accepted, reads_fault, row_named}
+use Rattle.command_line.{proofs.JobLemmas.{accepted, refused, reads_accepted, reads_fault, row_named}, specs.Table.{asked, refusals}}
 use Rattle.command_line.proofs.job.read_job.Goals as goal
 
 pub job_found-requires : goal.job_found-requires

@@ -1,7 +1,5 @@
-use Rattle.std.proofs.Common.{Option, [], ap, arith, option_map, refl, unwrap_or, ◌∙◌, ◌≡◌}
-use Rattle.std.specs.Borrow.{Bor}
-use Rattle.clap.specs.Words.{Text, found_of}
-use Rattle.clap.proofs.WalkLemmas.{first_value-rows}
+use Rattle.std.{proofs.Common.{Option, [], ap, arith, option_map, refl, unwrap_or, ◌∙◌, ◌≡◌}, specs.Borrow.Bor}
+use Rattle.clap.{proofs.WalkLemmas.first_value-rows, specs.Words.{Text, found_of}}
 use Rattle.command_line.proofs.options.value_of.Goals as goal
 
 now_of : (given : Option (Bor Text)) (default : Bor Text) → default.now ≡ [] → (unwrap_or given default).now ≡ unwrap_or (option_map (λ s. s.now) given) []

@@ -1,7 +1,7 @@
 use Rattle.std.proofs.{Common.arith, KnownBytes.{Appends-kept, Appends-trans}}
+use Rattle.command_line.proofs.output.write_bytes.Goals.{in-Ok, in-Err+else-not-is_interrupted}
 use lib.Seq.{take-add}
 use Rattle.command_line.proofs.output.write_bytes.Goals as goal
-use Rattle.command_line.proofs.output.write_bytes.Goals.{in-Ok, in-Err+else-not-is_interrupted}
 
 pub writing-preserved : goal.writing-preserved
 writing-preserved g c =

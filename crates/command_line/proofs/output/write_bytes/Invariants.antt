@@ -1,6 +1,5 @@
 -- The invariant of the loop in `write_bytes`.
-use Rattle.std.proofs.Common.{◌≤◌, take, length}
-use Rattle.std.specs.Io.KnownBytes.{Appends}
+use Rattle.std.{proofs.Common.{◌≤◌, take, length}, specs.Io.KnownBytes.Appends}
 use Rattle.command_line.proofs.output.write_bytes.Given as goal
 
 abbrev pub invariant-writing : goal.invariant-writing

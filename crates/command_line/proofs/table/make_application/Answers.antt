@@ -1,5 +1,5 @@
-use Rattle.std.proofs.Common.{List, arith, get_or, length, map, sym, take, ℕ, ◌+◌, ◌<◌, ◌∙◌, ◌≡◌}
-use Rattle.std.proofs.lemmas.{Bool.Decides.nat_tests, Grind.common_steps, Result.IfOk-weaker}
+use Rattle.std.proofs.{Common.{List, arith, get_or, length, map, sym, take, ℕ, ◌+◌, ◌<◌, ◌∙◌, ◌≡◌}, lemmas.{Bool.Decides.nat_tests, Grind.common_steps}}
+use Rattle.std.proofs.lemmas.Result.{IfOk-weaker}
 use Rattle.clap.specs.Words.{App, with_subcommand}
 use Rattle.command_line.specs.{Table.{entry_app, entry_of, with_entries}, declared.table.Row.Row}
 use Rattle.command_line.proofs.table.make_application.Goals as goal

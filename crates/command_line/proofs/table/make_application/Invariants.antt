@@ -1,7 +1,7 @@
 -- The invariant of the loop in `make_application`.
+use Rattle.command_line.specs.{Application.program_named, Table.{entry_of, with_entries}}
 use Rattle.std.proofs.Common.{◌≡◌, IfOk, map, take}
 use Rattle.clap.specs.Words.{app_of}
-use Rattle.command_line.specs.{Application.program_named, Table.{entry_of, with_entries}}
 use Rattle.command_line.proofs.table.make_application.Given as goal
 
 abbrev pub invariant-loop-row : goal.invariant-loop-row

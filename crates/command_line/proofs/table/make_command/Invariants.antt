@@ -1,7 +1,7 @@
 -- The invariant of the loop in `make_command`.
+use Rattle.command_line.specs.{Application.IsMade, Table.rule_for}
 use Rattle.std.proofs.Common.{IfOk, fold, map, take}
 use Rattle.clap.specs.Words.{new_app, with_rule}
-use Rattle.command_line.specs.{Application.IsMade, Table.rule_for}
 use Rattle.command_line.proofs.table.make_command.Given as goal
 
 abbrev pub invariant-loop-argument : goal.invariant-loop-argument
