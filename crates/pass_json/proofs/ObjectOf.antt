@@ -1,13 +1,12 @@
 -- Lemmas about the JSON object of a pass and about reading the object's text back.
+use Rattle.std.{proofs.Common.rules, specs.Fmt.digits}
+use Rattle.base64.{proofs.EngineFacts.IsAscii-encode_of, specs.Engines.url_safe_no_pad}
+use Rattle.json.specs.Tree.{HasNumbers, ItemsHaveNumbers, MembersHaveNumbers}
 use Rattle.pass_json.proofs.Common.{◌≡◌, ℕ, ◌≤◌, Bool, true, false, List, [], ◌∷◌, codes, Option, Some, None, decimal, refl, sym, ap, subst, ◌∙◌, arith, IsUtf8}
 use Rattle.pass_json.proofs.Common.{is_utf8, or_from, IsUtf8-from_ascii, IsUtf8-from_is_utf8, encode_of, Data, number, string, array, object, unsigned, Items}
 use Rattle.pass_json.proofs.Common.{Members, no_members, member, put, number_of, of_items, of_json, has_float, items_have_float, members_have_float}
 use Rattle.pass_json.proofs.Common.{items_outline, members_outline, outline, Plain, caveat_object, caveat_objects, object_of, put_member, with_location}
 use Rattle.pass_json.proofs.ReadsText.{HasTexts, ItemsHaveTexts, MembersHaveTexts}
-use Rattle.std.specs.Fmt.{digits}
-use Rattle.base64.specs.Engines.{url_safe_no_pad}
-use Rattle.base64.proofs.EngineFacts.{IsAscii-encode_of}
-use Rattle.json.specs.Tree.{HasNumbers, ItemsHaveNumbers, MembersHaveNumbers}
 use Rattle.json.specs.Tree as tree
 use Rattle.json.proofs.Printed.Utf8.{IsUtf8-are_ascii}
 use Rattle.serde_json.proofs.OnLiterals.{serde_json_on_literals}
@@ -135,8 +134,7 @@ named_is_fine true plain base64 bytes rest e one two h = text_is_fine plain byte
 named_is_fine false plain base64 bytes rest e one two h = text_is_fine base64 (encode_of url_safe_no_pad bytes) rest two (encoded_text bytes) h
 
 identified_is_fine : (bytes : List ℕ) (rest : Members) → AreFineMembers rest → AreFineMembers (identified (field_text bytes) rest)
-identified_is_fine bytes rest h =
-    named_is_fine (is_utf8 bytes) (codes "i") (codes "i64") bytes rest refl (IsUtf8-are_ascii (codes "i") refl) (IsUtf8-are_ascii (codes "i64") refl) h
+identified_is_fine bytes rest h = search (rules, named_is_fine)
 
 located_is_fine : (location : List ℕ) (rest : Members) → AreFineMembers rest → AreFineMembers (located (location_text location) rest)
 located_is_fine [] rest h = h
@@ -150,20 +148,12 @@ caveat_is_fine bytes =
     subst (IsFineData 1) (sym (caveat_is bytes)) (record { numbers = h.numbers; shallow = omega arith; no_float = h.no_float; texts = h.texts })
 
 caveats_are_fine : (caveats : List (List ℕ)) → AreFineItems 1 (caveat_objects caveats)
-caveats_are_fine [] = record { numbers = tt; shallow = omega arith; no_float = refl; texts = tt }
-caveats_are_fine (caveat ∷ caveats) =
-    let one = caveat_is_fine caveat in
-    let others = caveats_are_fine caveats in record {
-      numbers = (one.numbers, others.numbers);
-      shallow = omega arith;
-      no_float = or_from _ _ one.no_float others.no_float;
-      texts = (one.texts, others.texts);
-    }
+caveats_are_fine [] = grind arith
+caveats_are_fine (caveat ∷ caveats) = grind (arith, caveat_is_fine caveat, or_from, caveats_are_fine caveats)
 
 version_is_fine : AreFineMembers (member (codes "v") (number (unsigned 2)) no_members)
 unfolding serde_json_on_literals digits
-version_is_fine =
-    record { numbers = (refl, tt); shallow = omega arith; no_float = refl; texts = (IsUtf8-are_ascii (codes "v") refl, IsUtf8-are_ascii (decimal 2) refl, tt) }
+version_is_fine = search rules
 
 pub object_is_fine : (pass : Plain) → IsFineData 3 (object_of pass)
 object_is_fine pass =

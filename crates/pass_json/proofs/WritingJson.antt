@@ -1,11 +1,9 @@
 -- Lemmas for the proof of `write_json`.
+use Rattle.std.{proofs.lemmas.Bool.Decides.nat_tests, specs.Result.{IfErr, IfOk, MatchResult, OnOk}}
 use Rattle.pass_json.proofs.Common.{Bool, Err, FormFault, FromBase64IsBase64, Json, List, Ok, Result, TooLong, TooMany, cond, length, ltb, refl, ℕ, ◌↔◌, ◌≡◌}
 use Rattle.pass_json.proofs.Common.{HasBytes, IsJsonText, IsReadBack, IsRefusedJson, IsWritableText, IsWriting, Plain, SpellsJson, max_caveats, max_text_len}
 use Rattle.pass_json.proofs.{Common.{MayFailAs, OneTextEachForm, OneWritingEachForm, WritesJsonExactly, arith, json_text}, WrittenJson.spells_json}
-use Rattle.pass_json.proofs.WrittenJson.{starts_json}
-use Rattle.std.specs.Result.{IfErr, IfOk, MatchResult, OnOk}
-use Rattle.pass_json.specs.computed.JsonWriting.{writing_json}
-use Rattle.std.proofs.lemmas.Bool.Decides.{nat_tests}
+use Rattle.pass_json.{proofs.WrittenJson.starts_json, specs.computed.JsonWriting.writing_json}
 
 one_writing_for_each_form : OneTextEachForm → OneWritingEachForm
 one_writing_for_each_form unique form pass one other p q = grind (arith, unique)

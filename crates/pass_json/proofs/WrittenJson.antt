@@ -2,8 +2,8 @@
 use Rattle.pass_json.proofs.Common.{◌≡◌, ℕ, Bool, true, false, eqb, List, [], ◌∷◌, length, map, Option, Some, None, refl, ap, ◌∙◌, arith, AllByRecursion}
 use Rattle.pass_json.proofs.Common.{IsUtf8, is_utf8, eq-eqb, IsBytes, encode_of, object, Items, no_members, read, FromBase64IsBase64, starts_with_brace, Plain}
 use Rattle.pass_json.proofs.Common.{WideCaveat, as_wide_pass, widened_caveat, HasBytes, SpellsJson, caveat_from, caveats_of, field_from, has_only_names}
-use Rattle.pass_json.proofs.{Common.{pass_from, caveat_object, caveat_objects, json_text, object_of}, JsonExact.pass_takes}
-use Rattle.pass_json.proofs.ObjectOf.{FieldText, caveat_is, identified, object_is, object_is_fine, object_reads, field_text, text_by_test, location_text, whole}
+use Rattle.pass_json.proofs.{Common.{pass_from, caveat_object, caveat_objects, json_text, object_of}, JsonExact.pass_takes, ObjectOf.{FieldText, caveat_is}}
+use Rattle.pass_json.proofs.ObjectOf.{identified, object_is, object_is_fine, object_reads, field_text, text_by_test, location_text, whole}
 use Rattle.pass_json.proofs.ReadsText.{reads_text, utf8_text}
 use Rattle.base64.specs.Engines.{url_safe_no_pad}
 use Rattle.pass_forms.specs.computed.Envelope.{from_base64}
@@ -36,9 +36,7 @@ utf8_json pass = utf8_text (object_of pass) (object_is_fine pass).texts
 
 read_json_text : (pass : Plain) → read (json_text pass) ≡ Some (object_of pass)
 unfolding json_text
-read_json_text pass =
-    let fine = object_is_fine pass in
-    reads_text (object_of pass) fine.numbers (omega arith) ∙ object_reads pass
+read_json_text pass = grind (arith, object_is_fine, reads_text, object_reads)
 
 pub starts_json : (pass : Plain) → starts_with_brace (json_text pass) ≡ true
 unfolding json_text object_of
