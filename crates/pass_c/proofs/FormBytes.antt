@@ -1,11 +1,10 @@
 -- Lemmas for the proof that the fields of a pass have at most as many bytes as the encoded pass.
-use Rattle.std.proofs.Common.{Bool, true, cond, ◌≡◌, ℕ, ◌≤◌, inl, inr, List, [], ◌∷◌, codes, length, map, Option, Some, None, unwrap_or, false, if◌then◌else◌}
-use Rattle.std.proofs.{Common.{replicate, sym, ◌∙◌, ap, arith, is_eq, bytes_eq}, lemmas.{Bool.true≢false, List.{length-append, Sums.sum_by-cons}}}
-use Rattle.std.proofs.lemmas.{Map.Text.is_eq-slice_cmp, Slice.Eq.bytes_eq-Decides}
-use Rattle.std.specs.{Cmp.Lexicographic.slice_cmp, List.{flat_map, sum_by}, Ordering.nat_cmp, declared.cmp.Ordering.TheVariants.Equal}
+use Rattle.std.proofs.Common.{Bool, cond, ◌≡◌, ℕ, ◌≤◌, List, [], ◌∷◌, codes, length, map, Option, Some, None, unwrap_or, false, if◌then◌else◌, replicate}
+use Rattle.std.proofs.{Common.{sym, ◌∙◌, ap, arith, is_eq, bytes_eq}, lemmas.{Bool.true≢false, List.{length-append, Sums.sum_by-cons}}}
+use Rattle.std.{proofs.lemmas.{Map.Text.is_eq-slice_cmp, Slice.Eq.bytes_eq-Decides}, specs.{Cmp.Lexicographic.slice_cmp, List.{flat_map, sum_by}}}
+use Rattle.std.specs.{Ordering.nat_cmp, declared.cmp.Ordering.TheVariants.Equal}
 use Rattle.base64.specs.{Engines.{url_safe_no_pad, url_safe, standard_no_pad, standard}, GeneralPurpose.encode_of, Rfc4648.{encode_symbols, padding_len}}
-use Rattle.base64.specs.declared.engine.general_purpose.GeneralPurpose.{GeneralPurpose}
-use Rattle.base64.proofs.RoundTrip.{length-encode_symbols}
+use Rattle.base64.{specs.declared.engine.general_purpose.GeneralPurpose.GeneralPurpose, proofs.RoundTrip.length-encode_symbols}
 use Rattle.serde_json.specs.{Data.{Data, Items, no_items, item}, Find.get}
 use Rattle.pass_forms.specs.{Envelope.IsBase64, Pass.{Plain, as_wide_pass, widened_caveat}, V1.{SpellsV1, caveat_packets}, V2.{SpellsV2, caveat_section}}
 use Rattle.pass_forms.specs.V2.{optional_field}
@@ -32,13 +31,11 @@ name_of plain base64 is_plain = cond is_plain plain base64
 
 field_fits : (plain base64 : List ℕ) (value : Data) (bytes : List ℕ) → IsField plain base64 value (Some bytes)
     → (is_plain : Bool) × (length bytes ≤ bytes_at (name_of plain base64 is_plain) value)
-field_fits plain base64 value bytes (inl is) = (true, omega (arith, ap found_bytes is.0))
-field_fits plain base64 value bytes (inr is) = (false, omega (arith, ap found_bytes is.2, base64_fits is.1 bytes is.3))
+field_fits plain base64 value bytes h = grind (arith, found_bytes, base64_fits)
 
 location_fits : (value : Data) (location : Option (List ℕ)) → IsField (codes "l") (codes "l64") value location
     → (is_plain : Bool) × (length (unwrap_or location []) ≤ bytes_at (name_of (codes "l") (codes "l64") is_plain) value)
-location_fits value None is = (true, omega arith)
-location_fits value (Some bytes) is = field_fits (codes "l") (codes "l64") value bytes is
+location_fits value location is = grind (arith, field_fits)
 
 caveat_fits : (value : Data) (identifier : List ℕ) → IsCaveatObject value (widened_caveat identifier) → length identifier ≤ data_bytes value
 caveat_fits value identifier is =
@@ -96,9 +93,7 @@ sections_fit [] = omega arith
 sections_fit (caveat ∷ caveats) = grind (arith, length-append, sum_by-cons length caveat caveats, sections_fit caveats)
 
 optional_fits : (location : Option (List ℕ)) → length (unwrap_or location []) ≤ length (optional_field 1 location)
-optional_fits None = omega arith
-optional_fits (Some bytes) = grind (arith, length-append)
+optional_fits location = grind (arith, length-append)
 
 pub v2_fits : (bytes : List ℕ) (pass : Plain) → SpellsV2 bytes (as_wide_pass pass) → fields_len pass ≤ length bytes
-v2_fits bytes pass is =
-    grind (arith, length-append, ap length is.sections, ap length is.is_location, optional_fits is.location, sections_fit pass.caveats)
+v2_fits bytes pass is = grind (arith, length-append, optional_fits, sections_fit)

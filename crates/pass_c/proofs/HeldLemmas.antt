@@ -1,50 +1,24 @@
 -- Lemmas about writing fields and caveats to an object.
-use Rattle.std.proofs.Common.{◌≡◌, ℕ, ◌+◌, ◌≤◌, ◌<◌, suc, List, [], ◌∷◌, ◌++◌, length, take, drop, set, map, get_or, Vec, ap, sym, ◌∙◌, arith}
-use Rattle.std.proofs.{Math.Seq.take-suc-set, lemmas.{Grind.{common_steps, take_at_read}, List.{length-drop, length-append, length-map, length-take}}}
-use Rattle.std.specs.{List.sum, Vec.vec_items}
+use Rattle.std.proofs.Common.{◌≡◌, ℕ, ◌+◌, ◌≤◌, ◌<◌, suc, List, [], ◌∷◌, ◌++◌, length, take, drop, set, map, get_or, Vec, ap, ◌∙◌, arith}
+use Rattle.std.{proofs.{Math.Seq.take-suc-set, lemmas.{Grind.{common_steps, take_at_read}, List.{length-drop, length-map, length-take}}}, specs.List.sum}
+use Rattle.std.specs.Vec.{vec_items}
 use Rattle.pass_forms.specs.Pass.{Plain}
-use Rattle.pass_c.specs.{Object.{held, pieces_of, with_one_more}, declared.object.PassObject.PassObject}
-use Rattle.pass_c.proofs.PieceLemmas.{written, part_in, take_before, drop_before, one_more_piece}
+use Rattle.pass_c.{specs.{Object.{held, pieces_of, with_one_more}, declared.object.PassObject.PassObject}, proofs.PieceLemmas.{written, take_before}}
+use Rattle.pass_c.proofs.PieceLemmas.{drop_before, one_more_piece}
 
 abbrev pub pass_of : List ℕ → List ℕ → List (List ℕ) → List ℕ → Plain
 pass_of location identifier caveats signature =
     record { location = location; identifier = identifier; caveats = caveats; signature = signature }
 
 pub same_pass : (l l' i i' : List ℕ) (c c' : List (List ℕ)) (s : List ℕ) → l ≡ l' → i ≡ i' → c ≡ c' → pass_of l i c s ≡ pass_of l' i' c' s
-same_pass l l' i i' c c' s e f g =
-    ap (λ (x : List ℕ). pass_of x i c s) e ∙ ap (λ (x : List ℕ). pass_of l' x c s) f ∙ ap (λ (x : List (List ℕ)). pass_of l' i' x s) g
-
-pub started : (location identifier bytes : List ℕ) → length location + length identifier ≤ length bytes
-    → (take (length location) (written (length location) identifier (written 0 location bytes)) ≡ location)
-    × (take (length identifier) (drop (length location) (written (length location) identifier (written 0 location bytes))) ≡ identifier)
-started location identifier bytes low =
-    let first = written 0 location bytes in
-    let len : length location ≤ length first =
-    omega (arith, length-append location (drop (0 + length location) bytes), length-drop (0 + length location) bytes) in
-    let whole : length location + 0 ≡ length location = omega arith in (
-      (ap (λ (n : ℕ). take (length location) (written n identifier first)) (sym whole) ∙ take_before (length location) 0 identifier first (omega (arith, len)))
-          ∙ part_in 0 location bytes (omega arith),
-      part_in (length location) identifier first len,
-    )
+same_pass l l' i i' c c' s e f g = grind arith
 
 pub pushed : (ll il : ℕ) (lens part bytes : List ℕ) → ll + (il + sum lens) + length part ≤ length bytes
     → (take ll (written (ll + (il + sum lens)) part bytes) ≡ take ll bytes)
     × ((take il (drop ll (written (ll + (il + sum lens)) part bytes)) ≡ take il (drop ll bytes))
     × (pieces_of (lens ++ length part ∷ []) (drop il (drop ll (written (ll + (il + sum lens)) part bytes)))
     ≡ pieces_of lens (drop il (drop ll bytes)) ++ part ∷ []))
-pushed ll il lens part bytes low =
-    let here = drop_before ll (il + sum lens) part bytes (omega arith) in
-    let rest = drop ll bytes in
-    let len : il + sum lens + length part ≤ length rest = omega (arith, length-drop ll bytes) in
-    let there = drop_before il (sum lens) part rest (omega (arith, len)) in
-    let left : sum lens + length part ≤ length (drop il rest) = omega (arith, len, length-drop il rest) in (
-      take_before ll (il + sum lens) part bytes (omega arith),
-      (
-        ap (take il) here ∙ take_before il (sum lens) part rest (omega (arith, len)),
-        ap (λ (b : List ℕ). pieces_of (lens ++ length part ∷ []) (drop il b)) here ∙ ap (pieces_of (lens ++ length part ∷ [])) there
-            ∙ one_more_piece lens part (drop il rest) left,
-      ),
-    )
+pushed ll il lens part bytes low = grind (arith, drop_before, length-drop, take_before, one_more_piece)
 
 pub held_push : (o : PassObject) (part bytes : List ℕ) (count tot : ℕ) → count ≡ length (take o.caveat_count o.caveat_lens) → count < 64
     → length o.caveat_lens ≡ 64 → length o.bytes ≡ 8192 → tot ≡ sum (take o.caveat_count o.caveat_lens)
@@ -66,24 +40,6 @@ held_push o part bytes count tot counted few lens whole summed low is =
     (ap (λ (ls : List ℕ). pieces_of ls (drop o.identifier_len (drop o.location_len bytes))) more
     ∙ ap (λ (b : List ℕ). pieces_of (take o.caveat_count o.caveat_lens ++ length part ∷ []) (drop o.identifier_len (drop o.location_len b))) there
     ∙ all.1.1)
-
-pub held_start : (form count : ℕ) (location identifier lens signature old first bytes : List ℕ) → count ≡ 0 → length old ≡ 8192
-    → length location + length identifier ≤ 8192 → first ≡ written 0 location old → bytes ≡ written (length location) identifier first
-    → held (record {
-      form = form;
-      location_len = length location;
-      identifier_len = length identifier;
-      caveat_count = count;
-      caveat_lens = lens;
-      signature = signature;
-      bytes = bytes;
-    }) ≡ pass_of location identifier [] signature
-held_start form count location identifier lens signature old first bytes none whole low one two =
-    let both = started location identifier old (omega arith) in
-    let there = two ∙ ap (written (length location) identifier) one in
-    same_pass _ _ _ _ _ _ signature (ap (take (length location)) there ∙ both.0)
-    (ap (λ (b : List ℕ). take (length identifier) (drop (length location) b)) there ∙ both.1)
-    (ap (λ (n : ℕ). pieces_of (take n lens) (drop (length identifier) (drop (length location) bytes))) none)
 
 pub next_caveat : {Z : Type 0} (vs : List (Vec ℕ Z)) (caveats : List (List ℕ)) (i : ℕ) (v : Vec ℕ Z) (text : List ℕ)
     → map vec_items vs ≡ caveats → i < length vs → v ≡ get_or vs i v → text ≡ vec_items v → take (i + 1) caveats ≡ take i caveats ++ text ∷ []

@@ -1,12 +1,12 @@
 -- Lemmas for the proof that the strings of a JSON value have at most as many bytes as the JSON
 -- text.
 use Rattle.pass_c.proofs.{StringBytes.{AtMost, over, under}, TokenBytes.{tokens_bytes, tokens_fit}}
-use Rattle.std.proofs.Common.{◌≡◌, ℕ, zero, suc, ◌+◌, ◌≤◌, List, [], ◌∷◌, length, Option, Some, None, option_and_then, refl, subst, arith}
+use Rattle.std.proofs.Common.{◌≡◌, ℕ, zero, suc, ◌+◌, ◌≤◌, List, length, Option, Some, None, option_and_then, refl, subst, arith}
 use Rattle.json.specs.Json.{Json, Parse, parse_map, after_end_array, read_key, items_step, members_step, if_last, items, members, value_with, value}
 use Rattle.json.specs.{Lex.tokens, Token.Token}
+use Rattle.json.specs.Json as json
 use Rattle.serde_json.specs.{Data.{Data, string, array, object, Items, no_items, item, Members, no_members, member, put}, Read.{max_depth, of_items, of_json}}
 use Rattle.serde_json.specs.Read.{of_members, read}
-use Rattle.json.specs.Json as json
 
 abbrev mutual
   json_bytes : Json → ℕ
@@ -41,12 +41,10 @@ and_more g h is more uses n None x = tt
 and_more g h is more uses n (Some q) x = mapped g g (h q.0) (json_bytes q.0) (tokens_bytes q.1) n x (is q.0) (more q.1) (uses q.1)
 
 array_ends : (ts : List Token) → AtMost tokens_bytes (tokens_bytes ts) (after_end_array ts)
-array_ends [] = tt
-array_ends (t ∷ ts) = grind arith
+array_ends ts = grind arith
 
 key_begins : (ts : List Token) → AtMost (λ q. tokens_bytes q.1) (tokens_bytes ts) (read_key ts)
-key_begins [] = tt
-key_begins (t ∷ ts) = grind arith
+key_begins ts = grind arith
 
 module _ (p : Parse Json) (uses : Uses json_bytes p) where
   item_turn : (more : Parse json.Items) → Uses json_items_bytes more → (ts : List Token) (o : Option (List Token)) → AtMost tokens_bytes (tokens_bytes ts) o
@@ -61,10 +59,7 @@ module _ (p : Parse Json) (uses : Uses json_bytes p) where
 
   member_turn : (more : Parse json.Members) → Uses json_members_bytes more → (n : ℕ) (o : Option (Option (List ℕ) × List Token))
       → AtMost (λ q. tokens_bytes q.1) n o → AtMost (with_rest json_members_bytes) n (option_and_then (λ q. members_step p more q.0 q.1) o)
-  member_turn more again n None e = tt
-  member_turn more again n (Some (None, s)) e = omega arith
-  member_turn more again n (Some (Some k, s)) e =
-      and_more json_members_bytes (json.member k) (λ j b. refl) more again n (p s) (over (with_rest json_bytes) (tokens_bytes s) n e (p s) (uses s))
+  member_turn more again n o e = grind (arith, and_more, json_members_bytes, over, tokens_bytes)
 
   members_use : (n : ℕ) → Uses json_members_bytes (members p n)
   unfolding members
@@ -72,8 +67,7 @@ module _ (p : Parse Json) (uses : Uses json_bytes p) where
   members_use (suc n) ts = member_turn (members p n) (members_use n) _ (read_key ts) (key_begins ts)
 
 one_level : (a : Parse json.Items) (o : Parse json.Members) → Uses json_items_bytes a → Uses json_members_bytes o → Uses json_bytes (value_with a o)
-one_level a o p q [] = tt
-one_level a o p q (t ∷ ts) = grind (arith, p ts, q ts)
+one_level a o p q = grind arith
 
 value_uses : (depth : ℕ) → Uses json_bytes (value depth)
 unfolding value
@@ -104,9 +98,7 @@ put_bytes k d (member l e ms) = grind (arith, put_bytes k d ms)
 one_member : (k : List ℕ) (ms : json.Members) (found : Members) (m n : ℕ) (o : Option Data) → AtMost data_bytes m o
     → ((all : Members) → AtMost members_bytes (n + members_bytes all) (of_members ms all))
     → AtMost members_bytes (m + n + members_bytes found) (option_and_then (λ d. of_members ms (put k d found)) o)
-one_member k ms found m n None x h = tt
-one_member k ms found m n (Some d) x h =
-    over members_bytes (n + members_bytes (put k d found)) _ (omega (arith, put_bytes k d found)) (of_members ms (put k d found)) (h (put k d found))
+one_member k ms found m n o x h = grind (arith, over, members_bytes, put_bytes)
 
 mutual
   json_fits : (j : Json) → AtMost data_bytes (json_bytes j) (of_json j)

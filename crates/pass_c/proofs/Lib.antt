@@ -1,9 +1,7 @@
 pub mod PieceLemmas
 pub mod HeldLemmas
-pub mod VerdictLemmas
 pub mod StringBytes
 pub mod TokenBytes
 pub mod JsonBytes
 pub mod MemberBytes
 pub mod FormBytes
-pub mod ReadablePasses

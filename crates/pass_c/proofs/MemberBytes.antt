@@ -1,7 +1,7 @@
 -- Lemmas about the number of bytes in the strings of a JSON object.
-use Rattle.std.proofs.Common.{◌≡◌, ℕ, ◌+◌, ◌≤◌, List, Option, Some, None, arith}
-use Rattle.std.specs.{Cmp.Lexicographic.slice_cmp, Ordering.{nat_cmp, match_ordering}, declared.cmp.Ordering.{Ordering, TheVariants.Equal}}
-use Rattle.serde_json.specs.{Data.{Data, object, Members, no_members, member}, Find.{get, get_member}}
+use Rattle.std.{proofs.Common.{◌≡◌, ℕ, ◌+◌, ◌≤◌, List, Option, Some, None, arith}, specs.{Cmp.Lexicographic.slice_cmp, Ordering.{nat_cmp, match_ordering}}}
+use Rattle.std.specs.declared.cmp.Ordering.{Ordering, TheVariants.Equal}
+use Rattle.serde_json.specs.{Data.{Data, Members, no_members, member}, Find.{get, get_member}}
 use Rattle.pass_c.proofs.JsonBytes.{data_bytes, members_bytes}
 
 abbrev pub found_bytes : Option Data → ℕ
@@ -24,8 +24,6 @@ one_name k (member l e ms) = grind (arith, one_name k ms)
 one_here : (a b c : Ordering) (e : Data) (x y z : Option Data) → (a ≡ Equal → b ≡ Equal → ⊥) → (a ≡ Equal → c ≡ Equal → ⊥)
     → (b ≡ Equal → c ≡ Equal → ⊥) → found_bytes (match_ordering a x (Some e) x) + found_bytes (match_ordering b y (Some e) y)
     + found_bytes (match_ordering c z (Some e) z) ≤ data_bytes e + (found_bytes x + found_bytes y + found_bytes z)
-one_here Equal b c e x y z ab ac bc = grind arith
-one_here a Equal c e x y z ab ac bc = grind arith
 one_here a b c e x y z ab ac bc = grind arith
 
 module _ (k l m : List ℕ) (kl : Apart k l) (km : Apart k m) (lm : Apart l m) where
@@ -40,9 +38,7 @@ module _ (k l m : List ℕ) (kl : Apart k l) (km : Apart k m) (lm : Apart l m) w
       )
 
   pub three_values : (value : Data) → bytes_at k value + bytes_at l value + bytes_at m value ≤ data_bytes value
-  three_values (object ms) = three_names ms
-  three_values value = grind arith
+  three_values value = grind (arith, three_names)
 
 pub one_value : (k : List ℕ) (value : Data) → bytes_at k value ≤ data_bytes value
-one_value k (object ms) = one_name k ms
-one_value k value = grind arith
+one_value k value = grind (arith, one_name)

@@ -1,7 +1,7 @@
 -- Lemmas for the proof that a JSON string has at most as many bytes as its source.
 use Rattle.std.proofs.Common.{◌++◌, option_map, ◌≡◌, ℕ, ◌+◌, ◌≤◌, Bool, true, false, cond, ◌&&◌, ◌==◌, List, [], ◌∷◌, length, Option, Some, None}
-use Rattle.std.proofs.{Common.{option_and_then, refl, ap, arith}, lemmas.{Bool.{eqb-true, and_parts}, List.length-append}}
-use Rattle.std.specs.{Char.{is_digit, encode_utf8}, Prelude.⊤}
+use Rattle.std.{proofs.{Common.{option_and_then, refl, ap, arith}, lemmas.{Bool.{eqb-true, and_parts}, List.length-append}}, specs.Char.{is_digit, encode_utf8}}
+use Rattle.std.specs.Prelude.{⊤}
 use Rattle.json.specs.{Align.span, Lex.{Mode, in_string, in_escape}, Text.{code_unit, is_high_surrogate, is_low_surrogate, surrogate_pair, Within, plain}}
 use Rattle.json.specs.Text.{after_backslash, after_u, after_high, prepend, content}
 
@@ -59,8 +59,7 @@ span_hex x xs h = span_plain x xs (not_this 34 x (x == 34) (eqb-true x 34) refl 
 
 span_unit : (a b c d : ℕ) (xs : List ℕ) → is_found (code_unit a b c d) ≡ true → span in_string (a ∷ b ∷ c ∷ d ∷ xs) ≡ 4 + span in_string xs
 unfolding code_unit
-span_unit a b c d xs h =
-    grind (arith, span_hex a (b ∷ c ∷ d ∷ xs), span_hex b (c ∷ d ∷ xs), span_hex c (d ∷ xs), span_hex d xs)
+span_unit a b c d xs h = grind (arith, span_hex)
 
 pub content-span : (w : Within) (xs : List ℕ) → AtMost length (span (mode w) xs) (content w xs)
 unfolding content

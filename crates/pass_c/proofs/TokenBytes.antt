@@ -1,8 +1,8 @@
 -- Lemmas for the proof that the strings in JSON tokens have at most as many bytes as the JSON text.
-use Rattle.std.proofs.Common.{◌≡◌, ℕ, suc, ◌+◌, ◌≤◌, Bool, true, false, cond, ◌==◌, List, [], ◌∷◌, length, Option, refl, arith}
-use Rattle.json.specs.{Align.{span, span_byte}, Lex.{Class, quote, backslash, operator, space, other, class, Lexeme, token, comma, colon, Mode, between}}
-use Rattle.json.specs.Lex.{in_word, in_string, in_escape, lex, lex_byte, operator_lexeme, string_token, Place, fresh, after_value, after_comma, after_key}
-use Rattle.json.specs.{Lex.{begins_colon, if_allowed, place_token, punctuate, tokens}, Text.plain, Token.Token, Word.{after_number, head, number_before, word}}
+use Rattle.std.proofs.Common.{◌≡◌, ℕ, suc, ◌+◌, ◌≤◌, Bool, cond, List, [], ◌∷◌, length, Option, arith}
+use Rattle.json.specs.{Align.{span, span_byte}, Lex.{Class, class, Lexeme, token, comma, colon, Mode, between, lex, lex_byte, operator_lexeme, string_token}}
+use Rattle.json.specs.{Lex.{Place, fresh, after_value, after_comma, after_key, begins_colon, if_allowed, place_token, punctuate, tokens}, Token.Token}
+use Rattle.json.specs.Word.{number_before, word}
 use Rattle.pass_c.proofs.StringBytes.{AtMost, content-span}
 
 abbrev pub token_bytes : Token → ℕ
@@ -30,10 +30,7 @@ one_of b x y e f = grind arith
 
 word_bytes : (t : List ℕ) → token_bytes (word t) ≡ 0
 unfolding word
-word_bytes t =
-    one_of (head t == 116) _ _ (one_of _ (Token.boolean true) Token.bad refl refl)
-    (one_of (head t == 102) _ _ (one_of _ (Token.boolean false) Token.bad refl refl)
-    (one_of (head t == 110) _ _ (one_of _ Token.null Token.bad refl refl) (number_bytes t (after_number t))))
+word_bytes t = grind (arith, one_of, number_bytes)
 
 operator_bytes : (x : ℕ) → lexeme_bytes (operator_lexeme x) ≡ 0
 operator_bytes x = grind arith
@@ -43,17 +40,7 @@ string_bytes n found h = grind arith
 
 lex_step : (m : Mode) (c : Class) (x : ℕ) (xs : List ℕ) → ((next : Mode) → lexemes_bytes (lex next xs) + span next xs ≤ length xs)
     → lexemes_bytes (lex_byte m c x xs (λ next. lex next xs)) + span_byte m c (λ next. span next xs) ≤ suc (length xs)
-lex_step between quote x xs ih = omega (arith, ih in_string, string_bytes _ _ (content-span plain xs))
-lex_step between backslash x xs ih = omega (arith, ih in_word)
-lex_step between operator x xs ih = omega (arith, ih between, operator_bytes x)
-lex_step between space x xs ih = omega (arith, ih between)
-lex_step between other x xs ih = omega (arith, ih in_word, word_bytes (x ∷ xs))
-lex_step in_word operator x xs ih = omega (arith, ih between, operator_bytes x)
-lex_step in_word space x xs ih = omega (arith, ih between)
-lex_step in_word c x xs ih = omega (arith, ih in_word)
-lex_step in_string quote x xs ih = omega (arith, ih between)
-lex_step in_string backslash x xs ih = omega (arith, ih in_escape)
-lex_step m c x xs ih = omega (arith, ih in_string)
+lex_step m c x xs ih = grind (arith, string_bytes, content-span, operator_bytes, word_bytes)
 
 lexed : (m : Mode) (xs : List ℕ) → lexemes_bytes (lex m xs) + span m xs ≤ length xs
 unfolding lex span
@@ -66,9 +53,7 @@ allowed b t k next n h = grind arith
 
 placed : (p : Place) (t : Token) (b : Bool) (k : Place → List Token) (n : ℕ) → ((next : Place) → tokens_bytes (k next) ≤ n)
     → tokens_bytes (place_token p t b k) ≤ token_bytes t + n
-placed p (Token.key s) b k n h = omega arith
-placed p Token.bad b k n h = omega arith
-placed p t b k n h = grind (arith, allowed, h)
+placed p t b k n h = grind (arith, allowed)
 
 punctuated : (p : Place) (ls : List Lexeme) → tokens_bytes (punctuate p ls) ≤ lexemes_bytes ls
 unfolding punctuate
