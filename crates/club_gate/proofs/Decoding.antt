@@ -1,14 +1,13 @@
 -- Lemmas for the proof that `decoded_pass` and `machine_event` compute the decoded values.
-use Rattle.club_gate.proofs.Common.{All, Bool, Err, IsTrue, List, None, Ok, Option, Result, Some, [], ap, arith, map, refl, sym, ℕ, ◌↔◌, ◌∷◌, ◌≡◌}
-use Rattle.club_gate.proofs.Common.{All-head, All-tail, Caveat, Form, FormFault, IsBytes, IsSigned, Plain, ReadsWhatIsUnderstood, caveat_of, subst, ◌∙◌}
-use Rattle.club_gate.proofs.Common.{AreWordsOf, DecidesSigned, IsAnyReading, IsDecoded, IsSeenAs, Pass, ReadsAnyFormExactly, Request, Words, is_signed, reading}
+use Rattle.std.{proofs.Math.Path.fun_ext, specs.List.AllZip}
+use Rattle.club_core.specs.declared.pass_fault.PassFault.{PassFault}
+use Rattle.club_gate.proofs.Common.{All, Bool, Err, IsTrue, List, None, Ok, Option, Result, Some, [], ap, arith, map, refl, sym, ℕ, ◌↔◌, ◌∷◌, ◌≡◌, All-head}
+use Rattle.club_gate.proofs.Common.{All-tail, Caveat, Form, FormFault, IsBytes, IsSigned, Plain, ReadsWhatIsUnderstood, caveat_of, subst, ◌∙◌, AreWordsOf}
+use Rattle.club_gate.proofs.Common.{DecidesSigned, IsAnyReading, IsDecoded, IsSeenAs, Pass, ReadsAnyFormExactly, Request, Words, is_signed, reading}
 use Rattle.club_gate.proofs.Common.{AreEventsOf, Decodes, FindsNames, IsEventOf, IsEventOfBytes, SeenAlike, SeesEvents, identifier_of, key_name_in}
 use Rattle.club_gate.proofs.Common.{decoded_or_fault, decoded_pass, decoded_words, machine_event, machine_events, machine_pass, without_form}
-use Rattle.std.specs.List.{AllZip}
-use Rattle.std.proofs.Math.Path.{fun_ext}
-use Rattle.pass_caveats.specs.Caveat.{Understood}
 use Rattle.club_values.specs.Name.{IsName}
-use Rattle.club_core.specs.declared.pass_fault.PassFault.{PassFault}
+use Rattle.pass_caveats.specs.Caveat.{Understood}
 use Rattle.club_core.specs.Run as machine
 use Rattle.club_gate.specs.declared.event.Event.{Event}
 

@@ -1,11 +1,10 @@
 -- Lemmas for the proof that `Desk::verdict` returns the verdict on a text.
-use Rattle.club_gate.proofs.Common.{Err, Form, FormFault, IfOk, IsBytes, IsReadingInForm, List, Ok, Result, arith, length, refl, subst, ℕ, ◌≡◌, ◌≢◌, ◌≤◌}
-use Rattle.club_gate.proofs.Common.{Club, PassField, Plain, ReadsAnyFormExactly, ReadsExactly, ReadsWhatIsWrapped, Request, SpellsForm, StoreFault, pass_fields}
-use Rattle.club_gate.proofs.Common.{OfItsPass, Verdict, machine_pass, reading, reading_in_form, verdict_in, words_in_form, words_with}
+use Rattle.club_gate.proofs.Common.{Err, Form, FormFault, IfOk, IsBytes, IsReadingInForm, List, Ok, Result, arith, length, refl, subst, ℕ, ◌≡◌, ◌≢◌, ◌≤◌, Club}
+use Rattle.club_gate.proofs.Common.{PassField, Plain, ReadsAnyFormExactly, ReadsExactly, ReadsWhatIsWrapped, Request, SpellsForm, StoreFault, pass_fields}
+use Rattle.club_gate.{proofs.Common.{OfItsPass, Verdict, machine_pass, reading, reading_in_form, verdict_in, words_in_form, words_with}, specs.Served.IsJson}
 use Rattle.pass_forms.specs.{Envelope.IsUnwrapped, Reading.{IsReadAs, max_caveats, max_text_len}, V1.SpellsV1, V2.SpellsV2, computed.Text.in_form}
 use Rattle.pass_forms.specs.{computed.{V1Reading.reading_v1, V2Reading.reading_v2}, declared.form.Form.TheVariants.{V1, V2, Json}}
 use Rattle.pass_json.specs.{Json.SpellsJson, computed.JsonReading.reading_json}
-use Rattle.club_gate.specs.Served.{IsJson}
 
 abbrev IsVerdict : Result Verdict StoreFault → Verdict → Type 0
 IsVerdict result verdict = IfOk result (λ found. found ≡ verdict)

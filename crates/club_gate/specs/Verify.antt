@@ -1,11 +1,10 @@
 -- The verdict on a pass, and the state of the store after the desk computed the verdict.
 use Rattle.std.specs.Prelude.{◌≡◌, ◌⊎◌, ℕ, ◌≤◌, not, List, [], ◌∷◌, length, IfOk, Option, Some, None, Result, Ok, Err}
-use Rattle.pass_forms.specs.{FieldSource.{PassField, pass_fields}, Pass.Plain, Reading.max_caveats, declared.fault.FormFault.FormFault}
-use Rattle.club_rows.specs.{Key.row_of_key, declared.key.{Key.Key, KeyRow.KeyRow}}
 use Rattle.club_core.specs.{Answer.form_refusal, Lines.{line_if, first_of}, Pass.is_signed_under, Store.{IsRead, StoreGhosts}, Verdict.refusal_verdict}
-use Rattle.club_core.specs.declared.{refusal.Refusal.{Refusal, TheVariants.{KeyRevoked, NotVerified}}, store.StoreFault.StoreFault}
-use Rattle.club_core.specs.declared.verdict.Verdict.{Verdict}
+use Rattle.club_core.specs.declared.{refusal.Refusal.{Refusal, TheVariants.{KeyRevoked, NotVerified}}, store.StoreFault.StoreFault, verdict.Verdict.Verdict}
 use Rattle.club_gate.specs.{DecodedPass.fault_of, computed.DecodedPass.machine_pass}
+use Rattle.club_rows.specs.{Key.row_of_key, declared.key.{Key.Key, KeyRow.KeyRow}}
+use Rattle.pass_forms.specs.{FieldSource.{PassField, pass_fields}, Pass.Plain, Reading.max_caveats, declared.fault.FormFault.FormFault}
 
 -- If the pass with these fields has at most 64 caveats, the pass has the property `IsSo`.
 abbrev pub OfItsPass : List PassField → (Plain → Type 0) → Type 0
