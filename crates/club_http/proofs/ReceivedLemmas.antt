@@ -1,9 +1,8 @@
 -- Lemmas about a request whose bytes arrive in several pieces.
 use Rattle.std.proofs.{Common.{◌≡◌, ◌⊎◌, ℕ, ◌+◌, ◌≤◌, ◌↔◌, Bool, false, inr, List, ◌++◌, length, take, sym, ap, ◌∙◌, arith}, Math.Seq.take-append-add}
-use Rattle.std.proofs.lemmas.List.{take-append-le, length-take, length-take-le}
-use Rattle.std.specs.Prelude.{IsTrue, Some, None}
-use Rattle.http_request.specs.Frame.{IsWhole}
+use Rattle.std.{proofs.lemmas.List.{take-append-le, length-take, length-take-le}, specs.Prelude.{IsTrue, Some, None}}
 use Rattle.club_http.specs.Calls.{Call, Gives, ReadsNoFurther}
+use Rattle.http_request.specs.Frame.{IsWhole}
 use borrow.Rule.Slice.PartMut.{put_mid}
 
 pub within_request : (room : List ℕ) (n : ℕ) → n ≤ 16640 → length (take n room) ≤ 16640

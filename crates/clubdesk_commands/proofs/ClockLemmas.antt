@@ -1,12 +1,11 @@
 -- Lemmas that reduce a server over a store and a clock to a server over the store.
 use Rattle.std.proofs.Common.{◌≡◌, ℕ, List, Option, Result, ◌∙◌, refl}
-use Rattle.jiff_core.specs.declared.timestamp.Timestamp.{Timestamp}
 use Rattle.club_core.specs.declared.{reply.Reply.Reply, request.Request.Request}
 use Rattle.club_http.specs.Replied.{AnswerRelation}
 use Rattle.clubdesk_arguments.specs.declared.{fault.Fault.Fault, task.Service.Service}
-use Rattle.clubdesk_commands.specs.{OfficeDesk.{answers_with_clock, carries_out_with_clock}, Run.RunsServer}
-use Rattle.clubdesk_commands.proofs.AlikeLemmas.{Simulates, run_alike}
+use Rattle.clubdesk_commands.{proofs.AlikeLemmas.{Simulates, run_alike}, specs.{OfficeDesk.{answers_with_clock, carries_out_with_clock}, Run.RunsServer}}
 use Rattle.desk_server.specs.{Served.{CommandRelation, Turn}, declared.office.Answer.Answer}
+use Rattle.jiff_core.specs.declared.timestamp.Timestamp.{Timestamp}
 
 module _ {S Machine : Type 0} (Shows : Machine → Option Timestamp → Type 0) (machine : Machine) (Answers : ℕ → AnswerRelation S)
     (Carries : (Option Timestamp → Type 0) → CommandRelation S)

@@ -1,8 +1,7 @@
 -- Lemmas about arrays of texts in JSON.
 use Rattle.std.proofs.Common.{arith, ◌≡◌, ◌∷◌, ℕ, suc, zero, ◌<◌, List, [], get_or, length, map, None, refl}
 use Rattle.clap.specs.Words.{Text}
-use Rattle.serde_json.specs.{Data.{Data, items_depth, string}, Find.{as_str}, View.{items_of, view}}
-use Rattle.serde_json.specs.declared.value.Value.{Value}
+use Rattle.serde_json.specs.{Data.{Data, items_depth, string}, Find.as_str, View.{items_of, view}, declared.value.Value.Value}
 
 pub no_depth : (texts : List Text) → items_depth (items_of (map string texts)) ≡ 0
 no_depth [] = refl

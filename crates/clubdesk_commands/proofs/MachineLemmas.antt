@@ -16,8 +16,7 @@ use Rattle.clubdesk_commands.specs.Does as does
 use Rattle.clubdesk_commands.proofs.AlikeLemmas.{Simulates, run_alike, same, so}
 use Rattle.jiff_core.specs.declared.timestamp.Timestamp.{Timestamp}
 use Rattle.clubdesk_commands.specs.OfficeDesk as spec
-use Rattle.desk_server.specs.{Served.{Turn}}
-use Rattle.desk_server.specs.declared.{office.{Answer.Answer}}
+use Rattle.desk_server.specs.{Served.Turn, declared.office.Answer.Answer}
 
 machine_steps : (club next : Club) (event : Event) (response : Response OfficeReply) → IsStep desk_presentation club event response next
     → Steps itself club next event response

@@ -1,7 +1,6 @@
 -- Lemmas about the name of a command, which is the second argument.
 use Rattle.std.proofs.Common.{◌≡◌, List, ◌∷◌, map, Option, Some, None, option_copied, option_map, slice_get, string_bytes, ap, sym, ◌∙◌, arith}
-use Rattle.std.proofs.lemmas.Option.{slice_get-map, slice_get_past}
-use Rattle.std.specs.{Borrow.Bor, Prelude.String, Slice.IsItemAt}
+use Rattle.std.{proofs.lemmas.Option.{slice_get-map, slice_get_past}, specs.{Borrow.Bor, Prelude.String, Slice.IsItemAt}}
 
 second : {X : Type 0} (xs : List X) (lent : Option (Bor X)) → IsItemAt xs 1 lent → option_copied lent ≡ slice_get xs 1
 second xs None at = sym (slice_get_past xs 1 at.3)

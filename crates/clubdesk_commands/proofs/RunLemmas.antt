@@ -4,11 +4,13 @@ use Rattle.clap.specs.Words.{Text}
 use Rattle.jiff_core.specs.declared.timestamp.Timestamp.{Timestamp}
 use Rattle.club_core.specs.{Store.StoreGhosts, declared.store.StoreFault.StoreFault}
 use Rattle.club_core.specs.declared.store.StoreFault.TheVariants as store
-use Rattle.desk_server.specs.{Served.Turn, declared.databases.{Databases.Ghosts as DatabasesWords, Visit.Ghosts as VisitWords}}
+use Rattle.desk_server.specs.Served.{Turn}
+use Rattle.desk_server.specs.declared.databases.Databases.{Ghosts as DatabasesWords}
+use Rattle.desk_server.specs.declared.databases.Visit.{Ghosts as VisitWords}
 use Rattle.clubdesk_arguments.specs.{Arguments.{AskFor, ReadsArguments}, Fault.fault_of_opening, JobModel.JobModel, declared.fault.Fault.Fault}
-use Rattle.clubdesk_arguments.specs.declared.{task.{Service.Service, Work.Work}}
+use Rattle.clubdesk_arguments.specs.declared.task.{Service.Service, Work.Work}
 use Rattle.command_line.specs.declared.job.Asked.{Asked, TheVariants.Perform}
-use Rattle.clubdesk_commands.specs.{Output.{EndsWork, Stream}, Run.{Announces, IsHandedOver, IsReply, Serves}}
+use Rattle.clubdesk_commands.specs.{Output.{EndsWork, Stream}, Run.{Announces, Serves}}
 use Rattle.clubdesk_commands.specs.Run as spec
 
 pub asks_for : {X : Type 0} (text : X → Text) {given arguments : List X} {read : Asked JobModel} {job whole : JobModel} {work : Work} → given ≡ arguments

@@ -1,5 +1,5 @@
 -- Defines a server whose state is a club instead of a store.
-use Rattle.std.specs.Prelude.{◌≡◌, ℕ, List, Option}
+use Rattle.std.specs.Prelude.{◌≡◌, ℕ, Option}
 use Rattle.jiff_core.specs.declared.timestamp.Timestamp.{Timestamp}
 use Rattle.club_core.specs.{Club.Club, Pass.Words, Run.{Asked, ToMember}, Store.StoreGhosts}
 use Rattle.club_gate.specs.{DecodedPass.AreWordsOf, Response.desk_presentation}

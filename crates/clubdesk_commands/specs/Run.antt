@@ -1,15 +1,13 @@
 -- Defines the effect of a run of the program.
-use Rattle.std.specs.Io.KnownBytes.{Appends}
-use Rattle.std.specs.Prelude.{◌≡◌, ◌≢◌, ◌⊎◌, ℕ, ◌≤◌, List, [], ◌∷◌, ◌++◌, Option, Some, None, Result, Ok, Err, IfErr, true, false, codes, decimal}
-use Rattle.std.specs.String.{string_bytes}
+use Rattle.std.specs.{Io.KnownBytes.Appends, Prelude.{◌≡◌, ◌≢◌, ◌⊎◌, ℕ, ◌≤◌, List, [], ◌∷◌, ◌++◌, Option, Some, None, Result, Ok, Err, IfErr, true, false}}
+use Rattle.std.specs.{Prelude.{codes, decimal}, String.string_bytes}
 use Rattle.clap.specs.{Words.Text, declared.error.Error.Error}
-use Rattle.hex.specs.Hex.{encode_lower}
 use Rattle.club_core.specs.{Club.Club, Store.StoreGhosts, declared.store.StoreFault.StoreFault}
 use Rattle.club_http.specs.{Desk.AnswersBy, Replied.AnswerRelation}
 use Rattle.command_line.specs.{Output.AppendsFront, declared.{errors.ArgumentsFault.ArgumentsFault, job.Asked.TheVariants.ShowText}}
-use Rattle.desk_server.specs.{Databases.Giving, Served.{Ends, Turn}, declared.databases.Databases.Ghosts as DatabasesWords}
-use Rattle.desk_server.specs.declared.databases.{Reached.TheVariants.{Opened, Served}, Visit.Ghosts as VisitWords}
-use Rattle.desk_server.specs.declared.serve.ClockOutOfRange.{ClockOutOfRange as ClockFault}
+use Rattle.desk_server.specs.{Databases.Giving, Served.{Ends, Turn}, declared.databases.{Databases.Ghosts as DatabasesWords, Reached.TheVariants.Opened}}
+use Rattle.desk_server.specs.declared.{databases.{Reached.TheVariants.Served, Visit.Ghosts as VisitWords}, serve.ClockOutOfRange.ClockOutOfRange as ClockFault}
+use Rattle.hex.specs.Hex.{encode_lower}
 use Rattle.desk_server.specs.Served as served
 use Rattle.clubdesk_arguments.specs.{Arguments.{AskFor, ReadsArguments}, Fault.{fault_of_opening, of_arguments}, declared.fault.Fault.Fault}
 use Rattle.clubdesk_arguments.specs.declared.{fault.Fault.TheVariants.{Memory, ClockOutOfRange, InputOutput, NoAnswer, Answered}, task.KeyCommand.KeyCommand}

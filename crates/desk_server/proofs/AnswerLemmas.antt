@@ -1,7 +1,6 @@
 -- Lemmas for the proof of `put_answer`, which writes an answer to the office.
 use Rattle.std.proofs.{Common.{◌<◌, ◌+◌, ℕ, suc, arith, List, [], ◌∷◌, ◌++◌, length, take}, KnownBytes.Appends-trans, Math.Seq.take-append-add}
-use Rattle.std.proofs.lemmas.List.{take_all, take-append-le}
-use Rattle.std.specs.{Io.KnownBytes.Appends, Prelude.{Option, Result, Ok, Err}}
+use Rattle.std.{proofs.lemmas.List.{take_all, take-append-le}, specs.{Io.KnownBytes.Appends, Prelude.{Option, Result, Ok, Err}}}
 use Rattle.club_http.specs.Ends.{TakesAll}
 use Rattle.desk_server.specs.Served.{answer_bytes}
 

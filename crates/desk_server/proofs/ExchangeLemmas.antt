@@ -1,16 +1,14 @@
 -- Lemmas for the proof of `AcceptedConnection::exchange`.
-use Rattle.std.proofs.Common.{◌≡◌, ◌∙◌, ℕ, List, [], take, Option, Some, None, IfSome, Result, Ok, Err, ap, refl}
-use Rattle.std.proofs.{KnownBytes.{Appends-kept, Appends-nil, Appends-trans, Keeps-refl, Keeps-trans}, lemmas.Option.IfSome_then}
-use Rattle.std.specs.Io.KnownBytes.{Appends, Keeps}
+use Rattle.std.proofs.{Common.{◌≡◌, ◌∙◌, ℕ, List, [], take, Option, Some, None, IfSome, Result, Ok, Err, ap, refl}, KnownBytes.{Appends-kept, Appends-nil}}
+use Rattle.std.{proofs.{KnownBytes.{Appends-trans, Keeps-refl, Keeps-trans}, lemmas.Option.IfSome_then}, specs.Io.KnownBytes.{Appends, Keeps}}
 use Rattle.club_core.specs.declared.reply.Reply.{Reply}
-use Rattle.club_http.specs.{Calls.{ArePut, ReadsNoFurther}, Exchange.{Exchanges, reader_failures, writer_failures}, Received.Receives}
-use Rattle.club_http.specs.{Replied.{AnswerRelation, IsReplied}, declared.fault.AnswerFault.{AnswerFault, TheVariants.{Read, Write}}}
+use Rattle.club_http.specs.{Calls.{ArePut, ReadsNoFurther}, Exchange.{Exchanges, reader_failures, writer_failures}, Received.Receives, Replied.AnswerRelation}
+use Rattle.club_http.specs.{Replied.IsReplied, declared.fault.AnswerFault.{AnswerFault, TheVariants.{Read, Write}}}
 use Rattle.club_http.specs.Calls as calls
-use Rattle.http_response.specs.Text.{reply_text}
-use Rattle.desk_server.specs.{Accepted.{Comes, HasWaited, IsEnded, IsRead, IsWritten, Talks}, Between.{AreWaits, Awaits}, Limits.Calls}
-use Rattle.desk_server.specs.Served.{CommandRelation, ExchangesBetween, IsExchanged, Meanwhile, Notes}
 use Rattle.club_clock.specs.Moments.{GivesMoment}
-use Rattle.desk_server.specs.declared.timed.Accepted.{Accepted}
+use Rattle.desk_server.specs.{Accepted.{Comes, HasWaited, IsEnded, IsRead, IsWritten, Talks}, Between.{AreWaits, Awaits}, Limits.Calls, Served.CommandRelation}
+use Rattle.desk_server.specs.{Served.{ExchangesBetween, IsExchanged, Meanwhile, Notes}, declared.timed.Accepted.Accepted}
+use Rattle.http_response.specs.Text.{reply_text}
 use Rattle.desk_server.specs.Between as between
 use Rattle.desk_server.proofs.MeanwhileLemmas.{reads_kept}
 

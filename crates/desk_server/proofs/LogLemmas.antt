@@ -1,6 +1,5 @@
 -- Lemmas for the proof of `a_log_has_its_lines`.
-use Rattle.std.proofs.Common.{◌≡◌, ℕ, List, [], ◌∷◌, ◌++◌, append_assoc, append-nil, sym}
-use Rattle.std.specs.Prelude.{Option}
+use Rattle.std.{proofs.Common.{◌≡◌, ℕ, List, [], ◌∷◌, ◌++◌, append_assoc, append-nil, sym}, specs.Prelude.Option}
 use Rattle.desk_server.specs.{Laws.WritesLines, Log.{AreWritten, IsTextWritten, line_text}, Served.{AreNotedMeanwhile, IsBegun, Notes, Turn, events_in}}
 use Rattle.desk_server.specs.declared.log.LogEvent.{LogEvent, TheVariants.{Absent, Overrun}}
 use Rattle.desk_server.specs.Log as log

@@ -1,7 +1,6 @@
 -- This file defines time limits, and calls of a stream under a time limit.
-use Rattle.std.specs.Io.KnownBytes.{Consumes}
-use Rattle.std.specs.Prelude.{◌≡◌, ◌⊎◌, ℕ, ◌+◌, ◌-◌, ◌*◌, ◌^◌, ◌≤◌, nat_lt, if◌then◌else◌, List, length, Option, Some, None, IfSome, IsSomeAnd, option_map}
-use Rattle.std.specs.{Time.instant_nanos, declared.time.Instant.Instant}
+use Rattle.std.specs.{Io.KnownBytes.Consumes, Prelude.{◌≡◌, ◌⊎◌, ℕ, ◌+◌, ◌-◌, ◌*◌, ◌^◌, ◌≤◌, nat_lt, if◌then◌else◌, List, length, Option, Some, None, IfSome}}
+use Rattle.std.specs.{Prelude.{IsSomeAnd, option_map}, Time.instant_nanos, declared.time.Instant.Instant}
 use Rattle.desk_server.specs.declared.{limit.Limit.Limit, timed.Waited.{Waited, TheVariants.{Moved, Interrupted, Failed}}}
 
 -- The nanoseconds from the start of the clock to the instant.

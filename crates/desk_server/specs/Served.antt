@@ -1,8 +1,7 @@
 -- This file defines the effect of a server. The server serves clients and commands of the office
 -- one after the other. While the server waits for a client's request, it also carries out commands.
-use Rattle.std.specs.Io.KnownBytes.{Appends}
-use Rattle.std.specs.Prelude.{◌≡◌, ℕ, suc, ◌+◌, ◌^◌, ◌<◌, ◌≤◌, length, List, [], ◌∷◌, ◌++◌, take, Option, Some, None, IfSome, Result, MatchResult}
-use Rattle.std.specs.String.{string_bytes}
+use Rattle.std.specs.{Io.KnownBytes.Appends, Prelude.{◌≡◌, ℕ, suc, ◌+◌, ◌^◌, ◌<◌, ◌≤◌, length, List, [], ◌∷◌, ◌++◌, take, Option, Some, None, IfSome, Result}}
+use Rattle.std.specs.{Prelude.MatchResult, String.string_bytes}
 use Rattle.club_clock.specs.Moments.{GivesMoment}
 use Rattle.club_core.specs.declared.reply.Reply.{Reply}
 use Rattle.club_http.specs.{Ends.one_more, Exchange.Exchanges, Replied.{AnswerRelation, IsReplied}, declared.fault.AnswerFault.AnswerFault}
@@ -46,10 +45,10 @@ HasTalked {Client} Talks bytes written outcome = (old : Client) × (new : Client
 -- - If the reader failed, the desk is unchanged, and the exchange wrote nothing.
 abbrev pub IsExchanged : {Desk : Type 0} → AnswerRelation Desk → List ℕ → Desk → List ℕ → Result Reply AnswerFault → Desk → Type 0
 IsExchanged Answers bytes old written outcome new = Exchanges (record {
-      decides = λ reply. IsReplied Answers bytes old reply new;
-      unasked = (new ≡ old) × (written ≡ []);
-      writes = λ text. written ≡ text;
-    }) outcome
+  decides = λ reply. IsReplied Answers bytes old reply new;
+  unasked = (new ≡ old) × (written ≡ []);
+  writes = λ text. written ≡ text;
+}) outcome
 
 -- The effect that a connection of the office has on the desk. If a complete command came, the desk
 -- carried out the command exactly once, even if the office didn't read the answer. If no complete

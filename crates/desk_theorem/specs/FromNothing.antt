@@ -1,7 +1,7 @@
 -- Defines how a desk over a new database in memory handles a list of events and a later request.
 use Rattle.std.specs.Prelude.{ℕ, List, []}
 use Rattle.sqlite.specs.{Held.{Held, state}, Steps.over_memory, declared.MemStore.MemStore}
-use Rattle.club_core.specs.{Club.{Club, empty_club}, declared.{reply.Reply.Reply, request.Request.Request}}
+use Rattle.club_core.specs.{Club.empty_club, declared.{reply.Reply.Reply, request.Request.Request}}
 use Rattle.club_core.specs.Run as machine
 use Rattle.club_tables.specs.Tables.{Represents}
 use Rattle.club_store.specs.Failing.{over_connection}

@@ -1,14 +1,13 @@
 -- Proofs of the laws about the answers of commands.
-use Rattle.std.proofs.Common.{◌≡◌, ◌∙◌, ℕ, List, Ok, Err, refl, sym, ap, arith, codes}
-use Rattle.std.proofs.lemmas.{Bool.Decides.nat_tests, List.Sums.fold-append}
+use Rattle.std.proofs.{Common.{◌≡◌, ◌∙◌, ℕ, List, Ok, Err, refl, sym, ap, arith, codes}, lemmas.{Bool.Decides.nat_tests, List.Sums.fold-append}}
 use Rattle.std.specs.Io.BufRead.{strip_last}
-use Rattle.pass_mac.specs.{Chain.{derived_key, extended_signature}, Hmac.hmac}
-use Rattle.pass_forms.specs.{Pass.{Plain}, declared.{form.Form.Form}}
+use Rattle.pass_forms.specs.{Pass.Plain, declared.form.Form.Form}
 use Rattle.pass_json.specs.Laws.{OneReadingEachText, OneWritingEachForm}
-use Rattle.passtool_commands.specs.Answer.{IsVerdict, OutcomeText, ReadsPass, WritesPass, narrowing, new_pass, with_caveats}
-use Rattle.passtool_commands.specs.{Laws.{AnswersOnce, MintSigns, NarrowingKeepsSigned, VerifyDecidesSigned}, Listing.{listing_text, with_line_feed}}
-use Rattle.passtool_commands.specs.declared.{answer.Outcome.TheVariants.{Done, NotSigned}, command.Command.TheVariants.{Mint, Show, Narrow, Convert, Verify}}
-use Rattle.passtool_commands.proofs.StepLemmas.{HasOne, one_only, one_then}
+use Rattle.pass_mac.specs.{Chain.{derived_key, extended_signature}, Hmac.hmac}
+use Rattle.passtool_commands.{proofs.StepLemmas.{HasOne, one_only, one_then}, specs.Answer.{IsVerdict, OutcomeText, ReadsPass, WritesPass, narrowing, new_pass}}
+use Rattle.passtool_commands.specs.{Answer.with_caveats, Laws.{AnswersOnce, MintSigns, NarrowingKeepsSigned, VerifyDecidesSigned}, Listing.listing_text}
+use Rattle.passtool_commands.specs.{Listing.with_line_feed, declared.{answer.Outcome.TheVariants.{Done, NotSigned}, command.Command.TheVariants.{Mint, Show}}}
+use Rattle.passtool_commands.specs.declared.command.Command.TheVariants.{Narrow, Convert, Verify}
 
 narrowed_to : (caveats : List (List ℕ)) (pass narrowed_pass : Plain) → narrowing caveats pass ≡ Ok narrowed_pass → with_caveats caveats pass ≡ narrowed_pass
 unfolding narrowing

@@ -1,7 +1,6 @@
 -- Lemmas for the output of `show`.
-use Rattle.std.proofs.Common.{◌≡◌, ◌∙◌, ℕ, ◌+◌, ◌<◌, ◌≤◌, List, ◌++◌, length, map, drop, sym, append_assoc, Global}
-use Rattle.std.proofs.{Math.ListN.drop_of_length-le, lemmas.List.{append-nil, drop_more}}
-use Rattle.std.specs.{Fmt.decimal, List.slice_index_or, Prelude.{Vec, codes}}
+use Rattle.std.proofs.{Common.{◌≡◌, ◌∙◌, ℕ, ◌+◌, ◌<◌, ◌≤◌, List, ◌++◌, length, map, drop, sym, append_assoc, Global}, Math.ListN.drop_of_length-le}
+use Rattle.std.{proofs.lemmas.List.{append-nil, drop_more}, specs.{Fmt.decimal, List.slice_index_or, Prelude.{Vec, codes}}}
 use Rattle.passtool_commands.specs.Listing.{caveat_lines, escaped_text, escaped_byte, value_line}
 
 pub byte_written : (bytes : List ℕ) (i d : ℕ) (old new whole : List ℕ) → i < length bytes → new ≡ old ++ escaped_byte (slice_index_or bytes i d)

@@ -1,8 +1,7 @@
 -- Lemmas for the values of a command's options.
 use Rattle.std.proofs.{Common.{◌≡◌, ◌∙◌, ◌+◌, Bool, cond, not, List, [], ◌∷◌, map, Option, option_map, unwrap_or, ap, refl}, lemmas.List.length-map}
 use Rattle.std.specs.{Borrow.Bor, List.{position, prefix_len}}
-use Rattle.clap.specs.{Words.{Text, all_of, matched_of, raw_values, rows_of}, declared.parser.matches.Found.Found}
-use Rattle.clap.proofs.WalkLemmas.{raw_values-rows}
+use Rattle.clap.{proofs.WalkLemmas.raw_values-rows, specs.{Words.{Text, all_of, matched_of, raw_values, rows_of}, declared.parser.matches.Found.Found}}
 
 pub values_read : (options : Found) (id : Text) (given : Option (List Text)) → given ≡ option_map raw_values (matched_of options id)
     → unwrap_or given [] ≡ unwrap_or (all_of id (rows_of options)) []

@@ -1,11 +1,10 @@
 -- Lemmas for writing a pass.
-use Rattle.std.proofs.{Common.{◌≡◌, ℕ, List, Ok, Err, ap, sym, arith, rules}, lemmas.Grind.common_steps}
-use Rattle.std.specs.Io.BufRead.{strip_last}
+use Rattle.std.{proofs.{Common.{◌≡◌, ℕ, List, Ok, Err, ap, sym, arith, rules}, lemmas.Grind.common_steps}, specs.Io.BufRead.strip_last}
 use Rattle.pass_forms.specs.{Pass.Plain, Reading.UnlessMemory, Writing.{IsV1Text, IsV2Text, IsWritableText, IsWriteFault, IsWriting}}
-use Rattle.pass_forms.specs.declared.{fault.FormFault.{FormFault, TheVariants.{Memory}}, form.Form.{Form, TheVariants.{V1, V2, Json}}}
+use Rattle.pass_forms.specs.declared.{fault.FormFault.{FormFault, TheVariants.Memory}, form.Form.{Form, TheVariants.{V1, V2, Json}}}
 use Rattle.pass_json.specs.{AnyForm.{IsAnyReading, IsRefusedIn, IsTextIn}, JsonWriting.IsJsonText}
-use Rattle.passtool_commands.specs.{Answer.{AnswersText, OutcomeText, WritesPass}, Listing.with_line_feed, declared.answer.Outcome.TheVariants.Done}
-use Rattle.passtool_commands.proofs.StepLemmas.{fails}
+use Rattle.passtool_commands.{proofs.StepLemmas.fails, specs.{Answer.{AnswersText, OutcomeText, WritesPass}, Listing.with_line_feed}}
+use Rattle.passtool_commands.specs.declared.answer.Outcome.TheVariants.{Done}
 
 fault_of_writing : (IsText : Plain → List ℕ → Type 0) (pass : Plain) (fault : FormFault) → IsWriteFault IsText pass fault
     → UnlessMemory (IsWriting IsText pass) (Err fault)

@@ -1,6 +1,5 @@
 -- Lemmas for the proof of `run`.
-use Rattle.std.proofs.Common.{◌≡◌, ℕ, List, Option, Result, Ok, Err, inl, inr, refl}
-use Rattle.std.specs.Io.KnownBytes.{Appends}
+use Rattle.std.{proofs.Common.{◌≡◌, ℕ, List, Option, Result, Ok, Err, inl, inr, refl}, specs.Io.KnownBytes.Appends}
 use Rattle.clap.specs.Words.{Text}
 use Rattle.command_line.specs.{Output.AppendsFront, declared.errors.ArgumentsFault.{ArgumentsFault, TheVariants.{BadValue, Memory as OutOfMemory}}}
 use Rattle.command_line.specs.declared.job.Asked.TheVariants.{Perform}

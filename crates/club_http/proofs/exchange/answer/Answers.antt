@@ -1,5 +1,4 @@
-use Rattle.std.proofs.Common.{◌≡◌}
-use Rattle.std.specs.Io.KnownBytes.{Appends}
+use Rattle.std.{proofs.Common.◌≡◌, specs.Io.KnownBytes.Appends}
 use Rattle.club_http.proofs.RepliedLemmas.{exchanged_to_all}
 use Rattle.club_http.proofs.exchange.answer.Goals as goal
 

@@ -1,7 +1,6 @@
-use Rattle.std.proofs.Common.{◌≡◌, ◌≤◌, take, ◌-◌}
-use Rattle.std.specs.Io.KnownBytes.{Consumes}
-use Rattle.http_request.specs.HeadResult.{Covers}
+use Rattle.std.{proofs.Common.{◌≡◌, ◌≤◌, take, ◌-◌}, specs.Io.KnownBytes.Consumes}
 use Rattle.club_http.specs.Calls.{Gives}
+use Rattle.http_request.specs.HeadResult.{Covers}
 use Rattle.club_http.proofs.receive.receive.Given as goal
 
 abbrev pub invariant-loop-reader : goal.invariant-loop-reader

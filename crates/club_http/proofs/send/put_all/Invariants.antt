@@ -1,5 +1,4 @@
-use Rattle.std.proofs.Common.{length, ◌-◌, ◌≡◌, take, ◌≤◌}
-use Rattle.std.specs.Io.KnownBytes.{Appends}
+use Rattle.std.{proofs.Common.{length, ◌-◌, ◌≡◌, take, ◌≤◌}, specs.Io.KnownBytes.Appends}
 use Rattle.club_http.specs.Calls.{ArePut}
 use Rattle.club_http.proofs.send.put_all.Given as goal
 

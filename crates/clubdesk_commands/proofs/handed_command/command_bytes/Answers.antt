@@ -1,11 +1,7 @@
-use Rattle.std.proofs.Common.{arith, ◌≡◌, ◌≤◌, ◌∷◌, ap, map, Some, ◌∙◌}
-use Rattle.std.proofs.lemmas.{List.take_all, Result.IfOk-weaker}
+use Rattle.std.proofs.{Common.{arith, ◌≡◌, ◌≤◌, ◌∷◌, ap, map, Some, ◌∙◌}, lemmas.{List.take_all, Result.IfOk-weaker}}
 use Rattle.clap.proofs.WalkLemmas.{IfOk-both}
-use Rattle.serde_json.specs.{Data.{array, depth}, Read.max_depth, View.{items_of, view}}
-use Rattle.serde_json.specs.declared.value.Value.{Array}
-use Rattle.serde_json.proofs.Views.{view-Array}
-use Rattle.clubdesk_commands.specs.HandedCommand.{command_data}
-use Rattle.clubdesk_commands.proofs.HandedLemmas.{no_depth}
+use Rattle.clubdesk_commands.{proofs.HandedLemmas.no_depth, specs.HandedCommand.command_data}
+use Rattle.serde_json.{proofs.Views.view-Array, specs.{Data.{array, depth}, Read.max_depth, View.{items_of, view}, declared.value.Value.Array}}
 use Rattle.clubdesk_commands.proofs.handed_command.command_bytes.Goals as goal
 
 pub returns : goal.returns

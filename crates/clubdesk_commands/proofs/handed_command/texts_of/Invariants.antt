@@ -1,6 +1,5 @@
 -- After each step, the loop has copied the texts before the current value.
-use Rattle.std.proofs.Common.{◌≡◌, map, take}
-use Rattle.std.specs.String.{string_bytes}
+use Rattle.std.{proofs.Common.{◌≡◌, map, take}, specs.String.string_bytes}
 use Rattle.serde_json.specs.{Data.string, View.view}
 use Rattle.clubdesk_commands.proofs.handed_command.texts_of.Given as goal
 

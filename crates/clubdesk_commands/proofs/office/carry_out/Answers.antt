@@ -1,5 +1,4 @@
-use Rattle.std.proofs.Common.{rules}
-use Rattle.std.specs.String.{string_bytes}
+use Rattle.std.{proofs.Common.rules, specs.String.string_bytes}
 use Rattle.clubdesk_commands.specs.Does as spec
 use Rattle.clubdesk_commands.proofs.office.carry_out.Goals as goal
 

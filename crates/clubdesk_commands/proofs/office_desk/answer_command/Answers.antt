@@ -1,5 +1,4 @@
-use Rattle.std.proofs.Common.{Err, ap, map, refl, sym, subst}
-use Rattle.std.specs.String.{string_bytes}
+use Rattle.std.{proofs.Common.{Err, ap, map, refl, sym, subst}, specs.String.string_bytes}
 use Rattle.clubdesk_arguments.specs.Arguments.{ReadsArguments}
 use Rattle.clubdesk_commands.specs.OfficeDesk as spec
 use Rattle.clubdesk_commands.proofs.RunLemmas.{asks_for}

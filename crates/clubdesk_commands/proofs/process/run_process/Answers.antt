@@ -1,5 +1,4 @@
-use Rattle.std.proofs.Common.{map, refl}
-use Rattle.std.specs.String.{string_bytes}
+use Rattle.std.{proofs.Common.{map, refl}, specs.String.string_bytes}
 use Rattle.clubdesk_commands.specs.Process as spec
 use Rattle.clubdesk_commands.proofs.process.run_process.Goals as goal
 

@@ -1,7 +1,6 @@
 use Rattle.std.proofs.Common.{Err, ap, refl}
 use Rattle.clubdesk_commands.specs.Run as spec
-use Rattle.clubdesk_commands.proofs.RunLemmas.{asks_for, serves_well}
-use Rattle.clubdesk_commands.proofs.program.run.Goals.{in-Office, in-Rootless+in-Ok}
+use Rattle.clubdesk_commands.proofs.{RunLemmas.{asks_for, serves_well}, program.run.Goals.{in-Office, in-Rootless+in-Ok}}
 use Rattle.clubdesk_commands.proofs.program.run.Goals as goal
 
 pub returns-in-Ok-ShowText : goal.returns-in-Ok-ShowText

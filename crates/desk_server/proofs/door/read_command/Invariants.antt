@@ -1,6 +1,5 @@
 -- The invariant of the loop in `read_command`.
-use Rattle.std.proofs.Common.{◌-◌, ◌≤◌, length, take}
-use Rattle.std.specs.Io.KnownBytes.{Consumes}
+use Rattle.std.{proofs.Common.{◌-◌, ◌≤◌, length, take}, specs.Io.KnownBytes.Consumes}
 use Rattle.desk_server.proofs.door.read_command.Given as goal
 
 abbrev pub invariant-loop-len : goal.invariant-loop-len

@@ -1,7 +1,6 @@
 -- The invariant of the loop in `serve_logged`.
 use Rattle.std.proofs.Common.{◌+◌, ◌-◌, ◌≤◌}
-use Rattle.desk_server.specs.Served.{HasTalked}
-use Rattle.desk_server.proofs.ServedLemmas.{SoFar}
+use Rattle.desk_server.{proofs.ServedLemmas.SoFar, specs.Served.HasTalked}
 use Rattle.desk_server.proofs.serve.serve_logged.Given as goal
 
 abbrev pub invariant-loop-served : goal.invariant-loop-served

@@ -1,5 +1,4 @@
-use Rattle.std.proofs.Common.{rules}
-use Rattle.std.proofs.KnownBytes.{Keeps-refl, Keeps-trans}
+use Rattle.std.proofs.{Common.rules, KnownBytes.{Keeps-refl, Keeps-trans}}
 use Rattle.desk_server.specs.Limits as spec
 use Rattle.desk_server.proofs.timed.write_under.Goals as goal
 

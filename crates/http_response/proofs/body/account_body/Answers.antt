@@ -1,6 +1,5 @@
 use Rattle.std.proofs.Common.{codes, [], ◌∷◌}
-use Rattle.http_response.specs.Body.{text, number}
-use Rattle.http_response.proofs.Objects.{written_object}
+use Rattle.http_response.{proofs.Objects.written_object, specs.Body.{text, number}}
 use Rattle.http_response.proofs.body.account_body.Goals as goal
 
 pub returns : goal.returns

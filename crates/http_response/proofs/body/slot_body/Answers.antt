@@ -1,7 +1,6 @@
 use Rattle.std.proofs.Common.{codes, [], ◌∷◌}
 use Rattle.club_values.specs.{Day.day_text, Kind.kind_text}
-use Rattle.http_response.specs.Body.{text, number, truth}
-use Rattle.http_response.proofs.Objects.{written_object}
+use Rattle.http_response.{proofs.Objects.written_object, specs.Body.{text, number, truth}}
 use Rattle.http_response.proofs.body.slot_body.Goals as goal
 
 pub returns : goal.returns

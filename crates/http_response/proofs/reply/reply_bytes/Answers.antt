@@ -1,5 +1,4 @@
-use Rattle.http_response.specs.Text.{reply_text}
-use Rattle.http_response.proofs.Written.{put_behind}
+use Rattle.http_response.{proofs.Written.put_behind, specs.Text.reply_text}
 use Rattle.http_response.proofs.reply.reply_bytes.Goals as goal
 
 pub returns-clause-room : goal.returns-clause-room

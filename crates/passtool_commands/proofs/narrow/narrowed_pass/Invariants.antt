@@ -2,8 +2,7 @@
 -- original pass.
 use Rattle.std.proofs.Common.{◌≡◌, ◌≤◌, ◌+◌, length, drop}
 use Rattle.pass_forms.specs.Reading.{max_caveats}
-use Rattle.passtool_commands.specs.Answer.{with_caveats}
-use Rattle.passtool_commands.proofs.NarrowLemmas.{texts}
+use Rattle.passtool_commands.{proofs.NarrowLemmas.texts, specs.Answer.with_caveats}
 use Rattle.passtool_commands.proofs.narrow.narrowed_pass.Given as goal
 
 abbrev pub invariant-loop-caveat : goal.invariant-loop-caveat

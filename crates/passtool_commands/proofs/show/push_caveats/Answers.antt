@@ -1,5 +1,4 @@
-use Rattle.std.proofs.Common.{◌≡◌, ◌+◌, ◌++◌, codes, rules, refl, arith}
-use Rattle.std.specs.Fmt.{decimal}
+use Rattle.std.{proofs.Common.{◌≡◌, ◌+◌, ◌++◌, codes, rules, refl, arith}, specs.Fmt.decimal}
 use Rattle.passtool_commands.proofs.ListingLemmas.{caveat_written, no_caveat_left}
 use Rattle.passtool_commands.proofs.show.push_caveats.Goals as goal
 

@@ -1,8 +1,6 @@
 -- The current text and the lines of the remaining caveats make up the whole text.
-use Rattle.std.proofs.Common.{◌≡◌, ◌+◌, ◌++◌, drop}
-use Rattle.std.specs.String.{string_bytes}
-use Rattle.passtool_commands.specs.Listing.{caveat_lines}
-use Rattle.passtool_commands.proofs.ListingLemmas.{items}
+use Rattle.std.{proofs.Common.{◌≡◌, ◌+◌, ◌++◌, drop}, specs.String.string_bytes}
+use Rattle.passtool_commands.{proofs.ListingLemmas.items, specs.Listing.caveat_lines}
 use Rattle.passtool_commands.proofs.show.push_caveats.Given as goal
 
 abbrev pub invariant-loop-index : goal.invariant-loop-index

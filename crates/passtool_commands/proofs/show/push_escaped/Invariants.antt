@@ -1,6 +1,5 @@
 -- The current text and the escaped remaining bytes make up the whole text.
-use Rattle.std.proofs.Common.{◌≡◌, ◌++◌, drop}
-use Rattle.std.specs.String.{string_bytes}
+use Rattle.std.{proofs.Common.{◌≡◌, ◌++◌, drop}, specs.String.string_bytes}
 use Rattle.passtool_commands.specs.Listing.{escaped_text}
 use Rattle.passtool_commands.proofs.show.push_escaped.Given as goal
 

@@ -1,5 +1,4 @@
-use Rattle.std.proofs.Common.{Ok, Err, ap, refl, ◌∙◌}
-use Rattle.std.specs.String.{string_bytes}
+use Rattle.std.{proofs.Common.{Ok, Err, ap, refl, ◌∙◌}, specs.String.string_bytes}
 use Rattle.clubdesk_commands.specs.OfficeDesk as spec
 use Rattle.clubdesk_commands.proofs.NamedLemmas.{named}
 use Rattle.clubdesk_commands.proofs.office_desk.OfficeDeskOffice.command.Goals as goal

@@ -1,6 +1,5 @@
 use Rattle.std.proofs.{Common.{refl, rules, ◌∙◌}, KnownBytes.{Keeps-refl, Keeps-trans}}
-use Rattle.desk_server.specs.Between.{no_wait, wait_again}
-use Rattle.desk_server.proofs.MeanwhileLemmas.{alone_none, one_command_more}
+use Rattle.desk_server.{proofs.MeanwhileLemmas.{alone_none, one_command_more}, specs.Between.{no_wait, wait_again}}
 use Rattle.desk_server.proofs.between.BetweenInlet.fill.Goals as goal
 
 pub loop-commanded-init : goal.loop-commanded-init

@@ -1,6 +1,5 @@
 -- The invariant of the loop in `BetweenInlet::fill`.
-use Rattle.std.proofs.Common.{◌≡◌}
-use Rattle.std.specs.Io.KnownBytes.{Keeps}
+use Rattle.std.{proofs.Common.◌≡◌, specs.Io.KnownBytes.Keeps}
 use Rattle.desk_server.specs.Between.{AreWaits, CommandsAlone}
 use Rattle.desk_server.proofs.between.BetweenInlet.fill.Given as goal
 

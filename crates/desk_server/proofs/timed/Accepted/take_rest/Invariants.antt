@@ -1,6 +1,5 @@
 -- The invariant of the loop in `Accepted::take_rest`.
-use Rattle.std.proofs.Common.{◌≡◌, ◌-◌, ◌≤◌, ℕ, List, length}
-use Rattle.std.specs.Io.KnownBytes.{Consumes, Keeps}
+use Rattle.std.{proofs.Common.{◌≡◌, ◌-◌, ◌≤◌, ℕ, List, length}, specs.Io.KnownBytes.{Consumes, Keeps}}
 use Rattle.desk_server.specs.Accepted.{HasMoved}
 use Rattle.desk_server.proofs.timed.Accepted.take_rest.Given as goal
 

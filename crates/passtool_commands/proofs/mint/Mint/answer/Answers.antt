@@ -1,6 +1,5 @@
 use Rattle.std.proofs.Common.{◌≡◌, ◌∙◌, ap₂, map, sym}
-use Rattle.passtool_commands.specs.Answer.{IsOnly, WritesPass, narrowing, new_pass}
-use Rattle.passtool_commands.proofs.StepLemmas.{goes_on}
+use Rattle.passtool_commands.{proofs.StepLemmas.goes_on, specs.Answer.{IsOnly, WritesPass, narrowing, new_pass}}
 use Rattle.passtool_commands.proofs.mint.Mint.answer.Goals as goal
 
 pub returns : goal.returns
