@@ -1,4 +1,5 @@
--- Defines how a change edits the club's rows.
+-- Defines how a change edits the club's rows, the limits of its values, whether it affects a
+-- member's part of the club, and whether it adds a row.
 use Rattle.std.specs.Prelude.{ℕ, ◌+◌, ◌-◌, ◌==◌, ◌&&◌, ◌||◌, not, Bool, List, [], ◌∷◌, ◌++◌, map, filter, Some, if◌then◌else◌, ◌≡◌, ◌≤◌, ◌<◌, ◌^◌, true, false}
 use Rattle.std.specs.{Prelude.None, Str.bytes_eq}
 use Rattle.club_values.specs.{declared.slot.Slot.Slot, Moment.IsMoment}

@@ -1,4 +1,4 @@
--- Defines the changes that need memory. A change needs memory if it adds a row.
+-- Defines the events that need memory. An event needs memory if it adds a row.
 use Rattle.std.specs.Prelude.{ℕ, ◌+◌, ◌<◌, length}
 use Rattle.club_core.specs.{Club.Club, Run.{Event, step}}
 

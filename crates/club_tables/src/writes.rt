@@ -29,15 +29,17 @@ use sqlite::Alter;
 use sqlite::types::ValueRef;
 
 impl<S: Alter> Tables<S> {
-    /// Applies a change in one transaction. Reads nothing before the change's statements.
+    /// Applies a change in one transaction. Reads nothing before the change's statements. If the
+    /// call fails because the database refuses a statement or the commit, the club is unchanged.
+    /// But a crash after such a failure may leave the changed club.
     ///
     /// # Errors
     ///
-    /// Fails without effect in these cases:
+    /// Fails if the database refuses a statement or the commit. Fails without effect in these
+    /// cases:
     /// - A value of the change is outside its limits, or a new key has an older root.
     /// - A row that the change inserts already exists, or a row that the change refers to doesn't.
     /// - The rows' values differ from those in the change, or the changed club wouldn't be sound.
-    /// - The database refuses a statement or the commit.
     pub fn apply(&mut self, change: &Change) -> Result<(), StoreFault>
         ensures commits { InLimits change.now → Commits S.Store 1 (statements_of change.now)
             self.old self.new result }
