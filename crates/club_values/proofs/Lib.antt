@@ -1,10 +1,2 @@
-pub mod DigitLemmas
-pub mod DateTextLemmas
+pub mod TextLemmas
 pub mod DayLemmas
-pub mod MomentLemmas
-pub mod InlineBytesLemmas
-pub mod NameLemmas
-pub mod TestLemmas
-pub mod NumberLemmas
-pub mod GuessLemmas
-pub mod TextOfLemmas

@@ -65,7 +65,7 @@ fn date_of(text: &[u8]) -> Option<Date>
     Date::new(year as i16, month as i8, day as i8).ok()
 }
 
-#[tactic(auto, using(crate::proofs::DateTextLemmas::spells_by_date))]
+#[tactic(auto, using(crate::proofs::DayLemmas::spells_by_date))]
 fn day_in(text: &[u8]) -> Option<Day>
     ensures { Reads (SpellsDay text.now) result }
 {

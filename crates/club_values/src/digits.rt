@@ -47,7 +47,7 @@ fn are_few_digits(text: &[u8]) -> bool
 
 /// Returns the number encoded by one to nine decimal digits, or `None` for any other text. Leading
 /// zeros are allowed.
-#[tactic(auto, using(crate::proofs::NumberLemmas::digits_read))]
+#[tactic(auto, using(crate::proofs::TextLemmas::digits_read))]
 pub fn read_digits(text: &[u8]) -> Option<u32>
     ensures { result ≡ number.number_of_digits text.now }
 {
@@ -69,7 +69,7 @@ fn number_in(text: &[u8]) -> Option<u32>
 
 /// Returns the number encoded by one to nine decimal digits, or `None` for any other text. Leading
 /// zeros aren't allowed.
-#[tactic(auto, using(crate::proofs::TextOfLemmas::reads_numbers))]
+#[tactic(auto, using(crate::proofs::DayLemmas::reads_numbers))]
 pub fn read_number(text: &[u8]) -> Option<u32>
     ensures spelled { Reads (SpellsNumber text.now) result }
     ensures function { result ≡ decimal_of_text text.now }

@@ -17,13 +17,13 @@ pub fn reads_numbers()
 {}
 
 /// `kind_of_text` returns a kind if and only if the argument is the text of this kind.
-#[tactic(auto, using(crate::proofs::TextOfLemmas::reads_kinds))]
+#[tactic(auto, using(crate::proofs::DayLemmas::reads_kinds))]
 pub fn reads_kinds()
     ensures { ReadsKinds }
 {}
 
 /// `action_of_text` returns an action if and only if the argument is the text of this action.
-#[tactic(auto, using(crate::proofs::TextOfLemmas::reads_actions))]
+#[tactic(auto, using(crate::proofs::DayLemmas::reads_actions))]
 pub fn reads_actions()
     ensures { ReadsActions }
 {}
@@ -59,7 +59,7 @@ pub fn distinct_day_texts()
 {}
 
 /// Different moments have different texts.
-#[tactic(auto, using(crate::proofs::MomentLemmas::moment_text_injective))]
+#[tactic(auto, using(crate::proofs::DayLemmas::moment_text_injective))]
 pub fn distinct_moment_texts()
     ensures { DistinctMomentTexts }
 {}

@@ -1,11 +1,66 @@
--- Lemmas about parsing a comma-separated list of words, such as the weekdays of a caveat.
-use Rattle.pass_caveats.proofs.Common.{◌≡◌, ◌≢◌, ℕ, ◌<◌, Bool, true, false, cond, List, [], ◌∷◌, ◌++◌, length, map, Option, Some, None, refl, sym, ap, ◌∙◌}
-use Rattle.pass_caveats.proofs.Common.{arith, Bor, ◌==◌, ◌&&◌, ◌||◌, not, filter, is_some, All, option_copied, list_all, length-map, append-nil, All-head}
-use Rattle.pass_caveats.proofs.Common.{All-tail, All-nil, All-cons, bytes_eq-Decides, comma_parts, comma_list, parts_left, Skips, is_next, after_next}
-use Rattle.pass_caveats.proofs.Common.{words_found, common_steps, nat_tests}
-use Rattle.pass_caveats.proofs.PartLemmas.{HasNoComma, all_left, parts_of-joined, joined-parts_of, skip_leaves, skip_takes, some_part}
-use Rattle.std.proofs.lemmas.Bool.{cond_both}
-use Rattle.std.specs.Str.{bytes_eq}
+-- Lemmas about the parts and words of comma-separated lists, and for the proofs that a text is
+-- understood as at most one caveat and that `permits` decides it.
+use Rattle.std.proofs.lemmas.{Bool.cond_both, Fmt.{decimal_is_IsNumeral, decimal_injective}, List.Splits.{slice_split_none, slice_split_at, length-slice_split}}
+use Rattle.std.{proofs.lemmas.List.Splits.join_with_byte-slice_split, specs.{Bool.MatchBool, Str.bytes_eq}}
+use Rattle.club_values.proofs.DayLemmas.{day_text-spells, spells-day_text, day_text_injective, moment_text-spells, spells-moment_text, two_again}
+use Rattle.club_values.{proofs.{DayLemmas.{day_of-day_text, moment_of-moment_text}, TextLemmas.{Decides-leb, Decides-is_name}}, specs.Action.action_text}
+use Rattle.club_values.specs.{Day.{IsDay, day_text, SpellsDay}, Moment.SpellsMoment, Number.SpellsNumber, Reading.Reads, Weekday.weekdays}
+use Rattle.club_values.specs.{computed.TextOf.{day_of, is_name}, declared.{kind.Kind.{Kind as AKind, TheVariants.Court}, slot.Slot.Slot}}
+use Rattle.pass_caveats.proofs.Common.{◌≡◌, ◌≢◌, ℕ, ◌+◌, ◌<◌, ◌≤◌, ◌↔◌, ◌-◌, Bool, true, false, cond, List, [], ◌∷◌, ◌++◌, length, get_or, take, drop, refl, ap}
+use Rattle.pass_caveats.proofs.Common.{◌∙◌, arith, IsTrue, take-append-drop, All, Contains, ◌==◌, HoldsAt, AllWithin, nat_tests, All-head, All-tail, IsName}
+use Rattle.pass_caveats.proofs.Common.{AreNames, comma_parts, comma_list, Skips, is_next, after_next, bytes_eq-Decides, common_steps, map, Option, Some, None}
+use Rattle.pass_caveats.proofs.Common.{sym, Bor, ◌&&◌, ◌||◌, not, filter, is_some, option_copied, list_all, length-map, append-nil, All-nil, All-cons}
+use Rattle.pass_caveats.proofs.Common.{parts_left, words_found, codes, Caveat, Facility, Kind, Hours, Days, Weekdays, Until, Guests, Spend, Actions, IsCaveat}
+use Rattle.pass_caveats.proofs.Common.{caveat_text, Understood, candidate, actions_from, weekdays_from, nat_lt, Decides, IsSomeAnd, list_any, option_map_or}
+use Rattle.pass_caveats.proofs.Common.{same_from_decides, Decides-like, Decides-and, Decides-ltb, Decides-by_and, Decides-by_or, at_from_Contains, Ask, Permits}
+use Rattle.pass_caveats.{proofs.Common.{permits, is_caveat, spells, rules, SpellsCaveat}, specs.{Actions.{all_actions, has_action}, Weekdays.weekday_text}}
+use Rattle.pass_caveats.specs.{Weekdays.has_weekday, declared.{actions.Actions.Actions as SomeActions, weekdays.Weekdays.Weekdays as SomeWeekdays}}
+
+pub contains_from_any : (r : Bool) (xs : List (List ℕ)) (x : List ℕ) →
+    MatchBool r ((k : ℕ) × (k < length xs) × HoldsAt (λ y. y ≡ x) xs k) (AllWithin (λ y. y ≢ x) xs 0 (length xs)) → IsTrue r ↔ Contains xs x
+contains_from_any true xs x h = ((λ e. (h.0, h.1, h.2 x)), (λ c. refl))
+contains_from_any false xs x h = ((λ e. cc), (λ c. absurd (h c.0 x (omega arith) c.1 c.2)))
+
+pub all_from_all : (r : Bool) (xs : List (List ℕ)) (P : List ℕ → Type 0) →
+    MatchBool r (AllWithin P xs 0 (length xs)) ((k : ℕ) × (k < length xs) × HoldsAt (λ y. P y → ⊥) xs k) → IsTrue r ↔ All P xs
+all_from_all true xs P h = ((λ e k d within. h k d (omega arith) within), (λ c. refl))
+all_from_all false xs P h = ((λ e. cc), (λ c. absurd (h.2 [] (c h.0 [] h.1))))
+
+abbrev pub HasNoComma : List ℕ → Type 0
+HasNoComma text = All (λ byte. (byte == 44) ≡ false) text
+
+no_comma : (name : List ℕ) → IsName name → HasNoComma name
+no_comma name h = λ k d within. grind (arith, nat_tests, h.letters k d within)
+
+no_commas : (names : List (List ℕ)) → All IsName names → All HasNoComma names
+no_commas names h = λ k d within. no_comma _ (h k d within)
+
+pub parts_of-joined : (parts : List (List ℕ)) → 0 < length parts → All HasNoComma parts → comma_parts (comma_list parts) ≡ parts
+parts_of-joined [] some h = absurd (omega arith)
+parts_of-joined (x ∷ []) some h = slice_split_none (λ byte. byte == 44) x (All-head HasNoComma x [] h)
+parts_of-joined (x ∷ y ∷ rest) some h =
+    grind (arith, slice_split_at, All-head HasNoComma x (y ∷ rest) h, parts_of-joined (y ∷ rest), All-tail HasNoComma x (y ∷ rest) h)
+
+pub names_again : (names : List (List ℕ)) → AreNames names → comma_parts (comma_list names) ≡ names
+names_again names h = parts_of-joined names h.some (no_commas names h.each_is_name)
+
+pub some_part : (text : List ℕ) → 0 < length (comma_parts text)
+some_part text = omega (arith, length-slice_split (λ byte. byte == 44) text)
+
+at_comma : (text : List ℕ) (i : ℕ) → i < length text → get_or text i 0 ≡ 44 → text ≡ take i text ++ 44 ∷ drop (i + 1) text
+at_comma text i h e = grind (arith, common_steps, take-append-drop)
+
+no_comma_before : (text : List ℕ) (i : ℕ) → i ≤ length text → AllWithin (λ byte. byte ≢ 44) text 0 i → All (λ byte. (byte == 44) ≡ false) (take i text)
+no_comma_before text i h none = grind (arith, nat_tests, common_steps)
+
+pub parts_of-comma : (text rest : List ℕ) (i : ℕ) → i < length text → HoldsAt (λ byte. byte ≡ 44) text i → AllWithin (λ byte. byte ≢ 44) text 0 i →
+    rest ≡ drop (i + 1) text → comma_parts text ≡ take i text ∷ comma_parts rest
+parts_of-comma text rest i h here before e =
+    rw e (ap comma_parts (at_comma text i h (here 0)) ∙ slice_split_at (λ byte. byte == 44) (take i text) 44 (drop (i + 1) text)
+    (no_comma_before text i (omega arith) before) refl)
+
+pub tail_is : (text : List ℕ) (i : ℕ) → take (length text - (i + 1)) (drop (i + 1) text) ≡ drop (i + 1) text
+tail_is text i = grind (arith, common_steps)
 
 -- Returns the words whose flag is true.
 abbrev chosen : List Bool → List (List ℕ) → List (List ℕ)
@@ -47,7 +102,7 @@ found_again : (flags : List Bool) (words : List (List ℕ)) → length flags ≡
     (words_found words (chosen flags words) ≡ flags) × (left_after words (chosen flags words) ≡ [])
 found_again [] [] same distinct = (refl, refl)
 found_again (flag ∷ flags) (word ∷ words) same distinct =
-    grind (arith, found_again flags words, not_next word flags words, bytes_eq-Decides word word, all_left word (chosen flags words))
+    grind (arith, found_again flags words, not_next word flags words, bytes_eq-Decides word word, chosen flags words)
 found_again flags words same distinct = absurd (omega arith)
 
 -- The steps of a parser that looks for one word after another. Each word's flag is true if the
@@ -60,16 +115,13 @@ Steps (flag ∷ flags) (word ∷ words) parts last = (next : List (List ℕ)) ×
 
 steps_take : (flags : List Bool) (words parts last : List (List ℕ)) → Steps flags words parts last → parts ≡ chosen flags words ++ last
 steps_take [] [] parts last e = e
-steps_take (flag ∷ flags) (word ∷ words) parts last s = grind (arith, skip_takes word parts s.0 flag s.1, steps_take flags words s.0 last s.2)
+steps_take (flag ∷ flags) (word ∷ words) parts last s = grind (arith, steps_take flags words s.0 last s.2)
 steps_take flags words parts last e = absurd e
 
 steps_leave : (flags : List Bool) (words parts last : List (List ℕ)) → Steps flags words parts last → last ≡ left_after words parts
 steps_leave [] [] parts last e = sym e
-steps_leave (flag ∷ flags) (word ∷ words) parts last s = grind (arith, skip_leaves word parts s.0 flag s.1, steps_leave flags words s.0 last s.2)
+steps_leave (flag ∷ flags) (word ∷ words) parts last s = grind (arith, bytes_eq-Decides, steps_leave flags words s.0 last s.2)
 steps_leave flags words parts last e = absurd e
-
-plain_words : (words : List (List ℕ)) → are_plain words ≡ true → All HasNoComma words
-plain_words words e = grind (arith, common_steps, nat_tests)
 
 chosen_plain : (flags : List Bool) (words : List (List ℕ)) → All HasNoComma words → All HasNoComma (chosen flags words)
 chosen_plain (flag ∷ flags) (word ∷ words) h =
@@ -82,10 +134,6 @@ pub some_of : {A : Type 0} (xs : List A) → xs ≢ [] → 0 < length xs
 some_of [] h = absurd (h refl)
 some_of (x ∷ xs) h = omega arith
 
-parts_again : (flags : List Bool) (words : List (List ℕ)) → are_plain words ≡ true → chosen flags words ≢ [] →
-    comma_parts (comma_list (chosen flags words)) ≡ chosen flags words
-parts_again flags words plain some = grind (arith, parts_of-joined, some_of, chosen_plain, plain_words)
-
 same_length : {A : Type 0} (test : A → Bool) (text : A → List ℕ) (xs : List A) → length (map test xs) ≡ length (map text xs)
 same_length test text xs = length-map xs test ∙ sym (length-map xs text)
 
@@ -94,7 +142,7 @@ pub reads_choice : {A : Type 0} (test : A → Bool) (text : A → List ℕ) (xs 
 reads_choice test text xs t steps =
     let parts : comma_parts t ≡ map text (filter test xs) =
     steps_take (map test xs) (map text xs) (comma_parts t) [] steps ∙ (append-nil (chosen (map test xs) (map text xs)) ∙ sym (chosen_is test text xs)) in
-    ((λ none. absurd (omega (arith, some_part t, ap (length {A = List ℕ}) (parts ∙ none)))), sym (joined-parts_of t) ∙ ap comma_list parts)
+    ((λ none. absurd (omega (arith, some_part t, ap (length {A = List ℕ}) (parts ∙ none)))), sym (join_with_byte-slice_split 44 t) ∙ ap comma_list parts)
 
 pub no_choice : {A : Type 0} (text : A → List ℕ) (xs : List A) → AreWords text xs → (found : List Bool) (t : List ℕ) (last : List (List ℕ)) → last ≢ [] →
     Steps found (map text xs) (comma_parts t) last → (test : A → Bool) → map text (filter test xs) ≢ [] → t ≡ comma_list (map text (filter test xs)) → ⊥
@@ -102,13 +150,13 @@ no_choice text xs are found t last some steps test chooses e =
     let items = chosen_is test text xs in
     let is : t ≡ comma_list (chosen (map test xs) (map text xs)) = e ∙ ap comma_list items in
     let parts : comma_parts t ≡ chosen (map test xs) (map text xs) =
-    ap comma_parts is ∙ parts_again (map test xs) (map text xs) are.plain (λ none. chooses (items ∙ none)) in
+    ap comma_parts is ∙ (grind (arith, parts_of-joined, some_of, chosen_plain, common_steps, nat_tests)) in
     some (steps_leave found (map text xs) (comma_parts t) last steps
     ∙ (ap (left_after (map text xs)) parts ∙ (found_again (map test xs) (map text xs) (same_length test text xs) are.distinct).1))
 
 pub choice_again : {A : Type 0} (test : A → Bool) (text : A → List ℕ) (xs : List A) → AreWords text xs → map text (filter test xs) ≢ [] →
     words_found (map text xs) (comma_parts (comma_list (map text (filter test xs)))) ≡ map test xs
-choice_again test text xs are chooses = grind (arith, chosen_is, parts_again, found_again, same_length)
+choice_again test text xs are chooses = grind (arith, chosen_is, parts_of-joined, some_of, chosen_plain, common_steps, nat_tests, found_again, same_length)
 
 pub something_left : (rest : Option (Bor (List ℕ))) → is_some rest ≡ true → parts_left (option_copied rest) ≢ []
 something_left (Some text) e none = absurd (omega (arith, some_part text.now, ap (length {A = List ℕ}) none))
@@ -116,3 +164,129 @@ something_left None e none = cc
 
 pub nothing_left : (rest : Option (Bor (List ℕ))) → is_some rest ≡ false → parts_left (option_copied rest) ≡ []
 nothing_left rest e = grind arith
+
+second_day : (a b : ℕ) → IsDay b → day_of (drop 12 (day_text a ++ (codes ".." ++ day_text b))) ≡ b
+unfolding day_text
+second_day a b h = day_of-day_text b [] h
+
+pub candidate-caveat_text : (caveat : Caveat) → IsCaveat caveat → candidate (caveat_text caveat) ≡ caveat
+unfolding candidate
+candidate-caveat_text (Facility names) h = ap Facility (names_again names h)
+candidate-caveat_text (Kind Court) h = refl
+candidate-caveat_text (Kind kind) h = refl
+candidate-caveat_text (Hours from until) h = rw (two_again from, two_again until)
+candidate-caveat_text (Days first last) h = rw (day_of-day_text first (codes ".." ++ day_text last) h.0, second_day first last h.1)
+candidate-caveat_text (Weekdays set) h = ap Weekdays (ap weekdays_from (choice_again (has_weekday set) weekday_text weekdays (record {
+  distinct = refl;
+  plain =
+      refl;
+}) h))
+candidate-caveat_text (Until moment) h = ap Until (moment_of-moment_text moment h)
+candidate-caveat_text (Guests n) h = ap Guests (decimal_is_IsNumeral n (omega arith)).1
+candidate-caveat_text (Spend n) h = ap Spend (decimal_is_IsNumeral n (omega arith)).1
+candidate-caveat_text (Actions actions) h = ap Actions (ap actions_from (choice_again (has_action actions) action_text all_actions (record {
+  distinct = refl;
+  plain = refl;
+}) h))
+
+pub one_caveat : (text : List ℕ) (a b : Caveat) → Understood text a → Understood text b → a ≡ b
+one_caveat text a b h k =
+    sym (candidate-caveat_text a h.line.real)
+    ∙ (ap candidate (sym h.line.spelling ∙ k.line.spelling) ∙ candidate-caveat_text b k.line.real)
+
+Decides-are_names : (names : List (List ℕ)) → Decides (is_caveat (Facility names)) (AreNames names)
+Decides-are_names names =
+    let all = Decides-by_and is_name IsName (list_all is_name) Decides-is_name refl (λ _ _. refl) names in
+    Decides-like _ (λ h. record { some = h.0.0; few = h.0.1; each_is_name = h.1 }) (λ h. ((h.some, h.few), h.each_is_name))
+    (Decides-and _ _ (Decides-and _ _ (Decides-ltb 0 (length names)) (Decides-leb (length names) 8)) all)
+
+Decides-some : (texts : List (List ℕ)) → Decides (nat_lt 0 (length texts)) (texts ≢ [])
+Decides-some texts = Decides-like _ (λ h e. absurd (omega (arith, ap (length {A = List ℕ}) e, h))) (some_of texts) (Decides-ltb 0 (length texts))
+
+pub Decides-spells : (text : List ℕ) (caveat : Caveat) → Decides (spells text caveat) (Understood text caveat)
+Decides-spells text caveat = grind (arith, nat_tests, Decides-are_names, Decides-some, bytes_eq-Decides)
+
+Decides-slot : (slot : Option Slot) (p : Slot → Bool) (P : Slot → Type 0) → ((s : Slot) → Decides (p s) (P s)) →
+    Decides (option_map_or p slot false) (IsSomeAnd slot P)
+Decides-slot slot p P h = grind (arith, h)
+
+Decides-has : (names : List (List ℕ)) (name : List ℕ) → Decides (list_any (λ n. bytes_eq n name) names) (Contains names name)
+Decides-has names name =
+    Decides-like _ (λ h. (h.0, h.1, h.2 name)) (at_from_Contains names name)
+    (Decides-by_or (λ n. bytes_eq n name) (λ n. n ≡ name) (list_any (λ n. bytes_eq n name)) (λ n. bytes_eq-Decides n name) refl (λ _ _. refl) names)
+
+pub Decides-permits : (caveat : Caveat) (ask : Ask) → Decides (permits caveat ask) (Permits caveat ask)
+unfolding permits
+Decides-permits (Facility names) ask = Decides-slot ask.slot _ _ (λ slot. Decides-has names slot.facility)
+Decides-permits caveat ask = grind (arith, nat_tests)
+
+pub same_as_permits : (caveat : Caveat) (ask : Ask) (r : Bool) → IsTrue r ↔ Permits caveat ask → r ≡ permits caveat ask
+same_as_permits caveat ask r h = same_from_decides r (permits caveat ask) h (Decides-permits caveat ask)
+
+reads_as : {A : Type 0} (P Q : A → Type 0) (r : Option A) → Reads P r → ((x : A) → P x → Q x) → ((x : A) → Q x → P x) → Reads Q r
+reads_as P Q r h to from = grind arith
+
+pub reads_until : (text rest : List ℕ) (r : Option ℕ) → text ≡ codes "until < " ++ rest → Reads (SpellsMoment rest) r →
+    Reads (λ moment. SpellsCaveat text (Until moment)) r
+reads_until text rest r e h =
+    reads_as (SpellsMoment rest) (λ moment. SpellsCaveat text (Until moment)) r h
+    (λ n s. let is = spells-moment_text rest n s in record { real = is.1; spelling = e ∙ ap (λ (t : List ℕ). codes "until < " ++ t) is.0 })
+    (λ n s. rw (ap (drop 8) (sym e ∙ s.spelling)) (moment_text-spells n s.real))
+
+pub too_many_guests : (text rest : List ℕ) (n : ℕ) → text ≡ codes "guests <= " ++ rest → SpellsNumber rest n → 49 < n → (x : ℕ) → SpellsCaveat text (Guests x)
+    → ⊥
+too_many_guests text rest n e s large x h = grind (arith, common_steps, decimal_injective)
+
+-- `AreDates rest a b` means that `rest` consists of the date of day `a`, two dots, and the date of
+-- day `b`. The first date has ten bytes.
+pub record AreDates (rest : List ℕ) (a b : ℕ) : Type 0 where
+  pub first : take 10 rest ≡ day_text a
+  pub second : drop 10 rest ≡ codes ".." ++ day_text b
+  pub long : length rest ≡ 22
+
+pub dates_of : (text rest : List ℕ) (a b : ℕ) → text ≡ codes "days = " ++ rest → SpellsCaveat text (Days a b) → AreDates rest a b
+unfolding day_text
+dates_of text rest a b e h = grind (arith, common_steps, h.spelling)
+
+pub no_first_day : (text rest front : List ℕ) → text ≡ codes "days = " ++ rest → front ≡ take 10 rest → ((n : ℕ) → SpellsDay front n → ⊥) → (x : ℕ × ℕ) →
+    SpellsCaveat text (Days x.0 x.1) → ⊥
+no_first_day text rest front e front_is never x h = never x.0 (rw (front_is, (dates_of text rest x.0 x.1 e h).first) (day_text-spells x.0 h.real.0))
+
+pub no_dots : (text rest back : List ℕ) → text ≡ codes "days = " ++ rest → back ≡ drop 10 rest → ((last : List ℕ) → back ≡ codes ".." ++ last → ⊥) →
+    (x : ℕ × ℕ) → SpellsCaveat text (Days x.0 x.1) → ⊥
+no_dots text rest back e back_is never x h = never (day_text x.1) (back_is ∙ (dates_of text rest x.0 x.1 e h).second)
+
+second_is : (text rest back last : List ℕ) (a b : ℕ) → text ≡ codes "days = " ++ rest → back ≡ drop 10 rest → back ≡ codes ".." ++ last →
+    SpellsCaveat text (Days a b) → last ≡ day_text b
+second_is text rest back last a b e back_is dots h = ap (drop 2) (sym dots ∙ (back_is ∙ (dates_of text rest a b e h).second))
+
+pub no_second_day : (text rest back last : List ℕ) → text ≡ codes "days = " ++ rest → back ≡ drop 10 rest → back ≡ codes ".." ++ last →
+    ((n : ℕ) → SpellsDay last n → ⊥) → (x : ℕ × ℕ) → SpellsCaveat text (Days x.0 x.1) → ⊥
+no_second_day text rest back last e back_is dots never x h =
+    never x.1 (rw (second_is text rest back last x.0 x.1 e back_is dots h) (day_text-spells x.1 h.real.1))
+
+pub spells_days : (text rest front back last : List ℕ) (a b : ℕ) → text ≡ codes "days = " ++ rest → front ≡ take 10 rest → back ≡ drop 10 rest →
+    back ≡ codes ".." ++ last → SpellsDay front a → SpellsDay last b → a ≤ b → SpellsCaveat text (Days a b)
+spells_days text rest front back last a b e front_is back_is dots s t le =
+    let first = spells-day_text front a s in
+    let second = spells-day_text last b t in
+    let both : front ++ back ≡ rest = rw (front_is, back_is) (take-append-drop 10 rest) in
+    record { real = (s.within, t.within, le); spelling = rw (e, ← both, dots, first, second) refl }
+
+pub days_fall : (text rest front back last : List ℕ) (a b : ℕ) → text ≡ codes "days = " ++ rest → front ≡ take 10 rest → back ≡ drop 10 rest →
+    back ≡ codes ".." ++ last → SpellsDay front a → SpellsDay last b → b < a → (x : ℕ × ℕ) → SpellsCaveat text (Days x.0 x.1) → ⊥
+days_fall text rest front back last a b e front_is back_is dots s t lt x h =
+    let first : day_text a ≡ day_text x.0 = sym (spells-day_text front a s) ∙ (front_is ∙ (dates_of text rest x.0 x.1 e h).first) in
+    let second : day_text b ≡ day_text x.1 = sym (spells-day_text last b t) ∙ second_is text rest back last x.0 x.1 e back_is dots h in
+    let same_first = day_text_injective a x.0 [] [] s.within h.real.0 (ap (λ (d : List ℕ). d ++ []) first) in
+    let same_second = day_text_injective b x.1 [] [] t.within h.real.1 (ap (λ (d : List ℕ). d ++ []) second) in
+    absurd (omega (arith, h.real.2))
+
+pub no_line : (text : List ℕ) → ((x : List (List ℕ)) → SpellsCaveat text (Facility x) → ⊥) → ((x : AKind) → SpellsCaveat text (Kind x) → ⊥) →
+    ((x : ℕ × ℕ) → SpellsCaveat text (Hours x.0 x.1) → ⊥) → ((x : ℕ × ℕ) → SpellsCaveat text (Days x.0 x.1) → ⊥)
+    → ((x : SomeWeekdays) → SpellsCaveat text (Weekdays x) → ⊥) →
+    ((x : ℕ) → SpellsCaveat text (Until x) → ⊥) → ((x : ℕ) → SpellsCaveat text (Guests x) → ⊥) → ((x : ℕ) → SpellsCaveat text (Spend x) → ⊥) →
+    ((x : SomeActions) → SpellsCaveat text (Actions x) → ⊥) → (caveat : Caveat) → SpellsCaveat text caveat → ⊥
+no_line text f k h d w u g s a (Hours from until) is = h (from, until) is
+no_line text f k h d w u g s a (Days first last) is = d (first, last) is
+no_line text f k h d w u g s a caveat is = search rules

@@ -95,7 +95,7 @@ fn short_line_of(text: &[u8]) -> Option<Caveat<'_>>
 
 /// Parses the line of a caveat. Returns `None` if the text isn't a line of the caveat language or
 /// has more than 256 bytes.
-#[tactic(auto, using(crate::proofs::CaveatOfLemmas::reads_caveat_of))]
+#[tactic(auto, using(crate::proofs::CaveatLemmas::reads_caveat_of))]
 pub fn read(bytes: &[u8]) -> Option<Caveat<'_>>
     ensures understood { Reads (Understood bytes.now) result }
     ensures function { result ≡ caveat_of bytes.now }
@@ -143,7 +143,7 @@ pub fn allows(caveat: &Caveat, ask: &Ask) -> bool
 
 /// Returns whether the text is a caveat that restricts the kind of a facility. The fault of the
 /// text depends on the kind if and only if the result is true.
-#[tactic(auto, using(crate::proofs::KindLemmas::blind_to_kind))]
+#[tactic(auto, using(crate::proofs::CaveatLemmas::blind_to_kind))]
 pub fn looks_at_kind(text: &[u8]) -> bool
     ensures function { result ≡ is_on_kind (caveat_of text.now) }
     ensures blind { result ≡ false → IsBlindToKind text.now }

@@ -51,7 +51,7 @@ fn fault_of_text(text: &[u8], number: usize, ask: &Ask) -> Option<CaveatFault>
 /// Returns the fault of one caveat, or `None` if the caveat allows the request. The argument
 /// `number` is the caveat's position in a list, starting from 1. A caller can test the caveats of a
 /// list in order and stop at the first fault. `first_fault` returns the same fault for the list.
-#[tactic(auto, using(crate::proofs::CaveatOfLemmas::is_fault_at))]
+#[tactic(auto, using(crate::proofs::CaveatLemmas::is_fault_at))]
 pub fn fault_at(text: &[u8], number: usize, ask: &Ask) -> Option<CaveatFault>
     ensures cases { IsFaultAt text.now number ask.now result }
     ensures function { result ≡ first_fault_from number (caveat_of text.now ∷ []) ask.now }
@@ -72,7 +72,7 @@ fn fault_of(caveats: &[Vec<u8>], ask: &Ask) -> Option<CaveatFault>
 
 /// Returns the fault of the first caveat that isn't understood or that denies the request. Returns
 /// `None` if every caveat allows the request.
-#[tactic(auto, using(crate::proofs::CaveatOfLemmas::is_first_fault))]
+#[tactic(auto, using(crate::proofs::CaveatLemmas::is_first_fault))]
 pub fn first_fault(caveats: &[Vec<u8>], ask: &Ask) -> Option<CaveatFault>
     ensures first { IsFirstFault (map vec_items caveats.now) ask.now result }
     ensures function { result ≡ first_fault_of (map caveat_of (map vec_items caveats.now)) ask.now }

@@ -12,7 +12,7 @@ pub fn narrows()
 {}
 
 /// A list of caveats has no first fault if and only if it allows the request.
-#[tactic(auto, using(crate::proofs::CaveatOfLemmas::none_where_allowed))]
+#[tactic(auto, using(crate::proofs::CaveatLemmas::none_where_allowed))]
 pub fn faults_only_where_not_allowed()
     ensures { FaultsOnlyWhereNotAllowed }
 {}
@@ -32,7 +32,7 @@ pub fn finds_the_fault_at()
 /// Suppose that a caveat is appended to a list. If the list already has a first fault, the fault
 /// stays the same. Otherwise the first fault is the fault of the new caveat. The number of the new
 /// caveat is one more than the length of the list.
-#[tactic(auto, using(crate::proofs::CaveatOfLemmas::fault_of_one_more))]
+#[tactic(auto, using(crate::proofs::CaveatLemmas::fault_of_one_more))]
 pub fn finds_the_fault_of_one_more()
     ensures { FindsTheFaultOfOneMore }
 {}
@@ -53,7 +53,7 @@ pub fn is_understood_once()
 {}
 
 /// If the request charges nothing, the first fault doesn't depend on the key's earlier spending.
-#[tactic(auto, using(crate::proofs::SpendingLemmas::free))]
+#[tactic(auto, using(crate::proofs::CaveatLemmas::free))]
 pub fn owes_nothing()
     ensures { OwesNothing }
 {}
@@ -62,7 +62,7 @@ pub fn owes_nothing()
 /// spent `most` points. Then the first fault is the same for any amount up to `most`. Every spend
 /// limit is at most 999,999,999 points. Therefore, if `most` is at least 999,999,999, the first
 /// fault doesn't depend on the amount spent.
-#[tactic(auto, using(crate::proofs::SpendingLemmas::limits_no_more))]
+#[tactic(auto, using(crate::proofs::CaveatLemmas::limits_no_more))]
 pub fn limits_no_more()
     ensures { LimitsNoMore }
 {}

@@ -75,7 +75,7 @@ pub(crate) fn read_until(text: &[u8]) -> Option<Moment>
     Moment::read(after(text, b"until < ")?)
 }
 
-#[tactic(auto, using(crate::proofs::LineLemmas::too_many_guests))]
+#[tactic(auto, using(crate::proofs::ChoiceLemmas::too_many_guests))]
 pub(crate) fn read_guests(text: &[u8]) -> Option<u8>
     ensures { Reads (λ n. SpellsCaveat text.now (caveats.Guests n)) result }
 {

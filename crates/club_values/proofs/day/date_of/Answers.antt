@@ -1,7 +1,7 @@
-use Rattle.std.proofs.Common.{arith}
-use Rattle.jiff_core.proofs.SignedLemmas.{signed_casts}
-use Rattle.club_values.proofs.DateTextLemmas.{reads_date, no_date}
 use Rattle.club_values.proofs.day.date_of.Goals as goal
+use Rattle.std.proofs.Common.{arith}
+use Rattle.club_values.proofs.DayLemmas.{reads_date, no_date}
+use Rattle.jiff_core.proofs.SignedLemmas.{signed_casts}
 
 pub returns : goal.returns
 returns c =

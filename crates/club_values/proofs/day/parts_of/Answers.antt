@@ -1,6 +1,6 @@
-use Rattle.std.proofs.Common.{arith}
-use Rattle.club_values.proofs.DateTextLemmas.{parts_from_reads}
 use Rattle.club_values.proofs.day.parts_of.Goals as goal
+use Rattle.std.proofs.Common.{arith}
+use Rattle.club_values.proofs.DayLemmas.{parts_from_reads}
 
 pub returns : goal.returns
 returns c =

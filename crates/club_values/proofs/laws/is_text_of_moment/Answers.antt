@@ -1,7 +1,6 @@
-use Rattle.std.proofs.Common.{List, ℕ, subst, sym}
-use Rattle.club_values.specs.Moment.{SpellsMoment}
-use Rattle.club_values.proofs.MomentLemmas.{spells-moment_text, moment_text-spells}
 use Rattle.club_values.proofs.laws.is_text_of_moment.Goals as goal
+use Rattle.std.proofs.Common.{List, ℕ, subst, sym}
+use Rattle.club_values.{proofs.DayLemmas.{spells-moment_text, moment_text-spells}, specs.Moment.SpellsMoment}
 
 pub returns : goal.returns
 returns c = λ text n.

@@ -1,5 +1,5 @@
-use Rattle.club_values.proofs.MomentLemmas.{no_day_no_moment, no_time_no_moment}
 use Rattle.club_values.proofs.moment.moment_in.Goals as goal
+use Rattle.club_values.proofs.DayLemmas.{no_day_no_moment, no_time_no_moment}
 
 pub returns-in_err-day : goal.returns-in_err-day
 returns-in_err-day c = rw c.from_residual.ensures (no_day_no_moment c.args.text.now (rw c.split_at.ensures.front at c.in_err-day.ensures.spelled))

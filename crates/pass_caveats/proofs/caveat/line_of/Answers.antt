@@ -1,5 +1,5 @@
-use Rattle.pass_caveats.proofs.LineLemmas.{no_line}
 use Rattle.pass_caveats.proofs.caveat.line_of.Goals as goal
+use Rattle.pass_caveats.proofs.ChoiceLemmas.{no_line}
 
 pub returns-in_err-actions : goal.returns-in_err-actions
 returns-in_err-actions c =

@@ -1,5 +1,5 @@
-use Rattle.pass_caveats.proofs.{Common.{map, arith, vec_items, length-map, take_all}, FaultLemmas.{text_at, first_fault_at, one_more}}
 use Rattle.pass_caveats.proofs.fault.fault_of.Goals as goal
+use Rattle.pass_caveats.proofs.{CaveatLemmas.{text_at, first_fault_at, one_more}, Common.{map, arith, vec_items, length-map, take_all}}
 
 pub returns-in-Some : goal.returns-in-Some
 returns-in-Some c =

@@ -1,6 +1,6 @@
-use Rattle.pass_caveats.proofs.CaveatOfLemmas.{finds_fault_at, reads_caveat_of}
-use Rattle.pass_caveats.proofs.Common.{◌≡◌, ◌↔◌, [], ◌∷◌, Option, subst, sym, Caveat, IsFaultAt, first_fault_from}
 use Rattle.pass_caveats.proofs.laws.finds_the_fault_at.Goals as goal
+use Rattle.pass_caveats.proofs.{CaveatLemmas.{finds_fault_at, reads_caveat_of}, Common.{◌≡◌, ◌↔◌, [], ◌∷◌, Option, subst, sym, Caveat, IsFaultAt}}
+use Rattle.pass_caveats.proofs.Common.{first_fault_from}
 
 pub returns : goal.returns
 returns c = λ text caveat n ask fault understood.

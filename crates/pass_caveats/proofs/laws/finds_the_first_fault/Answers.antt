@@ -1,6 +1,6 @@
-use Rattle.pass_caveats.proofs.CaveatOfLemmas.{all_caveats_of, is_first_fault, first_fault_of-is_first}
-use Rattle.pass_caveats.proofs.Common.{◌≡◌, ◌↔◌, List, Option, subst, sym, Caveat, CaveatFault, IsFirstFault, first_fault_of}
 use Rattle.pass_caveats.proofs.laws.finds_the_first_fault.Goals as goal
+use Rattle.pass_caveats.proofs.{CaveatLemmas.{all_caveats_of, is_first_fault, first_fault_of-is_first}, Common.{◌≡◌, ◌↔◌, List, Option, subst, sym, Caveat}}
+use Rattle.pass_caveats.proofs.Common.{CaveatFault, IsFirstFault, first_fault_of}
 
 pub returns : goal.returns
 returns c = λ texts caveats ask fault understood.

@@ -1,5 +1,5 @@
-use Rattle.pass_caveats.proofs.{Common.{◌==◌, rules, List, ℕ, tests, cases_from_all, YieldsList-from_slice_split, IsName}, PartLemmas.all_from_all}
 use Rattle.pass_caveats.proofs.parts.are_all_names.Goals as goal
+use Rattle.pass_caveats.proofs.{ChoiceLemmas.all_from_all, Common.{◌==◌, rules, List, ℕ, tests, cases_from_all, YieldsList-from_slice_split, IsName}}
 
 pub returns : goal.returns
 returns c =

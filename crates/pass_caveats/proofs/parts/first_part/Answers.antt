@@ -1,6 +1,7 @@
-use Rattle.pass_caveats.proofs.Common.{rules, ◌≡◌, ◌≢◌, tests, IsFirst-from_position, YieldsList-from_slice}
-use Rattle.pass_caveats.proofs.PartLemmas.{parts_of-comma, parts_of-no_comma, tail_is}
 use Rattle.pass_caveats.proofs.parts.first_part.Goals as goal
+use Rattle.std.proofs.lemmas.List.Splits.{slice_split_none}
+use Rattle.pass_caveats.proofs.{ChoiceLemmas.{parts_of-comma, tail_is}, Common.{rules, ◌≡◌, ◌≢◌, tests, IsFirst-from_position, YieldsList-from_slice, arith}}
+use Rattle.pass_caveats.proofs.Common.{nat_tests, common_steps}
 
 pub returns-in-Some : goal.returns-in-Some
 returns-in-Some c =
@@ -14,4 +15,4 @@ returns-in-None c =
     let r =
     IsFirst-from_position _ _ _ (λ x. x ≡ 44) (λ x. x ≢ 44) c.in-None.ensures.ran (YieldsList-from_slice c.args.text.now cc)
     (λ x q k. search (rules, tests)) (λ x q k. search (rules, tests)) in
-    parts_of-no_comma c.args.text.now r
+    grind (arith, nat_tests, common_steps, slice_split_none)

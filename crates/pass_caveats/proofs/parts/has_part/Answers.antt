@@ -1,5 +1,5 @@
-use Rattle.pass_caveats.proofs.{Common.{◌==◌, rules, List, ℕ, ◌≡◌, ◌≢◌, tests, cases_from_any, YieldsList-from_slice_split}, PartLemmas.contains_from_any}
 use Rattle.pass_caveats.proofs.parts.has_part.Goals as goal
+use Rattle.pass_caveats.proofs.{ChoiceLemmas.contains_from_any, Common.{◌==◌, rules, List, ℕ, ◌≡◌, ◌≢◌, tests, cases_from_any, YieldsList-from_slice_split}}
 
 pub returns : goal.returns
 returns c =

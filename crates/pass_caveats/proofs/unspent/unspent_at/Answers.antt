@@ -1,6 +1,5 @@
-use Rattle.pass_caveats.proofs.{Common.{◌≡◌, true, false, permits}, SpendingLemmas.{holds_allowed, holds_denied}}
-use Rattle.pass_caveats.specs.Spending.{after_spending}
 use Rattle.pass_caveats.proofs.unspent.unspent_at.Goals as goal
+use Rattle.pass_caveats.{proofs.{CaveatLemmas.{holds_allowed, holds_denied}, Common.{◌≡◌, true, false, permits}}, specs.Spending.after_spending}
 
 pub returns-then-not-allows : goal.returns-then-not-allows
 returns-then-not-allows c =

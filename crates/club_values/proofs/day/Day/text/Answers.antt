@@ -1,5 +1,5 @@
-use Rattle.club_values.proofs.DayLemmas.{date_text-day_text}
 use Rattle.club_values.proofs.day.Day.text.Goals as goal
+use Rattle.club_values.proofs.DayLemmas.{date_text-day_text}
 
 pub returns-clause-value : goal.returns-clause-value
 returns-clause-value c =

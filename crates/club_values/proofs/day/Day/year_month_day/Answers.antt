@@ -1,6 +1,6 @@
+use Rattle.club_values.proofs.day.Day.year_month_day.Goals as goal
 use Rattle.std.proofs.Common.{arith}
 use Rattle.club_values.proofs.DayLemmas.{civil_date, date_bounds, date_of_day, year_after_cast}
-use Rattle.club_values.proofs.day.Day.year_month_day.Goals as goal
 
 pub overflow_cast-result : goal.overflow_cast-result
 overflow_cast-result c =

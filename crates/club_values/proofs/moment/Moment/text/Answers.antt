@@ -1,7 +1,6 @@
-use Rattle.std.proofs.Common.{ℕ, List, subst, sym, arith}
-use Rattle.club_values.specs.Moment.{SpellsMoment}
-use Rattle.club_values.proofs.MomentLemmas.{joined_text, moment_text-spells}
 use Rattle.club_values.proofs.moment.Moment.text.Goals as goal
+use Rattle.std.proofs.Common.{ℕ, List, subst, sym, arith}
+use Rattle.club_values.{proofs.DayLemmas.{joined_text, moment_text-spells}, specs.Moment.SpellsMoment}
 
 pub returns-clause-value : goal.returns-clause-value
 returns-clause-value c =

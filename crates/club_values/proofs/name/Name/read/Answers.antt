@@ -1,7 +1,6 @@
-use Rattle.std.proofs.Common.{◌≡◌, ℕ, List}
-use Rattle.club_values.specs.Name.{IsName}
-use Rattle.club_values.proofs.TextOfLemmas.{same_reading, reads_names}
 use Rattle.club_values.proofs.name.Name.read.Goals as goal
+use Rattle.std.proofs.Common.{◌≡◌, ℕ, List}
+use Rattle.club_values.{proofs.DayLemmas.{same_reading, reads_names}, specs.Name.IsName}
 
 pub returns-clause-function : goal.returns-clause-function
 returns-clause-function c =

@@ -1,13 +1,12 @@
-use Rattle.pass_caveats.proofs.{CandidateLemmas.action_words, ChoiceLemmas.{reads_choice, no_choice, something_left, nothing_left}}
-use Rattle.pass_caveats.proofs.Common.{[], ◌∷◌, sym, ◌∙◌, refl}
-use Rattle.club_values.specs.Action.{action_text}
-use Rattle.pass_caveats.specs.Actions.{all_actions, has_action}
 use Rattle.pass_caveats.proofs.actions.Actions.read.Goals as goal
+use Rattle.club_values.specs.Action.{action_text}
+use Rattle.pass_caveats.proofs.{ChoiceLemmas.{reads_choice, no_choice, something_left, nothing_left}, Common.{[], ◌∷◌, sym, ◌∙◌, refl}}
+use Rattle.pass_caveats.specs.Actions.{all_actions, has_action}
 
 pub returns-then-is_some : goal.returns-then-is_some
 returns-then-is_some c =
     let some = something_left c.skip-account.result.1 (sym c.is_some.ensures ∙ c.if-is_some.true) in
-    λ set h. no_choice action_text all_actions action_words
+    λ set h. no_choice action_text all_actions (record { distinct = refl; plain = refl })
     (c.skip-view.result.0 ∷ c.skip-book.result.0 ∷ c.skip-cancel.result.0 ∷ c.skip-account.result.0 ∷ []) c.args.text.now _ some
     (_, c.skip-view.ensures, (_, c.skip-book.ensures, (_, c.skip-cancel.ensures, (_, c.skip-account.ensures, refl)))) (has_action set) h.0 h.1
 

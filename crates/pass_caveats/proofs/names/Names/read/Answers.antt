@@ -1,7 +1,8 @@
-use Rattle.pass_caveats.proofs.{Common.{◌≡◌, true, sym, arith, AreNames, comma_parts}, PartLemmas.{joined-parts_of, some_part, names_are_parts}}
+use Rattle.pass_caveats.proofs.names.Names.read.Goals as goal
+use Rattle.std.proofs.lemmas.List.Splits.{join_with_byte-slice_split}
+use Rattle.pass_caveats.proofs.{ChoiceLemmas.{some_part, names_again}, Common.{◌≡◌, true, sym, arith, AreNames, comma_parts}}
 use Rattle.pass_caveats.proofs.names.Names.read.Goals.{else-are_all_names-via-then-are_all_names+else-count_of_parts-le-MAX_NAMES}
 use Rattle.pass_caveats.proofs.names.Names.read.Goals.{else-are_all_names-via-else-are_all_names}
-use Rattle.pass_caveats.proofs.names.Names.read.Goals as goal
 
 pub invariant_of-result : goal.invariant_of-result
 invariant_of-result c = record { some = some_part c.args.text.now; few = omega arith; each_is_name = c.are_all_names.ensures.0 c.if-are_all_names.true }
@@ -9,12 +10,12 @@ invariant_of-result c = record { some = some_part c.args.text.now; few = omega a
 pub returns-then-count_of_parts-le-MAX_NAMES : goal.returns-then-count_of_parts-le-MAX_NAMES
 returns-then-count_of_parts-le-MAX_NAMES c = (
   record { some = some_part c.args.text.now; few = omega arith; each_is_name = c.are_all_names.ensures.0 c.if-are_all_names.true },
-  sym (joined-parts_of c.args.text.now),
+  sym (join_with_byte-slice_split 44 c.args.text.now),
 )
 
 pub returns-else-are_all_names : goal.returns-else-are_all_names
 returns-else-are_all_names c = λ names h.
-    let are : AreNames (comma_parts c.args.text.now) = names_are_parts c.args.text.now names h in
+    let are : AreNames (comma_parts c.args.text.now) = grind (arith, names_again) in
     elim c.else-are_all_names.branch [
       | else-are_all_names-via-then-are_all_names+else-count_of_parts-le-MAX_NAMES w ↦ absurd (omega (arith, are.few))
       | else-are_all_names-via-else-are_all_names w ↦ let t : c.are_all_names.result ≡ true = c.are_all_names.ensures.1 are.each_is_name in cc

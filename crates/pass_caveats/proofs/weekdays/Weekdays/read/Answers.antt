@@ -1,13 +1,12 @@
-use Rattle.pass_caveats.proofs.{CandidateLemmas.weekday_words, ChoiceLemmas.{reads_choice, no_choice, something_left, nothing_left}}
-use Rattle.pass_caveats.proofs.Common.{[], ◌∷◌, sym, ◌∙◌, refl}
-use Rattle.club_values.specs.Weekday.{weekdays}
-use Rattle.pass_caveats.specs.Weekdays.{weekday_text, has_weekday}
 use Rattle.pass_caveats.proofs.weekdays.Weekdays.read.Goals as goal
+use Rattle.club_values.specs.Weekday.{weekdays}
+use Rattle.pass_caveats.proofs.{ChoiceLemmas.{reads_choice, no_choice, something_left, nothing_left}, Common.{[], ◌∷◌, sym, ◌∙◌, refl}}
+use Rattle.pass_caveats.specs.Weekdays.{weekday_text, has_weekday}
 
 pub returns-then-is_some : goal.returns-then-is_some
 returns-then-is_some c =
     let some = something_left c.skip-sunday.result.1 (sym c.is_some.ensures ∙ c.if-is_some.true) in
-    λ set h. no_choice weekday_text weekdays weekday_words
+    λ set h. no_choice weekday_text weekdays (record { distinct = refl; plain = refl })
     (c.skip-monday.result.0 ∷ c.skip-tuesday.result.0 ∷ c.skip-wednesday.result.0 ∷ c.skip-thursday.result.0 ∷ c.skip-friday.result.0 ∷
     c.skip-saturday.result.0 ∷ c.skip-sunday.result.0 ∷ []) c.args.text.now _ some (
       _,
