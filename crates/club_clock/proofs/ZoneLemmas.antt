@@ -23,21 +23,13 @@ no_zone text none = go (is_some (read_whole text)) none
 within_day : (t : Time) → time_nanos t < 86_400_000_000_000
 within_day t = omega (arith, t.hour_in, t.minute_in, t.second_in, t.subsec_in)
 
-in_minute : (day nanos n : ℕ) → n * 60_000_000_000 ≤ day * 86_400_000_000_000 + nanos
-    → day * 86_400_000_000_000 + nanos < n * 60_000_000_000 + 60_000_000_000
-    → IsInMinute (pos day *ℤ pos 86_400_000_000_000 +ℤ pos nanos) n
-in_minute day nanos n least most = (omega (arith, ints), omega (arith, ints))
-
 minute_bounds : (day nanos n : ℕ) → IsInMinute (pos day *ℤ pos 86_400_000_000_000 +ℤ pos nanos) n
     → (n * 60_000_000_000 ≤ day * 86_400_000_000_000 + nanos) × (day * 86_400_000_000_000 + nanos < n * 60_000_000_000 + 60_000_000_000)
 minute_bounds day nanos n h = (omega (arith, ints, h.0), omega (arith, ints, h.1))
 
-never_before : (k nanos n : ℕ) → nanos < 86_400_000_000_000 → IsMoment n → ¬ (IsInMinute (negsuc k *ℤ pos 86_400_000_000_000 +ℤ pos nanos) n)
-never_before k nanos n short within h = absurd (omega (arith, ints, h.0))
-
 never_out : (day : ℤ) (nanos n : ℕ) → nanos < 86_400_000_000_000 → ((x : ℕ) → ¬ (IsDay x × (day ≡ pos x)))
     → ¬ (IsMoment n × IsInMinute (day *ℤ pos 86_400_000_000_000 +ℤ pos nanos) n)
-never_out (negsuc k) nanos n short out (within, h) = never_before k nanos n short within h
+never_out (negsuc k) nanos n short out (within, h) = absurd (omega (arith, ints, h.0))
 never_out (pos day) nanos n short out (within, h) =
     let bounds = minute_bounds day nanos n h in
     elim (cases_lt day 10957) [
@@ -69,7 +61,6 @@ module _ (rule : List ℕ) (instant : ℤ) (zone : TimeZone) (of_rule : IsZoneOf
     of_rule = of_rule;
     minute = (
       (omega arith, omega (arith, civil.time.hour_in, civil.time.minute_in)),
-      rw (← is, same) (in_minute day (time_nanos civil.time) n
-          (omega arith) (omega (arith, civil.time.second_in, civil.time.subsec_in))),
+      rw (← is, same) (omega (arith, ints), omega (arith, ints)),
     );
   }
