@@ -1,12 +1,12 @@
 -- Lemmas for the proof that the V1 reader accepts exactly the bytes that encode a pass.
 use Rattle.std.proofs.Common.{rules}
-use Rattle.pass_forms.proofs.{CaveatTexts.{Exact, caveats_again, caveats_fit, caveats_take}, Checking.exactly, Common.{List, None, Some, [], ap, append-nil}}
-use Rattle.pass_forms.proofs.Common.{FitsCaveat, FitsPacket, FitsPackets, SpellsV1, WidePass, arith, flat_map, length, refl, subst, ℕ, ◌++◌, ◌∙◌, ◌≡◌, ◌≤◌}
-use Rattle.pass_forms.proofs.Common.{ComputesSpelled, ReadsExactly, caveat_at, caveat_packets, caveats_at, length-append, packet, packets_of, same_Some}
-use Rattle.pass_forms.proofs.Common.{IfSome, Option, WideCaveat, append_assoc, found_or_none, header_at, packet_at, reading_v1, signature_at, sym, wide_at}
-use Rattle.pass_forms.proofs.{Common.{common_steps, optional_at, optional_packet}, Packets.{bind_some, caveat_key, caveat_location_key, identifier_key}}
-use Rattle.pass_forms.proofs.Packets.{length-packet, location_key, packet_again, packet_other, packet_takes, signature_key, verifier_id_key}
-use Rattle.pass_forms.proofs.WholePass.{last_takes, made, whole_again, whole_parts}
+use Rattle.pass_forms.proofs.Common.{List, None, Some, [], ap, append-nil, FitsCaveat, FitsPacket, FitsPackets, SpellsV1, WidePass, arith, flat_map, length}
+use Rattle.pass_forms.proofs.Common.{refl, subst, ℕ, ◌++◌, ◌∙◌, ◌≡◌, ◌≤◌, ComputesSpelled, ReadsExactly, caveat_at, caveat_packets, caveats_at, length-append}
+use Rattle.pass_forms.proofs.Common.{packet, packets_of, same_Some, IfSome, Option, WideCaveat, append_assoc, found_or_none, header_at, packet_at, reading_v1}
+use Rattle.pass_forms.proofs.{Common.{signature_at, sym, wide_at, common_steps, optional_at, optional_packet}, FieldLemmas.{bind_some, caveat_key}}
+use Rattle.pass_forms.proofs.FieldLemmas.{caveat_location_key, identifier_key, length-packet, location_key, packet_again, packet_other, packet_takes}
+use Rattle.pass_forms.proofs.{FieldLemmas.{signature_key, verifier_id_key}, ReadingLemmas.{Exact, caveats_again, caveats_fit, caveats_take, exactly}}
+use Rattle.pass_forms.proofs.ReadingLemmas.{last_takes, made, whole_again, whole_parts}
 
 optional_takes : (key bytes : List ℕ) → (bytes ≡ optional_packet key (optional_at key bytes).0 ++ (optional_at key bytes).1)
     × IfSome (optional_at key bytes).0 (FitsPacket key)
@@ -73,10 +73,6 @@ signature_takes bytes signature e =
     let s = last_takes (packet_at signature_key bytes) signature e in
     ((packet_takes signature_key bytes signature [] s.0).0 ∙ append-nil (packet signature_key signature), s.1)
 
-signature_again : (signature : List ℕ) → length signature ≡ 32 → signature_at (packet signature_key signature) ≡ Some signature
-unfolding signature_at
-signature_again signature len = rw (← append-nil (packet signature_key signature)) (rw (packet_again signature_key signature [] (omega arith), len) refl)
-
 signature_ends : (signature : List ℕ) → EndsCaveat (packet signature_key signature)
 signature_ends signature = record {
   verifier_id = rw (← append-nil (packet signature_key signature)) (packet_other verifier_id_key signature_key signature [] (λ tail. refl));
@@ -118,6 +114,7 @@ wide_takes bytes wide e =
     subst (λ (w : WidePass). SpellsV1 bytes w) p.whole spelling
 
 wide_again : (bytes : List ℕ) (wide : WidePass) → SpellsV1 bytes wide → wide_at bytes ≡ Some wide
+unfolding signature_at
 wide_again bytes wide spelling =
     let fits = spelling.fits in
     let last = packet signature_key wide.signature in
@@ -128,7 +125,7 @@ wide_again bytes wide spelling =
     let c = caveats_again caveat_at caveat_packets FitsCaveat EndsCaveat exact_caveats (length caveats) wide.caveats last fuel fits.caveats
     (signature_ends wide.signature) (signature_is_no_caveat wide.signature) in
     whole_again header_at caveat_at signature_at bytes (wide.location, wide.identifier, caveats) wide.caveats last wide.signature h c
-    (signature_again wide.signature fits.signature)
+    (rw (← append-nil (packet signature_key wide.signature)) (rw (packet_again signature_key wide.signature [] (omega arith), fits.signature) refl))
 
 pub computes_v1 : ComputesSpelled SpellsV1 wide_at
 computes_v1 bytes wide = (wide_again bytes wide, wide_takes bytes wide)

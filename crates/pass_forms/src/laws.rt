@@ -27,7 +27,7 @@ pub fn from_base64_is_base64()
 {}
 
 /// For each text, `unwrapping` returns the only result that `IsUnwrapped` allows.
-#[tactic(auto, using(crate::proofs::EnvelopeLaws::unwrapped_is))]
+#[tactic(auto, using(crate::proofs::Base64Lemmas::unwrapped_is))]
 pub fn unwrapped_is_the_answer()
     ensures { UnwrappedIsTheAnswer }
 {}
@@ -66,27 +66,27 @@ pub fn reads_v2_exactly()
 
 /// `reading_of` returns the only result that `IsReadAs` allows. `reading_of` takes the length of a
 /// text, and either the `WidePass` that the text encodes or `None`.
-#[tactic(auto, using(crate::proofs::Checking::exactly))]
+#[tactic(auto, using(crate::proofs::ReadingLemmas::exactly))]
 pub fn answers_exactly()
     ensures { AnswersExactly }
 {}
 
 /// For each text, `text_reading` returns the only result that `IsTextReading` allows. The parameter
 /// `wide_at` of the law decodes the bytes of each form.
-#[tactic(auto, using(crate::proofs::TextExact::text_reading_exact))]
+#[tactic(auto, using(crate::proofs::ReadingLemmas::text_reading_exact))]
 pub fn reads_texts_exactly()
     ensures { ReadsTextsExactly }
 {}
 
 /// For a pass with a signature of 32 bytes, `writing_v1` and `writing_v2` return the only results
 /// that `IsWriting` allows.
-#[tactic(auto, using(crate::proofs::WrittenV1::exact_v1, crate::proofs::WrittenV2::exact_v2))]
+#[tactic(auto, using(crate::proofs::WrittenLemmas::exact_v1, crate::proofs::WrittenLemmas::exact_v2))]
 pub fn writes_exactly()
     ensures { WritesExactly }
 {}
 
 /// Reading a text that `write_v1` or `write_v2` wrote gives the same form and the same pass.
-#[tactic(auto, using(crate::proofs::WrittenV1::law_v1, crate::proofs::WrittenV2::law_v2))]
+#[tactic(auto, using(crate::proofs::WrittenLemmas::law_v1, crate::proofs::WrittenLemmas::law_v2))]
 pub fn texts_read_back()
     ensures { TextsReadBack }
 {}

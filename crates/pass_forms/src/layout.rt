@@ -124,7 +124,7 @@ struct Skipped<'a> {
 }
 
 // Skips the caveats at the start of the bytes.
-#[tactic(auto, using(crate::proofs::CaveatRuns::none_follow))]
+#[tactic(auto, using(crate::proofs::ReadingLemmas::none_follow))]
 fn skip_caveats<L: Layout>(bytes: &[u8]) -> Skipped<'_>
     ensures { Counts result.count result.third_party result.rest.now
         (caveats_at L.caveat_at (length bytes.now) bytes.now) }
@@ -147,7 +147,7 @@ fn skip_caveats<L: Layout>(bytes: &[u8]) -> Skipped<'_>
 
 // Scans all bytes of a pass. Returns `None` if the bytes don't encode a pass. The scan accepts
 // third-party caveats.
-#[tactic(auto, using(crate::proofs::CaveatRuns::as_many), unfolding(crate::specs::computed::Caveats::whole_at))]
+#[tactic(auto, using(crate::proofs::ReadingLemmas::as_many), unfolding(crate::specs::computed::Caveats::whole_at))]
 fn scan_pass<L: Layout>(bytes: &[u8]) -> Option<ScanResult<'_, L>>
     ensures { option_map (λ pass. (pass.fields, pass.caveat_count, pass.third_party)) result
         ≡ option_map scan_summary (whole_at L.header_at L.caveat_at L.footer_at bytes.now) }
@@ -193,7 +193,7 @@ fn checked_fields<L: Layout>(bytes: &[u8]) -> Result<Fields<'_, L>, FormFault>
 
 impl<'a> Caveats<'a> {
     // Removes the first caveat and returns its identifier.
-    #[tactic(auto, using(crate::proofs::CaveatRuns::none_follow))]
+    #[tactic(auto, using(crate::proofs::ReadingLemmas::none_follow))]
     fn next<L: Layout>(&mut self) -> Option<&'a [u8]>
         ensures some { IfSome result
             (λ caveat. identifiers_at L.caveat_at self.old.count self.old.bytes.now ≡ caveat.now

@@ -24,7 +24,7 @@ pub const END_OF_SECTION: &[u8] = &[0];
 
 // Parses a varint whose value is at most `most`. Each byte contains seven bits of the value, and
 // the lowest bits come first.
-#[tactic(auto, using(crate::proofs::Varints::no_bytes), unfolding(crate::specs::computed::V2Reading::varint_up_to))]
+#[tactic(auto, using(crate::proofs::FieldLemmas::no_bytes), unfolding(crate::specs::computed::V2Reading::varint_up_to))]
 fn varint_up_to(most: usize, bytes: &[u8]) -> Option<(usize, &[u8])>
     ensures value { option_map (λ found. (found.0, found.1.now)) result
         ≡ reading.varint_up_to most bytes.now }

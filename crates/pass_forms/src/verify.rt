@@ -12,7 +12,7 @@ use pass_mac::{Chain, same};
 /// already. The function adds the remaining caveats to the chain and compares the chain's signature
 /// with the pass's signature. The function returns false if a location or an identifier remains
 /// before the signature.
-#[tactic(auto, using(crate::proofs::Verifying::signed_behind))]
+#[tactic(auto, using(crate::proofs::ReadingLemmas::signed_behind))]
 pub fn is_signed_by<'a, F: FieldSource<'a>>(mut chain: Chain, source: &mut F) -> bool
     ensures signed { IsTrue result ↔ AreSignedBy chain (F.left source.old) }
     ensures of_pass { (caveats : List (List ℕ)) (signature : List ℕ)

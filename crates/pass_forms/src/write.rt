@@ -75,7 +75,7 @@ pub fn write_v2(alloc: Global, pass: &Pass) -> Result<String, FormFault>
 }
 
 // Returns the text of a pass in this layout, or the first fault that applies.
-#[tactic(auto, using(crate::proofs::WrittenTexts::too_long))]
+#[tactic(auto, using(crate::proofs::WrittenLemmas::too_long))]
 fn write_in<L: PutLayout>(alloc: Global, pass: &Pass) -> Result<String, FormFault>
     ensures written { MatchResult result
         (λ text. writing_of (L.bytes_of pass.now) pass.now ≡ Ok (string_bytes text))

@@ -11,7 +11,7 @@ use crate::{FormFault, MAX_BYTES, Pass};
 
 // Appends a length as a varint. `put_field` limits the length to 6,144 bytes, so the varint has at
 // most two bytes.
-#[tactic(auto, using(crate::proofs::Fields::varint_small, crate::proofs::Fields::varint_of_two))]
+#[tactic(auto, using(crate::proofs::FieldLemmas::varint_small, crate::proofs::FieldLemmas::varint_of_two))]
 fn put_varint(buffer: &mut Buffer, n: usize) -> Result<(), FormFault>
     requires { n < 2 ^ 14 }
     ensures { Puts (spec.varint n) buffer.old buffer.new result }

@@ -1,5 +1,5 @@
-use Rattle.pass_forms.proofs.{Common.{Ok, Err, rules, take, Malformed, unwrapping}, EnvelopeLaws.answers_as}
 use Rattle.pass_forms.proofs.envelope.unwrap_text.Goals as goal
+use Rattle.pass_forms.proofs.{Base64Lemmas.answers_as, Common.{Ok, Err, rules, take, Malformed, unwrapping}}
 
 pub returns-in_default-clause-reading : goal.returns-in_default-clause-reading
 unfolding unwrapping

@@ -1,5 +1,5 @@
-use Rattle.pass_forms.proofs.{CaveatRuns.{no_more, one_more}, Common.{◌≡◌, ◌+◌, ◌-◌, suc, length, arith, common_steps}}
 use Rattle.pass_forms.proofs.layout.skip_caveats.Goals as goal
+use Rattle.pass_forms.proofs.{Common.{◌≡◌, ◌+◌, ◌-◌, suc, length, arith, common_steps}, ReadingLemmas.{no_more, one_more}}
 
 pub loop-preserved : goal.loop-preserved
 loop-preserved g c =

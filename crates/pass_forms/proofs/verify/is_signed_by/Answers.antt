@@ -1,5 +1,5 @@
-use Rattle.pass_forms.proofs.{Common.{arith, common_steps}, Verifying.signed_if}
 use Rattle.pass_forms.proofs.verify.is_signed_by.Goals as goal
+use Rattle.pass_forms.proofs.{Common.{arith, common_steps}, ReadingLemmas.signed_if}
 
 pub returns-in-Signature-clause-signed : goal.returns-in-Signature-clause-signed
 returns-in-Signature-clause-signed g c = signed_if c.same.result c.args.chain (g.F.FieldSource.left c.args.source.now) (grind (arith, common_steps))

@@ -1,5 +1,5 @@
-use Rattle.pass_forms.proofs.{CaveatRuns.{no_more, one_more}, Common.{◌≡◌, suc, arith, common_steps}}
 use Rattle.pass_forms.proofs.layout.Caveats.next.Goals as goal
+use Rattle.pass_forms.proofs.{Common.{◌≡◌, suc, arith, common_steps}, ReadingLemmas.{no_more, one_more}}
 
 pub returns-in_err-self-clause-none : goal.returns-in_err-self-clause-none
 returns-in_err-self-clause-none g c =

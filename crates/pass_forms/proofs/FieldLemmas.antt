@@ -1,9 +1,11 @@
--- Lemmas for the proof that the V1 reader recovers each written packet.
+-- Lemmas for the proof that the readers recover each written V1 packet, varint and V2 field.
+use Rattle.std.proofs.{Math.Seq.take-append-add, lemmas.Slice.Eq.bytes_eq-Decides}
 use Rattle.pass_forms.proofs.Common.{List, None, Some, [], ap, drop, leb, length, refl, sym, take, ℕ, ◌&&◌, ◌++◌, ◌+◌, ◌-◌, ◌<◌, ◌^◌, ◌∙◌, ◌∷◌, ◌≡◌, ◌≤◌}
 use Rattle.pass_forms.proofs.Common.{FitsPacket, and_parts, append_assoc, arith, cond_some, drop-take, drop_at, leb-true, some_pair_parts, take-take, take_at}
 use Rattle.pass_forms.proofs.Common.{Option, after_prefix, four_hex_digits, length-append, length-drop, length-take, packet, packet_len, take-append-drop}
-use Rattle.pass_forms.proofs.Common.{before_suffix, codes, common_steps, digit_value, hex_digit, len_at, nat_tests, packet_at, same_Some, ◌*◌, ◌>>=◌}
-use Rattle.std.proofs.{Math.Seq.take-append-add, lemmas.Slice.Eq.bytes_eq-Decides}
+use Rattle.pass_forms.proofs.Common.{before_suffix, codes, common_steps, digit_value, hex_digit, len_at, nat_tests, packet_at, same_Some, ◌*◌, ◌>>=◌, ◌/◌}
+use Rattle.pass_forms.proofs.Common.{lt-ltb, le-ltb, above, varint_up_to, zero, suc, ◌%◌, inl, inr, cases_lt, groups, varint, field, optional_field, field_at}
+use Rattle.pass_forms.specs.computed.V2Reading.{optional_at}
 
 -- The keys of V1's packets.
 abbrev pub location_key : List ℕ
@@ -23,9 +25,6 @@ caveat_location_key = codes "cl "
 
 abbrev pub signature_key : List ℕ
 signature_key = codes "signature "
-
-digit_again : (n : ℕ) → n < 16 → digit_value (hex_digit n) ≡ Some n
-digit_again n h = grind (arith, nat_tests)
 
 digit_takes : (byte n : ℕ) → digit_value byte ≡ Some n → (n < 16) × (byte ≡ hex_digit n)
 digit_takes byte n h = grind (arith, nat_tests)
@@ -55,19 +54,13 @@ len_takes (a ∷ b ∷ c ∷ d ∷ rest) n e =
 len_takes bytes n e = absurd cc
 
 len_again : (n : ℕ) (rest : List ℕ) → n < 2 ^ 16 → len_at (four_hex_digits n ++ rest) ≡ Some n
-len_again n rest h = grind (arith, digit_again)
+len_again n rest h = grind (arith, nat_tests)
 
 pub after_prefix_takes : (prefix bytes rest : List ℕ) → after_prefix prefix bytes ≡ Some rest → bytes ≡ prefix ++ rest
 after_prefix_takes prefix bytes rest e = grind (arith, common_steps, take-append-drop, bytes_eq-Decides)
 
-pub after_prefix_again : (prefix rest : List ℕ) → after_prefix prefix (prefix ++ rest) ≡ Some rest
-after_prefix_again prefix rest = grind (arith, common_steps, bytes_eq-Decides)
-
 before_suffix_takes : (suffix bytes front : List ℕ) → before_suffix suffix bytes ≡ Some front → bytes ≡ front ++ suffix
 before_suffix_takes suffix bytes front e = grind (arith, common_steps, take-append-drop, bytes_eq-Decides)
-
-before_suffix_again : (suffix front : List ℕ) → before_suffix suffix (front ++ suffix) ≡ Some front
-before_suffix_again suffix front = grind (arith, common_steps, bytes_eq-Decides)
 
 framed : (bytes more key text : List ℕ) (n : ℕ) → n < 2 ^ 16 → bytes ≡ four_hex_digits n ++ more → n ≤ length bytes →
     drop 4 (take n bytes) ≡ key ++ (text ++ 10 ∷ []) → (bytes ≡ packet key text ++ drop n bytes) × FitsPacket key text
@@ -109,13 +102,10 @@ packet_takes key bytes text rest e =
 pub length-packet : (key text : List ℕ) → length (packet key text) ≡ packet_len key text
 length-packet key text = grind (arith, common_steps)
 
-behind_digits : (key text rest : List ℕ) → drop 4 (packet key text ++ rest) ≡ key ++ ((text ++ 10 ∷ []) ++ rest)
-behind_digits key text rest = grind (arith, common_steps)
-
 packet_by : (key text rest bytes : List ℕ) (n : ℕ) → n ≡ packet_len key text → n ≤ length bytes → len_at bytes ≡ Some n →
     drop 4 bytes ≡ key ++ ((text ++ 10 ∷ []) ++ rest) → drop n bytes ≡ rest → packet_at key bytes ≡ Some (text, rest)
 unfolding packet_at
-packet_by key text rest bytes n is_len inside read behind back = grind (arith, common_steps, after_prefix_again, before_suffix_again)
+packet_by key text rest bytes n is_len inside read behind back = grind (arith, common_steps, bytes_eq-Decides)
 
 pub packet_again : (key text rest : List ℕ) → FitsPacket key text → packet_at key (packet key text ++ rest) ≡ Some (text, rest)
 packet_again key text rest fits =
@@ -123,10 +113,109 @@ packet_again key text rest fits =
     let body = key ++ (text ++ 10 ∷ []) in
     let n = packet_len key text in
     let read : len_at bytes ≡ Some n = ap len_at (append_assoc (four_hex_digits n) body rest) ∙ len_again n (body ++ rest) fits in
-    packet_by key text rest bytes n refl (omega (arith, length-append (packet key text) rest, length-packet key text)) read (behind_digits key text rest)
+    packet_by key text rest bytes n refl (omega (arith, length-append (packet key text) rest, length-packet key text)) read (grind (arith, common_steps))
     (drop_at (packet key text) rest n (length-packet key text))
 
 pub packet_other : (key other text rest : List ℕ) → ((tail : List ℕ) → after_prefix key (other ++ tail) ≡ None) →
     packet_at key (packet other text ++ rest) ≡ None
 unfolding packet_at
 packet_other key other text rest differs = grind (arith, common_steps, differs)
+
+pub varint_more : (most byte : ℕ) (rest : List ℕ) → byte ≤ most → 128 ≤ byte → byte < 256 →
+    varint_up_to most (byte ∷ rest) ≡ above most (byte - 128) (varint_up_to (most / 128) rest)
+unfolding varint_up_to
+varint_more most byte rest within low top = rw (le-ltb most byte within, le-ltb byte 128 low, lt-ltb byte 256 top) refl
+
+pub varint_last : (most byte : ℕ) (rest : List ℕ) → byte ≤ most → byte < 128 → varint_up_to most (byte ∷ rest) ≡ Some (byte, rest)
+unfolding varint_up_to
+varint_last most byte rest within low = rw (le-ltb most byte within, lt-ltb byte 128 low) refl
+
+above_parts : (most low high : ℕ) (after : List ℕ) (n : ℕ) (rest : List ℕ) → above most low (Some (high, after)) ≡ Some (n, rest) →
+    (0 < high) × (n ≡ low + 128 * high) × (after ≡ rest)
+above_parts most low high after n rest e = grind (arith, nat_tests)
+
+pub above_some : (most low : ℕ) (tail : Option (ℕ × List ℕ)) (n : ℕ) (rest : List ℕ) → above most low tail ≡ Some (n, rest) →
+    (high : ℕ) × (tail ≡ Some (high, rest)) × (0 < high) × (n ≡ low + 128 * high)
+above_some most low None n rest e = absurd cc
+above_some most low (Some (high, after)) n rest e =
+    let parts = above_parts most low high after n rest e in
+    (high, rw parts.2 refl, parts.0, parts.1)
+
+pub no_bytes : (most : ℕ) (bytes : List ℕ) → length bytes ≡ 0 → varint_up_to most bytes ≡ None
+unfolding varint_up_to
+no_bytes most bytes len = grind (arith, common_steps)
+
+groups_enough : (more n : ℕ) → n < 128 → groups more n ≡ n ∷ []
+unfolding groups
+groups_enough more n small = grind (arith, nat_tests)
+
+groups_more : (more n : ℕ) → 128 ≤ n → groups (suc more) n ≡ (128 + n % 128) ∷ groups more (n / 128)
+unfolding groups
+groups_more more n large = rw (le-ltb n 128 large) refl
+
+groups_same : (more less n : ℕ) → n ≤ more → n ≤ less → groups more n ≡ groups less n
+groups_same (suc more) (suc less) n m l = grind (arith, groups_enough, groups_more, groups_same more less (n / 128) (omega arith) (omega arith))
+groups_same more less n m l = groups_enough more n (omega arith) ∙ sym (groups_enough less n (omega arith))
+
+varint_large : (n : ℕ) → 128 ≤ n → varint n ≡ (128 + n % 128) ∷ varint (n / 128)
+unfolding varint
+varint_large zero large = absurd (omega arith)
+varint_large (suc m) large = groups_more m (suc m) large
+    ∙ ap (λ (x : List ℕ). (128 + suc m % 128) ∷ x) (groups_same m (suc m / 128) (suc m / 128) (omega arith) (omega arith))
+
+pub varint_small : (n : ℕ) → n < 128 → varint n ≡ n ∷ []
+unfolding varint
+varint_small n small = groups_enough n n small
+
+pub varint_of_two : (n : ℕ) → 128 ≤ n → n < 2 ^ 14 → varint n ≡ (128 + n % 128) ∷ n / 128 ∷ []
+varint_of_two n large small = grind (arith, varint_large, varint_small)
+
+last_takes : (byte : ℕ) (bytes : List ℕ) (n : ℕ) (rest : List ℕ) → byte < 128 → ◌≡◌ {A = Option (ℕ × List ℕ)} (Some (byte, bytes)) (Some (n, rest)) →
+    byte ∷ bytes ≡ varint n ++ rest
+last_takes byte bytes n rest small e = grind (arith, common_steps, varint_small)
+
+varint_takes : (most : ℕ) (bytes : List ℕ) (n : ℕ) (rest : List ℕ) → varint_up_to most bytes ≡ Some (n, rest) → bytes ≡ varint n ++ rest
+unfolding varint_up_to
+varint_takes most [] n rest e = absurd cc
+varint_takes most (byte ∷ bytes) n rest e = elim (cases_lt most byte) [
+  | inl big ↦ cc (rw (lt-ltb most byte big) at e)
+  | inr within ↦ elim (cases_lt byte 128) [
+    | inl small ↦ last_takes byte bytes n rest small (sym (varint_last most byte bytes within small) ∙ e)
+    | inr low ↦ elim (cases_lt byte 256) [
+      | inr large ↦ cc (rw (le-ltb most byte within, le-ltb byte 128 low, le-ltb byte 256 large) at e)
+      | inl top ↦
+          let more = above_some most (byte - 128) (varint_up_to (most / 128) bytes) n rest (sym (varint_more most byte bytes within low top) ∙ e) in
+          grind (arith, common_steps, varint_large, varint_takes (most / 128) bytes more.0 rest more.1)
+    ]
+  ]
+]
+
+large_again : (most n : ℕ) (rest : List ℕ) → 128 ≤ n → n ≤ most → varint_up_to (most / 128) (varint (n / 128) ++ rest) ≡ Some (n / 128, rest) →
+    varint_up_to most (varint n ++ rest) ≡ Some (n, rest)
+large_again most n rest large within others = grind (arith, nat_tests, common_steps, varint_large, varint_more)
+
+small_again : (most n : ℕ) (rest : List ℕ) → n < 128 → n ≤ most → varint_up_to most (varint n ++ rest) ≡ Some (n, rest)
+small_again most n rest small within = grind (arith, common_steps, varint_small, varint_last)
+
+again_below : (bound most n : ℕ) (rest : List ℕ) → n ≤ bound → n ≤ most → varint_up_to most (varint n ++ rest) ≡ Some (n, rest)
+again_below zero most n rest b within = small_again most n rest (omega arith) within
+again_below (suc bound) most n rest b within =
+    grind (arith, small_again, large_again, again_below bound (most / 128) (n / 128) rest (omega arith) (omega arith))
+
+varint_again : (n : ℕ) (rest : List ℕ) → n ≤ length (varint n ++ rest) → varint_up_to (length (varint n ++ rest)) (varint n ++ rest) ≡ Some (n, rest)
+varint_again n rest within = again_below n (length (varint n ++ rest)) n rest (omega arith) within
+
+pub field_takes : (type : ℕ) (bytes text rest : List ℕ) → field_at type bytes ≡ Some (text, rest) → bytes ≡ field type text ++ rest
+unfolding field_at
+field_takes type bytes text rest e = grind (arith, common_steps, after_prefix_takes, varint_takes, take-append-drop)
+
+pub field_again : (type : ℕ) (text rest : List ℕ) → field_at type (field type text ++ rest) ≡ Some (text, rest)
+unfolding field_at
+field_again type text rest = grind (arith, common_steps, bytes_eq-Decides, varint_again)
+
+pub optional_takes : (type : ℕ) (bytes : List ℕ) → bytes ≡ optional_field type (optional_at type bytes).0 ++ (optional_at type bytes).1
+optional_takes type bytes = grind (arith, field_takes type bytes)
+
+pub optional_again : (type : ℕ) (text : Option (List ℕ)) (rest : List ℕ) → field_at type rest ≡ None →
+    optional_at type (optional_field type text ++ rest) ≡ (text, rest)
+optional_again type text rest none = grind (arith, field_again)
