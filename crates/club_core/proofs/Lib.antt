@@ -1,5 +1,2 @@
-pub mod ViewLemmas
-pub mod SheetOrder
-pub mod SheetText
-pub mod AnswerLemmas
-pub mod MostTakenLemmas
+pub mod ReplyLemmas
+pub mod SheetLemmas

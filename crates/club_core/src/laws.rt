@@ -68,7 +68,7 @@ pub fn keeps_a_spend_limit()
 {}
 
 /// A refusal changes nothing.
-#[tactic(auto, using(crate::proofs::AnswerLemmas::refusals_change_nothing))]
+#[tactic(auto, using(crate::proofs::ReplyLemmas::refusals_change_nothing))]
 pub fn refusals_change_nothing()
     ensures { RefusalsChangeNothing }
 {}
@@ -99,7 +99,7 @@ pub fn own_bookings_suffice()
 {}
 
 /// `most_taken_in` is the highest number of persons in any slot of the facility.
-#[tactic(auto, using(crate::proofs::MostTakenLemmas::most_taken))]
+#[tactic(auto, using(crate::proofs::ReplyLemmas::most_taken))]
 pub fn most_taken_is_reached()
     ensures { MostTaken }
 {}

@@ -1,6 +1,6 @@
-use Rattle.std.{proofs.{Common.{◌+◌, ◌++◌, ap, refl, ◌∙◌, lit<}, lemmas.Result.IfOk-weaker}, specs.String.string_bytes}
-use Rattle.club_core.proofs.SheetText.{laid_text, laid_text-row_text, left-of, right-of}
 use Rattle.club_core.proofs.sheet.push_row.Goals as goal
+use Rattle.std.{proofs.{Common.{◌+◌, ◌++◌, ap, refl, ◌∙◌, lit<, append_assoc}, lemmas.Result.IfOk-weaker}, specs.String.string_bytes}
+use Rattle.club_core.proofs.SheetLemmas.{laid_text, left-of, right-of}
 
 pub returns : goal.returns
 unfolding laid_text
@@ -14,5 +14,5 @@ returns c =
     let persons = right-of 2 c.laid_out-4.result c.persons-persons.result (row.guests + 1) c.laid_out-4.ensures c.persons-persons.ensures.value (lit< tt) in
     let charge = right-of 6 c.laid_out-5.result row.charge row.charge c.laid_out-5.ensures refl (lit< tt) in
     IfOk-weaker c.writeln.result _ _
-    (λ _ h. h ∙ ap (λ text. string_bytes c.args.text.now ++ text) (laid_text-row_text row _ _ _ _ _ facility key number persons charge))
+    (λ _ h. h ∙ ap (λ text. string_bytes c.args.text.now ++ text) (rw (facility, key, number, persons, charge) (simp append_assoc)))
     c.writeln.ensures.bytes

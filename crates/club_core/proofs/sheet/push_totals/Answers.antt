@@ -1,6 +1,6 @@
-use Rattle.std.{proofs.{Common.{◌++◌, ap, sym, ◌∙◌}, lemmas.{Bool.eqb-false, Result.IfOk-weaker}}, specs.String.string_bytes}
-use Rattle.club_core.proofs.SheetText.{laid_totals, laid_totals-totals_text}
 use Rattle.club_core.proofs.sheet.push_totals.Goals as goal
+use Rattle.std.{proofs.{Common.{◌++◌, ap, sym, ◌∙◌}, lemmas.{Bool.eqb-false, Result.IfOk-weaker}}, specs.String.string_bytes}
+use Rattle.club_core.proofs.SheetLemmas.{laid_totals, laid_totals-totals_text}
 
 pub returns : goal.returns
 unfolding laid_totals

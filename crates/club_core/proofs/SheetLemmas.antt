@@ -1,12 +1,17 @@
--- Lemmas about the order of the rows in a day sheet.
-use Rattle.club_core.specs.{Club.{Club, IsSound}, Sheet.{AreRowsOf, IsBefore, Precedes, is_on}}
-use Rattle.std.proofs.Common.{◌≡◌, ℕ, zero, suc, List, [], ◌∷◌}
-use Rattle.std.proofs.{Common.{refl, sym, ap, ◌∙◌, ◌⊎◌, inl, inr, arith}, lemmas.List.Elements.{Contains-append_right, All-cons, All-contains}}
-use Rattle.std.proofs.lemmas.List.{Elements.{All-tail, All-weaker}, Kept.{AllPairs-cons, AllPairs-filter}, Sorted.{All-permutation, IsPermutation-cons}}
-use Rattle.std.proofs.lemmas.List.Sorted.{IsPermutation-middle, IsPermutation-refl, IsPermutation-trans, Contains-permutation, IsPermutation-sym}
-use Rattle.std.{proofs.lemmas.Map.Lookups.exact_bytes, specs.{Cmp.Lexicographic.{nat_list_cmp_total, slice_cmp}, Ordering.{nat_cmp, ordering_reverse}}}
-use Rattle.std.specs.{Prelude.{All, AllPairs, Contains, IsPermutation, filter}, declared.cmp.Ordering.{Ordering, TheVariants.{Equal, Greater, Less}}}
-use Rattle.club_rows.specs.declared.booking.Booking.{Booking}
+-- Lemmas about the order of the rows in a day sheet, and about padded texts, such as the results
+-- of the format strings `{:<24}` and `{:>9}`.
+use Rattle.std.proofs.Common.{◌≡◌, ℕ, zero, suc, List, [], ◌∷◌, refl, sym, ap, ◌∙◌, ◌⊎◌, inl, inr, arith, ◌+◌, ◌-◌, ◌<◌, ◌≤◌, ◌==◌, ◌^◌, true, false, ◌++◌}
+use Rattle.std.proofs.{Common.{length, append_assoc}, lemmas.{Bool.Decides.nat_tests, List.{append-nil, Elements.{Contains-append_right, All-cons}}}}
+use Rattle.std.proofs.lemmas.List.{Elements.{All-contains, All-tail, All-weaker}, Kept.{AllPairs-cons, AllPairs-filter}, Sorted.All-permutation}
+use Rattle.std.proofs.lemmas.List.Sorted.{IsPermutation-cons, IsPermutation-middle, IsPermutation-refl, IsPermutation-trans, Contains-permutation}
+use Rattle.std.{proofs.lemmas.{List.Sorted.IsPermutation-sym, Map.Lookups.exact_bytes}, specs.Cmp.Lexicographic.{nat_list_cmp_total, slice_cmp}}
+use Rattle.std.specs.{Fmt.{char_count, take_chars, padded, padded_integral, format_spec, styled_text, styled_decimal, decimal, is_char_start}, List.AllPass}
+use Rattle.std.specs.{List.repeat, Ordering.{nat_cmp, ordering_reverse}, Prelude.{All, AllPairs, Contains, IsPermutation, filter, replicate, codes, sum_by}}
+use Rattle.std.specs.declared.cmp.Ordering.{Ordering, TheVariants.{Equal, Greater, Less}}
+use Rattle.club_core.specs.{Club.{Club, IsSound}, Sheet.{AreRowsOf, IsBefore, Precedes, is_on, left_in, right_in, totals_text}}
+use Rattle.club_rows.specs.{Booking.persons_of, declared.booking.Booking.Booking}
+use Rattle.club_values.specs.{Digits.two_digits, Name.{is_name_byte, IsName}}
+use lib.Utf8.{encode}
 
 Contains-cons_cases : {X : Type 0} (y : X) (xs : List X) (x : X) → Contains (y ∷ xs) x → (y ≡ x) ⊎ Contains xs x
 Contains-cons_cases y xs x (zero, lt, e) = inl e
@@ -93,14 +98,11 @@ module _ {X : Type 0} (R Same : X → X → Type 0) (transitive : (x y z : X) �
 before_once : Asymmetric IsBefore
 before_once a b h k = let turned : Less ≡ Greater = sym h ∙ nat_list_cmp_total.antisymm a b ∙ ap ordering_reverse k in cc
 
-precedes_once : Asymmetric Precedes
-precedes_once a b h k = grind (arith, before_once)
-
 -- For each day, at most one list of bookings can be the rows of the day sheet.
 pub one_list : (club : Club) (day : ℕ) (rows others : List Booking) → AreRowsOf club day rows → AreRowsOf club day others → rows ≡ others
 one_list club day rows others a b =
     let there = IsPermutation-trans rows (filter (is_on day) club.bookings) others (IsPermutation-sym _ rows a.same) b.same in
-    one_order Precedes precedes_once rows others a.order b.order (λ z. Contains-permutation rows others z there)
+    one_order Precedes (λ a b h k. grind (arith, before_once)) rows others a.order b.order (λ z. Contains-permutation rows others z there)
     (λ z. Contains-permutation others rows z (IsPermutation-sym rows others there))
 
 -- In a total order, one of any two different elements precedes the other element.
@@ -118,9 +120,6 @@ before_total a b = before_by a b (slice_cmp nat_cmp a b) refl
 before_transitive : (a b c : List ℕ) → IsBefore a b → IsBefore b c → IsBefore a c
 before_transitive a b c h k = nat_list_cmp_total.trans a b c h k
 
-precedes_transitive : (a b c : Booking) → Precedes a b → Precedes b c → Precedes a c
-precedes_transitive a b c h k = grind (arith, before_transitive)
-
 -- The two bookings have the same facility, hour, key and number.
 abbrev Same : Booking → Booking → Type 0
 Same a b = (a.slot.facility ≡ b.slot.facility) × ((a.slot.hour ≡ b.slot.hour) × ((a.key ≡ b.key) × (a.number ≡ b.number)))
@@ -135,6 +134,77 @@ pub day_rows : (club : Club) → IsSound club → (day : ℕ) → (rows : List B
 day_rows club sound day =
     let named = AllPairs-filter (λ (a : Booking) (b : Booking). ¬ ((a.key ≡ b.key) × (a.number ≡ b.number))) (is_on day) club.bookings sound.unique.bookings in
     let made =
-    ordering Precedes Same precedes_transitive precedes_total (filter (is_on day) club.bookings)
+    ordering Precedes Same (λ a b c h k. grind (arith, before_transitive)) precedes_total (filter (is_on day) club.bookings)
     (λ i j d lt h same. named i j d lt h (same.1.1.0, same.1.1.1)) in
     (made.0, record { same = made.1.same; order = made.1.sorted })
+
+is_char_start-name : (b : ℕ) → is_name_byte b ≡ true → is_char_start b ≡ true
+is_char_start-name b h = grind arith
+
+char_count-name : (text : List ℕ) → AllPass is_name_byte text → char_count text ≡ length text
+unfolding char_count
+char_count-name [] h = refl
+char_count-name (b ∷ text) h =
+    let same = char_count-name text (All-tail (λ x. is_name_byte x ≡ true) b text h) in rw (is_char_start-name b (h 0 b (omega arith))) (omega arith)
+
+not_zero : (n : ℕ) → 0 < n → (n == 0) ≡ false
+not_zero n h = grind (arith, nat_tests)
+
+take_chars-name : (n : ℕ) (text : List ℕ) → AllPass is_name_byte text → length text ≤ n → take_chars n text ≡ text
+unfolding take_chars
+take_chars-name n [] h small = refl
+take_chars-name n (b ∷ text) h small =
+    let same = take_chars-name (n - 1) text (All-tail (λ x. is_name_byte x ≡ true) b text h) (omega arith) in
+    rw (is_char_start-name b (h 0 b (omega arith)), not_zero n (omega arith)) (ap (λ rest. b ∷ rest) same)
+
+spaces : (m n : ℕ) → m ≡ n → repeat {A = ℕ} m (32 ∷ []) ≡ replicate n 32
+spaces zero n e = rw (← e) refl
+spaces (suc m) n e = rw (← e) (ap (λ rest. 32 ∷ rest) (spaces m m refl))
+
+pub styled_text-left : (text : List ℕ) → IsName text → styled_text (format_spec 32 1 0 24 (2 ^ 64 - 1)) text ≡ left_in 24 text
+unfolding padded encode
+styled_text-left text h =
+    let whole = take_chars-name (2 ^ 64 - 1) text h.letters (omega (arith, h.short)) in
+    let count = char_count-name text h.letters in
+    rw (whole, count) (ap (λ rest. text ++ rest) (spaces (24 - length text - 0) (24 - length text) (omega arith)))
+
+pub padded_integral-right : (places : ℕ) (numeral : List ℕ) →
+    padded_integral (format_spec 32 3 0 places (2 ^ 64 - 1)) false [] numeral ≡ right_in places numeral
+unfolding padded_integral char_count encode
+padded_integral-right places numeral =
+    let room = places - length numeral in
+    let laid : List ℕ → List ℕ → List ℕ = λ before behind. (((before ++ []) ++ []) ++ []) ++ (numeral ++ behind) in
+    let e : padded_integral (format_spec 32 3 0 places (2 ^ 64 - 1)) false [] numeral ≡ laid (repeat (room - 0 - 0) (32 ∷ []))
+    (repeat (room - 0 - 0 - (room - 0 - 0)) (32 ∷ [])) = refl in
+    let before = ap (λ front. laid front (repeat (room - 0 - 0 - (room - 0 - 0)) (32 ∷ []))) (spaces (room - 0 - 0) room (omega arith)) in
+    let behind = ap (laid (replicate room 32)) (spaces (room - 0 - 0 - (room - 0 - 0)) 0 (omega arith)) in
+    e ∙ before ∙ behind ∙ simp append-nil
+
+pub left-of : (options : _) (text name : List ℕ) → options ≡ format_spec 32 1 0 24 (2 ^ 64 - 1) → text ≡ name → IsName text →
+    styled_text options text ≡ left_in 24 name
+left-of options text name e same h = ap (λ s. styled_text s text) e ∙ styled_text-left text h ∙ ap (left_in 24) same
+
+pub right-of : (places : ℕ) (options : _) (n m : ℕ) → options ≡ format_spec 32 3 0 places (2 ^ 64 - 1) → n ≡ m → 0 < places →
+    styled_decimal options n ≡ right_in places (decimal m)
+right-of places options n m e same h =
+    let wide : styled_decimal (format_spec 32 3 0 places (2 ^ 64 - 1)) n ≡ padded_integral (format_spec 32 3 0 places (2 ^ 64 - 1)) false [] (decimal n) =
+    rw (not_zero places h) refl in
+    ap (λ s. styled_decimal s n) e ∙ wide ∙ padded_integral-right places (decimal n) ∙ ap (λ k. right_in places (decimal k)) same
+
+-- The text of a row in a day sheet, built from the row's columns and ending with a line feed.
+unfoldable pub laid_text : List ℕ → ℕ → List ℕ → List ℕ → List ℕ → List ℕ → List ℕ
+laid_text facility hour key number persons charge =
+    facility ++ (codes " " ++ (two_digits hour ++
+    (codes ":00 " ++ (key ++ (codes " " ++ (number ++ (codes " " ++ (persons ++ (codes " " ++ (charge ++ 10 ∷ []))))))))))
+
+-- The text of the totals line in a day sheet, ending with a line feed.
+unfoldable pub laid_totals : ℕ → ℕ → ℕ → List ℕ
+laid_totals count persons charge =
+    codes "Total bookings " ++ (decimal count ++ (codes ", persons " ++ (decimal persons ++ (codes ", charge " ++ (decimal charge ++ 10 ∷ [])))))
+
+pub laid_totals-totals_text : (rows : List Booking) (persons charge : ℕ) → ¬ (length rows ≡ 0) → persons ≡ sum_by persons_of rows →
+    charge ≡ sum_by (λ (b : Booking). b.charge) rows
+    → laid_totals (length rows) persons charge ≡ totals_text rows
+unfolding laid_totals
+laid_totals-totals_text [] persons charge some p c = absurd (some refl)
+laid_totals-totals_text (row ∷ rows) persons charge some p c = rw (p, c) (simp append_assoc)
