@@ -1,10 +1,7 @@
 pub mod Common
-pub mod FilteredRows
 pub mod AnswerCases
 pub mod SoundSteps
 pub mod ServedPasses
-pub mod PointMoves
 pub mod PointRuns
-pub mod FailedEvents
-pub mod MemberParts
 pub mod SoloRuns
+pub mod MemberParts

@@ -1,5 +1,9 @@
 -- Lemmas about the effect of each kind of change on a member's part of the club, and about a
 -- member's keys and credit after a run.
+use Rattle.std.proofs.{Common.bytes_eq, lemmas.List.{Folds.map_fixed, Quantifiers.all_pairs_push}}
+use Rattle.club_core.specs.Solo.{part_of}
+use Rattle.club_laws.proofs.AnswerCases.{answer_cases, filter_same, filter_fixed, filter-map, none_passes, AllPairs-head, AllPairs-tail, any-filter, any-map}
+use Rattle.club_laws.proofs.AnswerCases.{fresh_differs, only_named, none_named, other_bytes, AllPairs-map, still_there, named_there, found_passes, find-map}
 use Rattle.club_laws.proofs.Common.{office_verdict, Result, Ok, command_outcome, OfficeFault, debited_member, TakeCredit, ◌≡◌, ◌≢◌, ℕ, Bool, true, List, []}
 use Rattle.club_laws.proofs.Common.{◌∷◌, ◌++◌, get_or, map, Option, Some, sym, ◌∙◌, arith, false, cond, filter, None, All, Contains, append-nil, refl, find}
 use Rattle.club_laws.proofs.Common.{AllPairs, bytes_eq-Decides, ◌&&◌, ◌||◌, bytes_eq, list_any, list_any-append, Any-from_list_any, Key, Booking, Club}
@@ -7,13 +11,8 @@ use Rattle.club_laws.proofs.Common.{key_named, is_key_of, bookings_of, keys_of, 
 use Rattle.club_laws.proofs.Common.{Change, InsertMember, AddCredit, InsertKey, MarkRevoked, ReplaceRoot, ReplaceQuota, InsertBooking, MarkCancelled, after}
 use Rattle.club_laws.proofs.Common.{credited_member, revoked_key, rotated_key, cancelled_booking, map-map, Verdict, Command, Event, Asked, Commanded, step}
 use Rattle.club_laws.proofs.Common.{after_change, member_with_quota, Outcome, Debit, ◌+◌, find-append, AddMember, Credit, SetQuota, AddKey, RevokeKey}
-use Rattle.club_laws.proofs.{Common.{RotateKey, Words, member_named, verdict_in, replies_of, club_after, filter_agree}, AnswerCases.answer_cases}
-use Rattle.club_laws.proofs.FilteredRows.{filter_same, filter_fixed, filter-map, none_passes, AllPairs-head, AllPairs-tail, any-filter, any-map, fresh_differs}
-use Rattle.club_laws.proofs.FilteredRows.{only_named, none_named, other_bytes, AllPairs-map, still_there, named_there, found_passes, find-map}
-use Rattle.club_laws.specs.{Frame.{ChangesThePartAlike, part_after}, Points.{key_given, keys_given, credit_accepted, credits_accepted, debit_accepted}}
-use Rattle.club_laws.specs.Points.{debits_accepted}
-use Rattle.std.proofs.{Common.bytes_eq, lemmas.List.{Folds.map_fixed, Quantifiers.all_pairs_push}}
-use Rattle.club_core.specs.Solo.{part_of}
+use Rattle.club_laws.{proofs.Common.{RotateKey, Words, member_named, verdict_in, replies_of, club_after, filter_agree}, specs.Frame.ChangesThePartAlike}
+use Rattle.club_laws.specs.{Frame.part_after, Points.{key_given, keys_given, credit_accepted, credits_accepted, debit_accepted, debits_accepted}}
 use Rattle.club_rows.specs.declared.key.OlderRoot.{OlderRoot}
 
 -- Whether a key has this name and belongs to this member.

@@ -1,21 +1,21 @@
 -- Lemmas about the passes of served requests, about revoked keys, and about repeated requests.
+use Rattle.club_core.specs.declared.request.Request.TheVariants as asked
+use Rattle.club_core.specs.Verdict as verdicts
 use Rattle.std.proofs.lemmas.Option.{same_Some}
 use Rattle.club_core.specs.{Verdict.{refusal_verdict, verdict_of}, declared.{command.OfficeAnswer.TheVariants.Done, pass_fault.PassFault.PassFault}}
 use Rattle.club_core.specs.declared.{refusal.Refusal.TheVariants.{NotVerified, KeyRevoked, CaveatNotUnderstood, CaveatDenies}, view.View.View}
 use Rattle.club_laws.proofs.AnswerCases.{known_rows, kept_by_run, club_after-append, cancel_cases, written, answer_cases, own_booking, replies_of-append}
-use Rattle.club_laws.proofs.Common.{◌≡◌, ℕ, ◌+◌, true, false, List, [], ◌∷◌, ◌++◌, Option, Some, None, Result, Ok, Err, arith, All, refl, sym, ap, ◌∙◌}
-use Rattle.club_laws.proofs.Common.{option_map, false_from_ne_true, All-nil, All-cons, All-head, All-tail, TestsTheSet, TestsTheSignature, Key, Request, Pass}
-use Rattle.club_laws.proofs.Common.{Words, is_signed_under, Club, key_named, Basis, basis_of, key_of, view_of, answer_to, ask_of, form_refusal, IsServed}
-use Rattle.club_laws.proofs.Common.{IsAllowedBy, IsAcceptedPass, IsEntitled, Change, InsertKey, MarkRevoked, ReplaceRoot, RevokeKey, after, revoked_key}
-use Rattle.club_laws.proofs.Common.{rotated_key, Event, Commanded, step, club_after, ToOffice, find-append, CancelBooking, find, ◌&&◌, ◌==◌, Booking, Verdict}
-use Rattle.club_laws.proofs.Common.{InsertBooking, MarkCancelled, Reply, Booked, Cancelled, same_slot, refund_at, booking_under, verdict_in, cancelled_booking}
-use Rattle.club_laws.proofs.{Common.{after_change, Asked, Outcome, verdict_outcome, replies_of, ToMember, request_number, IsAcceptedIn}, FilteredRows.find-map}
-use Rattle.club_laws.proofs.{FilteredRows.{found_passes, numbered, found_before, found_last, is_numbered, same_slots, self_numbered}, MemberParts.has_name}
+use Rattle.club_laws.proofs.{AnswerCases.{find-map, found_passes, numbered, found_before, is_numbered, same_slots, self_numbered}, Common.{◌≡◌, ℕ, ◌+◌, true}}
+use Rattle.club_laws.proofs.Common.{false, List, [], ◌∷◌, ◌++◌, Option, Some, None, Result, Ok, Err, arith, All, refl, sym, ap, ◌∙◌, option_map}
+use Rattle.club_laws.proofs.Common.{false_from_ne_true, All-nil, All-cons, All-head, All-tail, TestsTheSet, TestsTheSignature, Key, Request, Pass, Words}
+use Rattle.club_laws.proofs.Common.{is_signed_under, Club, key_named, Basis, basis_of, key_of, view_of, answer_to, ask_of, form_refusal, IsServed, IsAllowedBy}
+use Rattle.club_laws.proofs.Common.{IsAcceptedPass, IsEntitled, Change, InsertKey, MarkRevoked, ReplaceRoot, RevokeKey, after, revoked_key, rotated_key, Event}
+use Rattle.club_laws.proofs.Common.{Commanded, step, club_after, ToOffice, find-append, CancelBooking, find, ◌&&◌, ◌==◌, Booking, Verdict, InsertBooking}
+use Rattle.club_laws.proofs.Common.{MarkCancelled, Reply, Booked, Cancelled, same_slot, refund_at, booking_under, verdict_in, cancelled_booking, after_change}
+use Rattle.club_laws.proofs.{Common.{Asked, Outcome, verdict_outcome, replies_of, ToMember, request_number, IsAcceptedIn}, MemberParts.has_name}
 use Rattle.club_laws.specs.Repeats.{CancellationsReturnTheRecord, refund_by_office, IsBookedOrCancelled, RepeatsReturnTheSame, RepeatsMayBeLeftOut, WasServed}
 use Rattle.club_laws.specs.{Revoked.{ServesNoRevokedKey, WasRevoked}, SingleRequest.{RefusesTheUnsigned, MoreCaveatsNeverOpenMore, blind_refusal, words_with}}
 use Rattle.pass_caveats.specs.{Fault.{first_fault_from, first_fault_of}, declared.{ask.Ask.Ask, caveat.Caveat.Caveat}}
-use Rattle.club_core.specs.declared.request.Request.TheVariants as asked
-use Rattle.club_core.specs.Verdict as verdicts
 
 -- The pass meets the conditions that the rules check before they decide the request.
 pub record PassesTests (pass : Pass) (request : Request) (moment : ℕ) (basis : Basis) : Type 0 where
@@ -117,16 +117,16 @@ stays_revoked name club (MarkRevoked other) h = grind (arith, find-map (has_name
 stays_revoked name club (ReplaceRoot other former root until) h = grind (arith, find-map (has_name name) (rotated_key other root until) (λ k. refl) club.keys)
 stays_revoked name club change h = h
 
-now_revoked : (club : Club) (name : List ℕ) → (step club (Commanded (RevokeKey name))).reply ≡ ToOffice Done
-    → IsRevoked name (step club (Commanded (RevokeKey name))).club
-now_revoked club name returned = grind (arith, find-map (has_name name) (revoked_key name) (λ k. refl) club.keys, found_passes (has_name name) club.keys)
-
 revoked_since : (club : Club) (history : List Event) (name : List ℕ) → WasRevoked club history name → IsRevoked name (club_after club history)
 revoked_since club history name was =
     let start = club_after club was.front in
     let then = (step start (Commanded (RevokeKey name))).club in
     rw (was.place, club_after-append club was.front (Commanded (RevokeKey name) ∷ was.rest))
-    (kept_by_run (IsRevoked name) (stays_revoked name) then was.rest (now_revoked start name was.reply_is))
+    (kept_by_run (IsRevoked name) (stays_revoked name) then was.rest (grind (
+      arith,
+      find-map (has_name name) (revoked_key name) (λ k. refl) start.keys,
+      found_passes (has_name name) start.keys,
+    )))
 
 pub serves_nothing : TestsTheSet → TestsTheSignature → ServesNoRevokedKey
 serves_nothing set signature club history name words moment was named served =
@@ -193,7 +193,7 @@ recorded_when_served club words moment =
       books = λ key member slot number guests facility k e b s.
           let new = written club key slot number guests facility in
           recorded words _ _ key.name number new k.key_name (ap request_number e)
-          (found_last (is_numbered key.name number) club.bookings new b.new (self_numbered new)) (rw e (grind (arith, same_slots slot)));
+          (find-append (is_numbered key.name number) club.bookings (new ∷ []) ∙ rw (b.new, (self_numbered new))) (rw e (grind (arith, same_slots slot)));
       cancels_recorded = λ key member slot number booking k e found same before s.
           recorded words _ _ key.name number booking k.key_name (ap request_number e) found (rw e (same, before, refl));
       cancels = λ key member slot number booking k e c s.

@@ -1,4 +1,10 @@
 -- Lemmas for the proofs that suitable changes and the steps of a run keep a club sound.
+use Rattle.club_core.specs.declared.request.Request.TheVariants as asked
+use Rattle.std.{proofs.lemmas.{Bool.Decides.nat_tests, List.{Kept.AllPairs-filter, Quantifiers.all_pairs_push}}, specs.{List.fold, Prelude.max}}
+use Rattle.club_core.specs.{Store.IsTrueOf, Sums.{is_at, most_taken_in}, declared.{change.Change.TheVariants.MarkClosed, command.Command.TheVariants.CloseSlot}}
+use Rattle.club_laws.proofs.AnswerCases.{Knows, Books, written, answer_cases, filter_none, found_passes, none_found, found_is_there, find_filtered, slots_same}
+use Rattle.club_laws.proofs.AnswerCases.{same_bytes_of, sum_one_more, sum_no_more, AreApart, AllPairs-map, fresh_differs, still_there, named_there, only_named}
+use Rattle.club_laws.proofs.AnswerCases.{none_passes, same_slots, at_found, only_numbered, named, none_named, is_numbered, found_by_own, numbered}
 use Rattle.club_laws.proofs.Common.{All-weaker, ◌≡◌, ℕ, ◌≤◌, Bool, false, List, [], ◌∷◌, All, All-nil, All-cons, All-contains, filter, find, sum_by, ap, arith}
 use Rattle.club_laws.proofs.Common.{Option, Some, None, refl, ◌∙◌, Slot, Booking, same_slot, persons_of, is_in, taken_in, subst, command_outcome, MarkCancelled}
 use Rattle.club_laws.proofs.Common.{ReplaceNumbers, facility_with_numbers, AddCredit, TakeCredit, debited_member, member_named, ◌≢◌, ◌++◌, get_or, map}
@@ -7,16 +13,10 @@ use Rattle.club_laws.proofs.Common.{after, cancelled_booking, Club, keys_of, is_
 use Rattle.club_laws.proofs.Common.{ReplaceQuota, member_with_quota, All-filter, InsertMember, InsertFacility, InsertKey, MarkRevoked, ReplaceRoot}
 use Rattle.club_laws.proofs.Common.{InsertBooking, sym, key_named, CancelBooking, SetFacility, Debit, Ok, Result, All-head, All-tail, refund_at, Command}
 use Rattle.club_laws.proofs.Common.{AddMember, Credit, AddFacility, AddKey, RevokeKey, RotateKey, OpenSlot, SetQuota, IsCommand, IsRequest, IsEvent, Verdict}
-use Rattle.club_laws.proofs.{Common.{Words, verdict_in, after_change, Asked, Commanded, step, Change, OfficeFault, office_verdict}, AnswerCases.{Knows, Books}}
-use Rattle.club_laws.proofs.{AnswerCases.{written, answer_cases}, FilteredRows.{filter_none, found_passes, none_found, found_is_there, find_filtered}}
-use Rattle.club_laws.proofs.FilteredRows.{slots_same, same_bytes_of, sum_one_more, sum_no_more, AreApart, AllPairs-map, fresh_differs, still_there, named_there}
-use Rattle.club_laws.proofs.FilteredRows.{only_named, none_passes, same_slots, at_found, only_numbered, named, none_named, is_numbered, found_by_own, numbered}
-use Rattle.club_laws.proofs.MemberParts.{edited_member, edited, bookings_of-added, bookings_of-edited, owner, HasKnownKeys, with_edited}
+use Rattle.club_laws.proofs.{Common.{Words, verdict_in, after_change, Asked, Commanded, step, Change, OfficeFault, office_verdict}, MemberParts.edited_member}
+use Rattle.club_laws.proofs.MemberParts.{edited, bookings_of-added, bookings_of-edited, owner, HasKnownKeys, with_edited}
 use Rattle.club_laws.specs.SoundRuns.{SuitingChangesKeepSound, ChangesFit, RunsKeepSound, StepsKeepSound, Suits, SuitsBooking}
-use Rattle.std.{proofs.lemmas.{Bool.Decides.nat_tests, List.{Kept.AllPairs-filter, Quantifiers.all_pairs_push}}, specs.{List.fold, Prelude.max}}
-use Rattle.club_core.specs.{Store.IsTrueOf, Sums.{is_at, most_taken_in}, declared.{change.Change.TheVariants.MarkClosed, command.Command.TheVariants.CloseSlot}}
 use Rattle.club_rows.specs.{Rows.{IsMember, IsFacility, IsKey, IsBooking}, declared.key.OlderRoot.OlderRoot}
-use Rattle.club_core.specs.declared.request.Request.TheVariants as asked
 
 -- The maximum of `first` and of the values of `f` for all elements.
 abbrev most_of : {X : Type 0} → (X → ℕ) → ℕ → List X → ℕ

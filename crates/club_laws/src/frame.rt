@@ -19,7 +19,7 @@ pub fn leaves_the_part()
 
 /// The number of persons in a slot is the number from a member's own bookings plus the number from
 /// all other bookings.
-#[tactic(auto, using(crate::proofs::FilteredRows::sum_in_parts))]
+#[tactic(auto, using(crate::proofs::AnswerCases::sum_in_parts))]
 pub fn taken_is_own_and_others()
     ensures { TakenIsOwnAndOthers }
 {}

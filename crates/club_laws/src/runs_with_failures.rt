@@ -11,7 +11,7 @@ use pass_caveats::laws::tests_the_set;
 
 /// A run from a sound club ends in a sound club if the values of all events are within their
 /// limits.
-#[tactic(auto, using(crate::proofs::FailedEvents::sound_with_failures))]
+#[tactic(auto, using(crate::proofs::SoloRuns::sound_with_failures))]
 pub fn keeps_sound<O>()
     ensures { SoundWithFailures O }
 {}
@@ -22,7 +22,7 @@ pub fn conserves_points<O>()
 {}
 
 /// After a run from the empty club, no slot has more persons than places.
-#[tactic(auto, using(crate::proofs::FailedEvents::places_with_failures))]
+#[tactic(auto, using(crate::proofs::SoloRuns::places_with_failures))]
 pub fn never_overbooks<O>()
     ensures { PlacesWithFailures O }
 {}
