@@ -34,10 +34,6 @@ pub set_row : (name : Text) (values : List Text) (rows : List Found) → has_row
 set_row name values rows new =
     ap (at_row name (more_values CommandLine values) (row_given name values ∷ [])) (untouched name rows new) ∙ added name values rows new
 
-pub grown : (name : Text) (some more : List Text) (rows : List Found) → has_row name rows ≡ false
-    → at_row name (more_values CommandLine more) (row_given name more ∷ []) (rows ++ row_given name some ∷ []) ≡ rows ++ row_given name (some ++ more) ∷ []
-grown name some more rows new = grind (arith, past, same_text)
-
 find_there : {X : Type 0} (test : X → Bool) (before : List X) (x : X) (after : List X) → list_any test before ≡ false → test x ≡ true
     → find test (before ++ x ∷ after) ≡ Some x
 find_there test [] x after none is = rw is refl
@@ -203,7 +199,7 @@ module _ (s : Shape) where
       step_on _ _ argument more _ (positional_step rule place rows now (Some (name, last ∷ [])) positional argument by_place refl holds)
       (subst (λ (values : List Text). Settles (at_place now (Some (name, argument ∷ [])) positional place) more (before ++ row_given name values ∷ []))
       (append_assoc some (argument ∷ []) more) (more_walked required name place now before (some ++ argument ∷ []) argument more found new
-      (rw found.by_id (grown name some (argument ∷ []) before new), rw found.by_id refl)))
+      (rw found.by_id (grind (arith, past, same_text, argument ∷ [])), rw found.by_id refl)))
 
   positionals_walked : (i : ℕ) (given : List Given) (rows now : List Found) (pending : Option (Text × List Text)) (waiting : Waiting) → AreFound s.rules i given
       → are_new now (positional_rows given) ≡ true → is_in_order given ≡ true → Holds (held_with rows pending) now

@@ -1,4 +1,2 @@
-pub mod RootLemmas
-pub mod GivenLemmas
 pub mod RowLemmas
-pub mod JobLemmas
+pub mod GivenLemmas

@@ -1,19 +1,74 @@
--- This file proves that if clap accepts arguments, the arguments name one of the program's commands.
--- It also proves that clap accepts all values that `can_be_given` allows, and finds these values.
-use Rattle.std.proofs.Common.{Bool, List, None, Option, Some, [], arith, codes, false, fold, is_some, true, ◌∷◌, ◌≡◌, ap, find, map, refl, sym, ◌++◌, ◌∙◌}
-use Rattle.std.proofs.{Common.{IsSome, drop, option_map, subst}, lemmas.{Bool.{and_parts, Decides.nat_tests}, Grind.common_steps, List.append-nil}}
-use Rattle.std.{proofs.lemmas.Slice.Eq.bytes_eq-Decides, specs.Str.bytes_eq}
-use Rattle.clap.{proofs.{SimpleLemmas.{is_false, is_nil}, WalkLemmas.find-map}, specs.Faults.{built_fault, check_fault, turn_fault, walk_fault, defaults_fault}}
-use Rattle.clap.specs.{Faults.{level_fault, other_fault, step_fault}, Kinds.{or_else, Kinds}, Simple.{entered, names_of, built, built_leaf, help_shape}}
-use Rattle.clap.specs.{Simple.{inherited, label_of, marked_built, help_rule, new_shape, on_top, rows_at, with_leaf_noted}, Walk.{Names, Walk, nothing_held}}
-use Rattle.clap.specs.{Walk.{stop_after, walked, after_step, answers_to, idle, rows_after, subcommand_met, subcommand_or_other, walk, walk_from}, Words.App}
-use Rattle.clap.specs.Words.{Kinds, Row, Shape, Text, Row as Found, Rule, fault_of, new_app, subcommand_of, with_rule, with_subcommand}
+-- Lemmas about the arguments that clap accepts: they name one of the program's commands, and clap
+-- finds all values that `can_be_given` allows.
+use Rattle.clap.specs.declared.error.kind.ErrorKind.TheVariants as kind
+use Rattle.std.proofs.Common.{◌≡◌, List, [], Option, IsSome, Result, Err, arith, true, ◌⊎◌, ℕ, ◌*◌, ◌/◌, ◌%◌, ◌<◌, ◌≤◌, length, take, ◌++◌, Some, None, Ok}
+use Rattle.std.proofs.Common.{MatchResult, length-take-le, inl, inr, refl, ap, codes, false, fold, is_some, ◌∷◌, find, map, sym, ◌∙◌, drop, option_map, subst}
+use Rattle.std.proofs.lemmas.{Bool.{cases_eq, and_parts, Decides.nat_tests}, Grind.common_steps, List.append-nil, Slice.Eq.bytes_eq-Decides}
+use Rattle.std.specs.Str.{bytes_eq}
+use Rattle.clap.{proofs.{SimpleLemmas.{is_false, is_nil}, WalkLemmas.find-map}, specs.Faults.{built_fault, turn_fault, walk_fault, defaults_fault, level_fault}}
+use Rattle.clap.specs.{Faults.{other_fault, step_fault}, Kinds.{or_else, Kinds}, Simple.{entered, names_of, built, built_leaf, help_shape, inherited, label_of}}
+use Rattle.clap.specs.{Simple.{marked_built, help_rule, new_shape, on_top, rows_at, with_leaf_noted}, Walk.{Names, Walk, nothing_held, stop_after, walked}}
+use Rattle.clap.specs.{Walk.{after_step, answers_to, idle, rows_after, subcommand_met, subcommand_or_other, walk, walk_from}, Words.subcommand_rows_of}
+use Rattle.clap.specs.Words.{IsAmong, Row, Text, fault_of, subcommand_of, App, HasKind, HasMatchesOf, is_simple_and_free, kind_of, Shape, Row as Found, Rule}
+use Rattle.clap.specs.{Words.{new_app, with_rule, with_subcommand}, declared.error.{Error.Error, kind.ErrorKind.ErrorKind}}
+use Rattle.clap.specs.declared.parser.matches.ArgMatches.{ArgMatches}
 use Rattle.command_line.{proofs.GivenLemmas.given_taken, specs.{Application.program_named, Given.{AreSpelled, Given, can_be_given, found_given, rule_given}}}
-use Rattle.command_line.specs.{Given.shape_given, JobLaws.{RowsTakeWhatTheyAreGiven, WordsNameARow}, Table.{Entry, Table, asked, asked_in, entry_app}}
-use Rattle.command_line.specs.Table.{entry_named, refusals, with_entries}
+use Rattle.command_line.specs.{Given.shape_given, Job.{ReadsAccepted, ReadsFound, ReadsJob, ReadsRow}, JobLaws.{RowsAnswerOnce, WordsNameARow}}
+use Rattle.command_line.specs.{JobLaws.RowsTakeWhatTheyAreGiven, Root.{root_among, root_of}, Table.{IsGood, Table, app_of_table, asked, asked_in, refusals}}
+use Rattle.command_line.specs.{Table.{Entry, entry_app, entry_named, with_entries}, declared.errors.ArgumentsFault.ArgumentsFault}
+use Rattle.hex.{proofs.HexLemmas.{decode_of-odd, decode_of-ok, decode_sized-odd, decode_sized-twice}, specs.Hex.{decode_of, decode_sized}}
+use Rattle.hex.specs.declared.error.FromHexError.{FromHexError}
+use lib.Seq.{take-append_seam}
 
-or_else_nil : (a b : Kinds) → or_else a b ≡ [] → (a ≡ []) × (b ≡ [])
-or_else_nil a b h = grind arith
+module _ (made app : App) (arguments : List Text) (is : made ≡ app) (free : is_simple_and_free app ≡ true) where
+  pub accepted : (m : ArgMatches) → HasMatchesOf made arguments m → (is_simple_and_free made ≡ true → fault_of made arguments ≡ [])
+      → (fault_of app arguments ≡ []) × (subcommand_rows_of m ≡ subcommand_of app arguments)
+  accepted m found clear = grind arith
+
+  pub refused : (e : Error) (k : ErrorKind) → (is_simple_and_free made ≡ true → HasKind (fault_of made arguments) e) → k ≡ kind_of e
+      → (k ≡ kind.OutOfMemory → ⊥) → IsAmong k (fault_of app arguments)
+  refused e k has same other = grind arith
+
+-- Lemmas for the case in which clap accepts the arguments and finds the values `found`.
+module _ {C J V : Type 0} (table : Table C) (Reads : ReadsRow C J V) (arguments : List Text) (found : Option (Text × List Row))
+    (clear : fault_of (app_of_table table) arguments ≡ []) (same : found ≡ subcommand_of (app_of_table table) arguments) where
+  pub reads_accepted : (result : Result J (ArgumentsFault V)) → ReadsFound Reads (asked_in table found) result → ReadsAccepted table Reads arguments result
+  unfolding refusals asked
+  reads_accepted result reads = (clear, rw (← same) reads)
+
+  pub reads_fault : (fault : ArgumentsFault V) → ReadsFound Reads (asked_in table found) (let result : Result J (ArgumentsFault V) = Err fault in result)
+      → ReadsJob table Reads arguments (Err fault)
+  reads_fault fault reads = grind (arith, reads_accepted)
+
+pub row_named : {C : Type 0} (table : Table C) → WordsNameARow C → IsGood table → (arguments : List Text) → refusals table arguments ≡ []
+    → IsSome (asked table arguments)
+row_named table law good arguments clear = law table arguments clear
+
+pub answers_once : {J V : Type 0} → RowsAnswerOnce J V
+answers_once = grind arith
+
+pub none_by_length : (text : List ℕ) → (length text / 2 ≡ 0) ⊎ (64 < length text / 2) → root_of text ≡ None
+unfolding root_of
+none_by_length text h = grind (arith, nat_tests, decode_of-ok text)
+
+pub root_of_decoded : (text out buffer : List ℕ) (n : ℕ) (r : Result Unit FromHexError) → n ≡ length text / 2 → 1 ≤ n → n ≤ 64 → n ≤ length buffer
+    → MatchResult (decode_sized text (length (take n buffer))) (λ bytes. (r ≡ Ok tt) × (out ≡ bytes)) (λ e. r ≡ Err e)
+    → MatchResult r (λ _. (root_of text ≡ Some out) × (length out ≡ n)) (λ _. root_of text ≡ None)
+unfolding root_of
+root_of_decoded text out buffer n r half least most fits decoded = elim (cases_eq (length text % 2) 1) [
+  | inl odd ↦ rw (rw (length-take-le n buffer fits, decode_sized-odd text n odd) at decoded) (ap root_among (decode_of-odd text odd))
+  | inr even ↦
+      let twice : length text ≡ 2 * n = omega arith in
+      go (decode_of text) refl r (rw (length-take-le n buffer fits, decode_sized-twice text n twice) at decoded)
+]
+  where
+    go : (d : Result (List ℕ) FromHexError) → decode_of text ≡ d → (r : Result Unit FromHexError) → MatchResult d (λ bytes. (r ≡ Ok tt) × (out ≡ bytes))
+        (λ e. r ≡ Err e) → MatchResult r (λ _. (root_among (decode_of text) ≡ Some out) × (length out ≡ n)) (λ _. root_among (decode_of text) ≡ None)
+    go (Ok bytes) same (Ok x) h = grind (arith, nat_tests, decode_of-ok text bytes)
+    go d same r h = grind arith
+
+pub front_of : (n : ℕ) (out rest : List ℕ) → length out ≡ n → take n (out ++ rest) ≡ out
+front_of n out rest full = rw (← full) (take-append_seam out rest)
 
 -- The walk found no subcommand, or a subcommand other than `help`.
 abbrev pub StopsNotAtHelp : Option (Text × List Text) → Type 0
@@ -29,15 +84,12 @@ module _ (s : Shape) (helps : s.disable_help_subcommand ≡ false) (names : Name
       → StopsNotAtHelp (fold (walked s.rules names) w words).stopped
   unfolding walk_fault
   walk_stops [] w clear before = before
-  walk_stops (word ∷ rest) w clear before = grind (arith, walk_stops rest (walked s.rules names w word), turn_stops w word, or_else_nil)
-
-check_needs : (s : Shape) (rows : List Row) (has : Bool) → s.subcommand_required ≡ true → check_fault s rows has ≡ [] → has ≡ true
-check_needs s rows has needs clear = grind arith
+  walk_stops (word ∷ rest) w clear before = grind (arith, walk_stops rest (walked s.rules names w word), turn_stops w word)
 
 pub enters_command : (a : App) (words : List Text) → a.top.subcommand_required ≡ true → built_fault a nothing_held words ≡ []
     → let stop = stop_after a.top.rules (names_of a) words in
     (is_some (entered a stop) ≡ true) × (a.top.disable_help_subcommand ≡ false → StopsNotAtHelp stop)
-enters_command a words needs clear = grind (arith, or_else_nil, check_needs, walk_stops)
+enters_command a words needs clear = grind (arith, walk_stops)
 
 rules_added : (app : App) (rules : List Rule) → fold with_rule app rules ≡ on_top (λ s. record s { rules = s.rules ++ rules }) app
 rules_added app [] = ap (λ (rules : List Rule). on_top (λ s. record s { rules = rules }) app) (sym (append-nil app.top.rules))

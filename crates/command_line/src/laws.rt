@@ -22,7 +22,7 @@ pub fn rows_take_what_they_are_given<C: Copy>()
 {}
 
 /// If the expected result of a call is a job, the call returns this job or runs out of memory.
-#[tactic(auto, using(crate::proofs::JobLemmas::answers_once))]
+#[tactic(auto, using(crate::proofs::RowLemmas::answers_once))]
 pub fn rows_answer_once<J, V>()
     ensures { RowsAnswerOnce J V }
 {}

@@ -1,6 +1,6 @@
-use Rattle.std.proofs.Common.{arith, refl}
-use Rattle.command_line.{proofs.JobLemmas.{accepted, refused, reads_accepted, reads_fault, row_named}, specs.Table.{asked, refusals}}
 use Rattle.command_line.proofs.job.read_job.Goals as goal
+use Rattle.std.proofs.Common.{arith, refl}
+use Rattle.command_line.{proofs.RowLemmas.{accepted, refused, reads_accepted, reads_fault, row_named}, specs.Table.{asked, refusals}}
 
 pub job_found-requires : goal.job_found-requires
 unfolding refusals asked

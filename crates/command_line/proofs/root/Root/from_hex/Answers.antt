@@ -1,7 +1,7 @@
-use Rattle.std.proofs.Common.{◌∙◌, ◌/◌, Ok, Err, Some, refl, inl, inr, sym, ap, arith, length}
-use Rattle.command_line.proofs.{RootLemmas.{front_of, none_by_length, root_of_decoded}, root.Root.from_hex.Goals.then-len-eq0-via-then-len-eq0}
-use Rattle.command_line.proofs.root.Root.from_hex.Goals.{then-len-eq0-via-else-len-eq0+then-len-gt-MAX_ROOT_LEN}
 use Rattle.command_line.proofs.root.Root.from_hex.Goals as goal
+use Rattle.std.proofs.Common.{◌∙◌, ◌/◌, Ok, Err, Some, refl, inl, inr, sym, ap, arith, length}
+use Rattle.command_line.proofs.{RowLemmas.{front_of, none_by_length, root_of_decoded}, root.Root.from_hex.Goals.then-len-eq0-via-then-len-eq0}
+use Rattle.command_line.proofs.root.Root.from_hex.Goals.{then-len-eq0-via-else-len-eq0+then-len-gt-MAX_ROOT_LEN}
 
 pub returns-then-len-eq0 : goal.returns-then-len-eq0
 returns-then-len-eq0 c = sym (none_by_length c.args.text.now (elim c.then-len-eq0.branch [
