@@ -1,12 +1,19 @@
--- Lemmas about bytes that begin with a request's head and body, or with a complete request.
-use Rattle.std.proofs.Math.Seq.{take-append_seam, drop-append_seam}
+-- Lemmas about bytes that begin with a complete request, and the proof that `place_of` computes
+-- the place that a target names.
+use Rattle.http_request.specs.Words as words
+use Rattle.std.proofs.{Math.Seq.{take-append_seam, drop-append_seam}, lemmas.Slice.Eq.bytes_eq-Decides}
+use Rattle.club_rows.specs.{Limits.{IsBookingNumber, booking_number_limit}, Rows.IsSlot}
+use Rattle.club_values.specs.{Day.day_text, Digits.two_digits, Laws.{IsTextOfDay, ReadsDays, ReadsHours, ReadsNames, ReadsNumbers}}
+use Rattle.club_values.specs.{computed.TextOf.{name_of_text, day_of_text, hour_of_text}, declared.slot.Slot.Slot}
 use Rattle.http_request.proofs.Common.{◌≡◌, ℕ, ◌<◌, ◌≤◌, inl, inr, List, [], ◌++◌, length, take, drop, sym, ap, ◌∙◌, arith, length-append, cases_order}
 use Rattle.http_request.proofs.Common.{take-append-le, take-append-drop, length-take-le, HeaderSpan, RequestHead, Head, IsHeadOf, IsPiece, AsksForBody}
 use Rattle.http_request.proofs.Common.{IsFramed, IsOneRequest, IsRefusedHead, HasNoPiece, IsHeadAt, ◌⊎◌, ◌-◌, ◌↔◌, append_assoc, length-drop, IsWhole}
-use Rattle.http_request.proofs.Common.{has_frame, endless, bad_head, IsHeadResultOf, OneReading, ReadsPlaces, WholeKeepsItsReading}
-use Rattle.http_request.specs.declared.head_result.HeadResult.{HeadResult, TheVariants.{Refused, Asking}}
+use Rattle.http_request.proofs.Common.{has_frame, endless, bad_head, IsHeadResultOf, OneReading, ReadsPlaces, WholeKeepsItsReading, Bool, true, cond, ◌∷◌}
+use Rattle.http_request.proofs.Common.{Option, Some, None, codes, refl, ◌&&◌, nat_le, IfSome, bytes_eq, cond-true, eqb-true, nat_tests, segments, account_at}
+use Rattle.http_request.{proofs.Common.{place_of, under_root, under_slots}, specs.{Path.{HasRealValues, IsPlace, place_parts}, computed.Parts.number_of_text}}
+use Rattle.http_request.specs.{computed.Parts.{slot_of_parts, within_limits, ◌>>=◌}, declared.head_result.HeadResult.{HeadResult, TheVariants.Refused}}
+use Rattle.http_request.specs.declared.{head_result.HeadResult.TheVariants.Asking, path.Place.Place}
 use Rattle.httparse.proofs.GrammarLemmas.{request_unique}
-use Rattle.http_request.specs.Words as words
 
 -- The bytes are a piece that ends with an empty line, followed by the rest of the bytes.
 pub record IsCut (bytes piece rest : List ℕ) : Type 0 where
@@ -123,26 +130,88 @@ one reads bytes a b (words.has_frame head body place is at decoded) (words.lacks
 one reads bytes a b (words.lacks_frame none returned) (words.has_frame head body place is at decoded) = absurd (none head body is)
 one reads bytes a b (words.lacks_frame none returned) (words.lacks_frame again decoded) = cc
 
-frame_more : (bytes more : List ℕ) (head : RequestHead) (body : List ℕ) → IsFramed bytes head body → IsFramed (bytes ++ more) head body
-frame_more bytes more head body is = grind (arith, append_assoc)
-
-endless_more : (bytes more : List ℕ) → HasNoPiece bytes → 16384 ≤ length bytes → HasNoPiece (bytes ++ more)
-endless_more bytes more none long = grind (arith, take-append-le)
-
-refused_more : (bytes more : List ℕ) → IsRefusedHead bytes → IsRefusedHead (bytes ++ more)
-refused_more bytes more is = grind (arith, append_assoc)
-
-head_more : (bytes more : List ℕ) (fields : List HeaderSpan) (found : Head) → IsHeadAt bytes fields found → IsHeadAt (bytes ++ more) fields found
-head_more bytes more fields found at = grind (arith, take-append-le, length-append)
-
 pub head_result_more : (bytes more : List ℕ) (fields : List HeaderSpan) (front : HeadResult) → (front ≡ Refused) ⊎ ((found : Head) × (front ≡ Asking found))
     → IsHeadResultOf bytes fields front → IsHeadResultOf (bytes ++ more) fields front
-head_result_more bytes more fields front is before = grind (arith, refused_more, head_more)
+head_result_more bytes more fields front is before = grind (arith, append_assoc, take-append-le, length-append)
 
 pub keeps : WholeKeepsItsReading
-keeps bytes more answer whole (words.has_frame head body place is at decoded) = words.has_frame head body place (frame_more bytes more head body is) at decoded
+keeps bytes more answer whole (words.has_frame head body place is at decoded) = words.has_frame head body place (grind (arith, append_assoc)) at decoded
 keeps bytes more answer (has_frame head body is) (words.lacks_frame none returned) = absurd (none head body is)
 keeps bytes more answer (endless empty long) (words.lacks_frame none returned) =
-    words.lacks_frame (λ head body is. no_piece (framed is).cut (endless_more bytes more empty long)) returned
+    words.lacks_frame (λ head body is. no_piece (framed is).cut (grind (arith, take-append-le))) returned
 keeps bytes more answer (bad_head is) (words.lacks_frame none returned) =
-    words.lacks_frame (λ head body frame. not_refused (framed frame) (refused_more bytes more is)) returned
+    words.lacks_frame (λ head body frame. not_refused (framed frame) (grind (arith, append_assoc))) returned
+
+if_all : {A : Type 0} (P : A → Type 0) (test : Bool) (found : Option A) → (test ≡ true → IfSome found P) → IfSome (cond test found None) P
+if_all P test found is = grind arith
+
+then_all : {A B : Type 0} (P : B → Type 0) (found : Option A) (then : A → Option B) → ((a : A) → found ≡ Some a → IfSome (then a) P) → IfSome (found >>= then) P
+then_all P found then is = grind arith
+
+same : (text other : List ℕ) → bytes_eq text other ≡ true → text ≡ other
+same text other e = (bytes_eq-Decides text other).0 e
+
+within : (n : ℕ) → IsBookingNumber n → within_limits n ≡ Some n
+within n h = cond-true (nat_le 1 n && nat_le n booking_number_limit) (Some n) None (grind (arith, nat_tests, h.0, h.1))
+
+-- The values of a place are within their limits, and the given texts are the parts of the place's
+-- path.
+abbrev Spells : List (List ℕ) → Place → Type 0
+Spells parts place = (parts ≡ place_parts place) × HasRealValues place
+
+-- The three texts are a slot's facility, day and hour, and these values are within their limits.
+abbrev SpellsSlot : List ℕ → List ℕ → List ℕ → Slot → Type 0
+SpellsSlot facility day hour slot = IsSlot slot × (facility ≡ slot.facility) × (day ≡ day_text slot.day) × (hour ≡ two_digits slot.hour)
+
+module _ (names : ReadsNames) (days : ReadsDays) (texts : IsTextOfDay) (hours : ReadsHours) (numbers : ReadsNumbers) where
+  slot_found : (slot : Slot) → IsSlot slot → slot_of_parts slot.facility (day_text slot.day) (two_digits slot.hour) ≡ Some slot
+  unfolding slot_of_parts
+  slot_found slot h =
+      let day = (days (day_text slot.day) slot.day).1 ((texts (day_text slot.day) slot.day).1 (h.day, refl)) in
+      let hour = (hours (two_digits slot.hour) slot.hour).1 (record { spelling = refl; within = h.hour }) in
+      rw ((names slot.facility slot.facility).1 (h.facility, refl), day, hour) refl
+
+  slot_spelled : (facility day hour : List ℕ) → IfSome (slot_of_parts facility day hour) (SpellsSlot facility day hour)
+  unfolding slot_of_parts
+  slot_spelled facility day hour =
+      let Q : Slot → Type 0 = SpellsSlot facility day hour in
+      then_all Q (name_of_text facility) _ (λ f named. then_all Q (day_of_text day) _ (λ d dated.
+      then_all Q (hour_of_text hour) (λ h. Some (record { facility = f; day = d; hour = h })) (λ h timed.
+      let name = (names facility f).0 named in
+      let date = (texts day d).0 ((days day d).0 dated) in
+      let time = (hours hour h).0 timed in
+      (record { facility = rw name.1 name.0; day = date.0; hour = time.within }, sym name.1, date.1, time.spelling))))
+
+  slots_spelled : (parts : List (List ℕ)) → IfSome (under_slots parts) (Spells (codes "slots" ∷ parts))
+  unfolding number_of_text
+  slots_spelled (facility ∷ day ∷ hour ∷ []) = grind (arith, slot_spelled facility day hour)
+  slots_spelled (facility ∷ day ∷ hour ∷ word ∷ number ∷ []) =
+      grind (arith, slot_spelled facility day hour, same word (codes "bookings"))
+  slots_spelled parts = grind arith
+
+  account_spelled : (word : List ℕ) (parts : List (List ℕ)) → IfSome (account_at word parts) (Spells (word ∷ parts))
+  account_spelled word [] = if_all _ (bytes_eq word (codes "account")) _ (λ test. (ap (λ (w : List ℕ). w ∷ []) (same word (codes "account") test), tt))
+  account_spelled word (part ∷ parts) = tt
+
+  root_spelled : (parts : List (List ℕ)) → IfSome (under_root parts) (Spells parts)
+  root_spelled [] = tt
+  root_spelled (word ∷ parts) = grind (arith, same word (codes "slots"), slots_spelled parts, account_spelled word parts)
+
+  target_spelled : (target : List ℕ) → IfSome (place_of target) (IsPlace target)
+  target_spelled [] = tt
+  target_spelled (byte ∷ path) = grind (arith, root_spelled (segments path), eqb-true byte 47)
+
+  target_found : (target : List ℕ) (place : Place) → IsPlace target place → place_of target ≡ Some place
+  unfolding number_of_text
+  target_found target place h = ap place_of h.slash ∙ (ap under_root h.parts ∙ (grind (arith, slot_found)))
+
+  none_found : (target : List ℕ) (found : Option Place) → place_of target ≡ found → ((place : Place) → ¬ IsPlace target place) → found ≡ None
+  none_found target None e none = refl
+  none_found target (Some place) e none = absurd (none place (rw e at (target_spelled target)))
+
+  pub reads_places : ReadsPlaces
+  reads_places target None = (
+    λ none. none_found target (place_of target) refl none,
+    λ e place h. let there = target_found target place h in cc,
+  )
+  reads_places target (Some place) = (target_found target place, λ e. rw e at (target_spelled target))

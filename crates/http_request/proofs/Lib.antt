@@ -1,4 +1,3 @@
 pub mod Common
-mod FrameLemmas
+pub mod FrameLemmas
 pub mod RouteLemmas
-mod PlaceLemmas

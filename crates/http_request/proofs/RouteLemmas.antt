@@ -117,14 +117,11 @@ abbrev AreParts : List (List ℕ) → Type 0
 AreParts [] = Unit {0}
 AreParts (part ∷ parts) = (has_slash part ≡ false) × AreParts parts
 
-glued_more : (b : ℕ) (part : List ℕ) (parts : List (List ℕ)) → glued ((b ∷ part) ∷ parts) ≡ b ∷ glued (part ∷ parts)
-glued_more b part parts = grind arith
-
 parted : (path : List ℕ) → (path ≡ glued (segments path)) × AreParts (segments path)
 parted [] = (refl, (refl, tt))
 parted (byte ∷ path) =
     let first = first_part path in
-    let before = rw first.2 at (parted path) in grind (arith, eqb-true byte 47, glued_more byte first.0 first.1)
+    let before = rw first.2 at (parted path) in grind (arith, eqb-true byte 47)
 
 -- The routes of the desk's three places: the account, a booking, and a slot.
 abbrev pub routes : {K : Type 0} → K → K → K → RowsOf K

@@ -1,6 +1,6 @@
+use Rattle.http_request.proofs.head_result.head_result_of.Goals as goal
 use Rattle.http_request.proofs.Common.{AsksForBody, IsPiece, IsRefusedHead, List, RequestHead, arith, drop, sym, take, take-append-drop, ℕ, ◌∙◌}
 use Rattle.http_request.proofs.FrameLemmas.{one_head}
-use Rattle.http_request.proofs.head_result.head_result_of.Goals as goal
 
 refused_at : (bytes : List ℕ) (n : ℕ) → IsPiece (take n bytes) → ((head : RequestHead) (body_len : ℕ) → ¬ (AsksForBody (take n bytes) head body_len)) →
     IsRefusedHead bytes

@@ -1,4 +1,4 @@
-use Rattle.http_request.proofs.PlaceLemmas as places
+use Rattle.http_request.proofs.FrameLemmas as places
 use Rattle.http_request.proofs.laws.reads_places.Goals as goal
 
 pub returns : goal.returns

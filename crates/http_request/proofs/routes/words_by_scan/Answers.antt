@@ -1,9 +1,9 @@
-use Rattle.http_request.proofs.Common.{Head, HeaderSpan, IsFramed, IsHeadResultOf, List, RequestHead, Result, arith, inr, place_of, refl, ℕ, ◌≡◌}
+use Rattle.http_request.proofs.routes.words_by_scan.Goals as goal
 use Rattle.club_core.specs.declared.{refusal.Refusal.Refusal, sent_words.SentWords.SentWords as Words}
+use Rattle.http_request.proofs.Common.{Head, HeaderSpan, IsFramed, IsHeadResultOf, List, RequestHead, Result, arith, inr, place_of, refl, ℕ, ◌≡◌}
 use Rattle.http_request.{proofs.FrameLemmas.{asks_at, cut_frame, framed, no_piece, not_refused, whole_frame}, specs.Words.{DecodedRequest, has_frame}}
 use Rattle.http_request.specs.{Words.{HoldsBody, IsRequestReading, lacks_frame, OrUnavailable}, declared.head_result.HeadResult.HeadResult}
 use Rattle.http_request.specs.declared.head_result.HeadResult.TheVariants.{NoPiece, Refused, Asking}
-use Rattle.http_request.proofs.routes.words_by_scan.Goals as goal
 
 unasked : (bytes : List ℕ) (fields : List HeaderSpan) (front : HeadResult) → IsHeadResultOf bytes fields front → ((found : Head) → ¬ (front ≡ Asking found))
     → (head : RequestHead) (body : List ℕ) → ¬ (IsFramed bytes head body)

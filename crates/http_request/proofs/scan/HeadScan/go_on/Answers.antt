@@ -1,5 +1,5 @@
-use Rattle.http_request.proofs.{Common.{take, drop, take-append-drop}, FrameLemmas.head_result_more}
 use Rattle.http_request.proofs.scan.HeadScan.go_on.Goals as goal
+use Rattle.http_request.proofs.{Common.{take, drop, take-append-drop}, FrameLemmas.head_result_more}
 
 pub returns-in-Refused : goal.returns-in-Refused
 returns-in-Refused c =

@@ -1,8 +1,5 @@
-use Rattle.http_request.proofs.{Common.{IsTrue, arith, false, nat_eq, true, ℕ, ◌↔◌, ◌≡◌}, FrameLemmas.{no_piece, not_refused, only, body_only}}
 use Rattle.http_request.proofs.scan.HeadScan.is_over.Goals as goal
-
-tested_same : (a b : ℕ) (P : Type 0) → (a ≡ b) ↔ P → IsTrue (nat_eq a b) ↔ P
-tested_same a b P is = grind arith
+use Rattle.http_request.proofs.{Common.{IsTrue, arith, false, true, ◌↔◌, ◌≡◌}, FrameLemmas.{no_piece, not_refused, only, body_only}}
 
 tested_none : (P : Type 0) → ¬ P → IsTrue false ↔ P
 tested_none P none = (λ test. let bad : false ≡ true = test in cc, λ holds. absurd (none holds))
@@ -14,4 +11,4 @@ pub returns-in-Refused : goal.returns-in-Refused
 returns-in-Refused c = tested_none _ (λ one. not_refused (only one) (rw c.in-Refused.is at c.requires))
 
 pub returns-in-Asking : goal.returns-in-Asking
-returns-in-Asking c = tested_same _ _ _ (body_only c.args.bytes.now c.args.self.now.fields c.in-Asking.head (rw c.in-Asking.is at c.requires))
+returns-in-Asking c = grind (arith, body_only c.args.bytes.now c.args.self.now.fields c.in-Asking.head (rw c.in-Asking.is at c.requires))

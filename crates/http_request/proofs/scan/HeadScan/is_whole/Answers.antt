@@ -1,6 +1,6 @@
+use Rattle.http_request.proofs.scan.HeadScan.is_whole.Goals as goal
 use Rattle.http_request.proofs.{Common.{IsTrue, arith, cases_lt, le-leb, leb, leb-true, ℕ, ◌<◌, ◌↔◌, ◌≤◌, endless, has_frame, length-drop}, FrameLemmas.asks_at}
 use Rattle.http_request.proofs.FrameLemmas.{whole_frame, open_body, open_head}
-use Rattle.http_request.proofs.scan.HeadScan.is_whole.Goals as goal
 
 tested : (a b : ℕ) (P : Type 0) → (a ≤ b → P) → (b < a → ¬ P) → IsTrue (leb a b) ↔ P
 tested a b P holds_if fails_if = grind (arith, cases_lt, leb-true, le-leb)
