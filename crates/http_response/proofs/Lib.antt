@@ -1,2 +1,1 @@
-mod Written
-mod Objects
+pub mod BodyLemmas

@@ -1,6 +1,6 @@
-use Rattle.std.proofs.Common.{codes, [], ◌∷◌}
-use Rattle.http_response.{proofs.Objects.written_object, specs.Body.{text, number}}
 use Rattle.http_response.proofs.body.account_body.Goals as goal
+use Rattle.std.proofs.Common.{codes, [], ◌∷◌}
+use Rattle.http_response.{proofs.BodyLemmas.written_object, specs.Body.{text, number}}
 
 pub returns : goal.returns
 returns c = simp (

@@ -1,5 +1,5 @@
-use Rattle.http_response.{proofs.Written.put_behind, specs.Text.reply_text}
 use Rattle.http_response.proofs.reply.reply_bytes.Goals as goal
+use Rattle.http_response.{proofs.BodyLemmas.put_behind, specs.Text.reply_text}
 
 pub returns-clause-room : goal.returns-clause-room
 unfolding reply_text
