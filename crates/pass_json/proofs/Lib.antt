@@ -1,11 +1,4 @@
 pub mod Common
-pub mod CaveatList
-pub mod SameReading
-pub mod JsonExact
-pub mod AnyExact
-pub mod Wrapped
-pub mod InEachForm
-pub mod ReadsText
-pub mod ObjectOf
-pub mod WrittenJson
-pub mod WritingJson
+pub mod ObjectLemmas
+pub mod ExactLemmas
+pub mod WrittenLemmas

@@ -78,7 +78,7 @@ fn in_form(alloc: Global, form: Form, bytes: &[u8]) -> Result<Pass, FormFault>
 /// Fails with `TooMany` if the pass has more than 64 caveats. Otherwise fails with `TooLong` if the
 /// text would have more than 8,192 bytes. Fails with `Memory` only if an allocation fails. In JSON,
 /// an allocation can fail even for a text that is too long.
-#[tactic(auto, using(crate::proofs::InEachForm::may_fail), unfolding(crate::specs::computed::AnyForm::writing))]
+#[tactic(auto, using(crate::proofs::ExactLemmas::may_fail), unfolding(crate::specs::computed::AnyForm::writing))]
 pub fn write_any(alloc: Global, form: Form, pass: &Pass) -> Result<String, FormFault>
     ensures ok { IfOk result (λ text. IsWritableText (IsTextIn form) pass.now (string_bytes text)) }
     ensures err { IfErr result (IsRefusedIn form pass.now) }

@@ -28,7 +28,7 @@ pub fn computes_json()
 }
 
 /// For each list of bytes, `reading_json` returns the only result that `IsReadAs` allows for JSON.
-#[tactic(auto, using(crate::proofs::JsonExact::reading_json_exact))]
+#[tactic(auto, using(crate::proofs::ExactLemmas::reading_json_exact))]
 pub fn reads_json_exactly()
     ensures { ReadsExactly SpellsJson reading_json }
 {
@@ -38,7 +38,7 @@ pub fn reads_json_exactly()
 
 /// If each element of a text is a byte, `reading` returns the only result that `IsAnyReading`
 /// allows.
-#[tactic(auto, using(crate::proofs::AnyExact::reading_exact))]
+#[tactic(auto, using(crate::proofs::ExactLemmas::reading_exact))]
 pub fn reads_any_form_exactly()
     ensures { ReadsAnyFormExactly }
 {
@@ -50,7 +50,7 @@ pub fn reads_any_form_exactly()
 
 /// Suppose that unwrapping a text gives a form and bytes, and the number of bytes is within the
 /// limit. Then reading the text gives the same result as reading the bytes in this form.
-#[tactic(auto, using(crate::proofs::Wrapped::reads_wrapped))]
+#[tactic(auto, using(crate::proofs::ExactLemmas::reads_wrapped))]
 pub fn reads_what_is_wrapped()
     ensures { ReadsWhatIsWrapped }
 {
@@ -58,7 +58,7 @@ pub fn reads_what_is_wrapped()
 }
 
 /// If unwrapping a text fails, reading the text fails with the same fault.
-#[tactic(auto, using(crate::proofs::Wrapped::refused_wrapping))]
+#[tactic(auto, using(crate::proofs::ExactLemmas::refused_wrapping))]
 pub fn refuses_what_wraps_nothing()
     ensures { RefusesWhatWrapsNothing }
 {}
@@ -70,7 +70,7 @@ pub fn json_reads_back()
 
 /// Suppose that each part of a pass is a list of bytes, and the signature has 32 bytes. Then
 /// `writing_json` returns the only result that `IsWriting` allows for the pass.
-#[tactic(auto, using(crate::proofs::WritingJson::exact_json))]
+#[tactic(auto, using(crate::proofs::WrittenLemmas::exact_json))]
 pub fn writes_json_exactly()
     ensures { WritesJsonExactly }
 {
@@ -78,13 +78,13 @@ pub fn writes_json_exactly()
 }
 
 /// A pass has at most one text in each form.
-#[tactic(auto, using(crate::proofs::InEachForm::one_text))]
+#[tactic(auto, using(crate::proofs::ExactLemmas::one_text))]
 pub fn one_text_for_each_form()
     ensures { OneTextEachForm }
 {}
 
 /// Reading a written text gives the same form and the same pass again.
-#[tactic(auto, using(crate::proofs::InEachForm::in_any_form))]
+#[tactic(auto, using(crate::proofs::ExactLemmas::in_any_form))]
 pub fn any_form_reads_back()
     ensures { AnyFormReadsBack }
 {
@@ -94,7 +94,7 @@ pub fn any_form_reads_back()
 
 /// Suppose that each part of a pass is a list of bytes, and the signature has 32 bytes. Then
 /// `writing` returns the only result that `IsWriting` allows for the pass.
-#[tactic(auto, using(crate::proofs::InEachForm::exact_in_any_form))]
+#[tactic(auto, using(crate::proofs::ExactLemmas::exact_in_any_form))]
 pub fn writes_any_form_exactly()
     ensures { WritesAnyFormExactly }
 {
@@ -103,7 +103,7 @@ pub fn writes_any_form_exactly()
 }
 
 /// Reading a text has at most one result. The result is the form and the pass, or a fault.
-#[tactic(auto, using(crate::proofs::AnyExact::one_reading))]
+#[tactic(auto, using(crate::proofs::ExactLemmas::one_reading))]
 pub fn one_reading_for_each_text()
     ensures { OneReadingEachText }
 {

@@ -1,6 +1,6 @@
-use Rattle.pass_json.proofs.Common.{◌≡◌, rules, ◌≤◌, length, Ok, Err, ap, err_from_is_err_and, FormFault, Memory, IsUnwrapped, max_text_len, IsAnyReading}
-use Rattle.pass_json.proofs.{Common.IsReadingInForm, SameReading.unless_memory, Wrapped.may_run_out}
 use Rattle.pass_json.proofs.any.unwrapping.Goals as goal
+use Rattle.pass_json.proofs.Common.{◌≡◌, rules, ◌≤◌, length, Ok, Err, ap, err_from_is_err_and, FormFault, Memory, IsUnwrapped, max_text_len, IsAnyReading}
+use Rattle.pass_json.proofs.{Common.IsReadingInForm, ExactLemmas.{unless_memory, may_run_out}}
 
 pub returns-in_err-pass-clause-spelling : goal.returns-in_err-pass-clause-spelling
 returns-in_err-pass-clause-spelling c =

@@ -14,10 +14,6 @@ unfolding pass_from
 kept_pass value location identifier identifiers third_party signature only version is_location is_identifier are_caveats is_signature =
     grind (arith, common_steps)
 
-location_or_none : {V : Type 0} (items : V → List ℕ) (found : Option V) (none : V) → items none ≡ [] →
-    unwrap_or (option_map items found) [] ≡ items (unwrap_or found none)
-location_or_none items found none e = grind arith
-
 abbrev items : Vec ℕ Global → List ℕ
 items v = v.items
 
@@ -27,7 +23,7 @@ returns-clause-ok c =
     (cc (c.is_version.ensures, c.if-not-is_version.false)) c.in_ok-location.ensures.ok c.in_ok-identifier.ensures.ok c.in_ok-caveats.ensures.ok
     c.in_ok-signature.ensures.ok in
     let location : unwrap_or (option_map items c.in_ok-location.location) [] ≡ c.unwrap_or.result.items =
-    location_or_none items c.in_ok-location.location c.new.result c.new.ensures.items ∙ ap items (sym c.unwrap_or.ensures) in
+    (grind arith) ∙ ap items (sym c.unwrap_or.ensures) in
     let count : length (map items c.in_ok-caveats.caveats.identifiers.items) ≡ c.len.result =
     grind (arith, common_steps, c.len.ensures, length-map c.in_ok-caveats.caveats.identifiers.items items) in
     rw (c.new-2.ensures, ← location, ← count) h

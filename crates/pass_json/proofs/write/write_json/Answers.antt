@@ -1,6 +1,6 @@
-use Rattle.pass_json.proofs.{Common.IfOk-weaker, WritingJson.{refused_if, written_if}}
-use Rattle.std.specs.String.{string_bytes}
 use Rattle.pass_json.proofs.write.write_json.Goals as goal
+use Rattle.std.{proofs.lemmas.Bool.Decides.nat_tests, specs.String.string_bytes}
+use Rattle.pass_json.{proofs.{Common.{IfOk-weaker, arith}, WrittenLemmas.written_if}, specs.computed.JsonWriting.writing_json}
 
 pub returns-clause-ok : goal.returns-clause-ok
 returns-clause-ok c =
@@ -8,7 +8,8 @@ returns-clause-ok c =
     c.short_text.ensures.computed
 
 pub returns-clause-err : goal.returns-clause-err
-returns-clause-err c = refused_if c.args.pass.now string_bytes c.short_text.result c.short_text.ensures.computed
+unfolding writing_json
+returns-clause-err c = grind (arith, nat_tests)
 
 pub returns-clause-read_back : goal.returns-clause-read_back
 returns-clause-read_back c = IfOk-weaker c.short_text.result _ _ (λ text written. c.json_reads_back.ensures c.args.pass.now (string_bytes text) written)

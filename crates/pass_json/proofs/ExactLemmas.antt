@@ -1,18 +1,71 @@
--- Lemmas for the proof that `wide_json` returns exactly the pass that the JSON encodes.
-use Rattle.pass_json.proofs.Common.{Bool, List, None, Option, Result, Some, [], ap, codes, cond, length, refl, sym, true, ℕ, ◌&&◌, ◌↔◌, ◌∷◌, ◌≡◌, Data, IsUtf8}
-use Rattle.pass_json.proofs.Common.{IsUtf8-from_is_utf8, array, eq-eqb, is_utf8, is_utf8-from_IsUtf8, unwrap_or, ◌∙◌, AnswersExactly, FormFault}
-use Rattle.pass_json.proofs.Common.{FromBase64IsBase64, Items, Members, Plain, WideCaveat, as_array, get, item, read, AreCaveats, HasOnly, IsCaveatList}
-use Rattle.pass_json.proofs.Common.{IsCaveatObject, IsPass, IsReadAs, IsVersion, SpellsJson, WidePass, caveat_names, Contains, caveat_from, caveat_list}
-use Rattle.pass_json.proofs.Common.{caveats_of, field_from, has_only_names, is_version, must_have, of_length, pass_names, IsSome, arith, get_member, inl, inr}
-use Rattle.pass_json.proofs.Common.{member, no_members, pass_from, reading_json, signature_from, value_of, wide_json, ◌⊎◌, IsBase64, IsField, decoded_text}
-use Rattle.pass_json.proofs.{Common.{field_bytes, only_among, string}, SameReading.same_answer}
+-- Lemmas for the proof that reading a text, in JSON or in any form, has exactly one result. It is
+-- the result for the bytes that the text wraps.
+use Rattle.pass_forms.specs.computed.V1Reading as v1
+use Rattle.pass_forms.specs.computed.V2Reading as v2
 use Rattle.std.proofs.lemmas.{Bool.Decides.nat_tests, Cmp.nat_list_eq_equiv, Map.{Text.is_eq-slice_cmp, Views.{Contains-from_any, list_any-from_Contains}}}
 use Rattle.std.{proofs.lemmas.Slice.Eq.bytes_eq-Decides, specs.{Cmp.Lexicographic.slice_cmp, Ordering.{is_eq, match_ordering, nat_cmp}}}
 use Rattle.std.specs.declared.cmp.Ordering.{Ordering}
-use Rattle.pass_forms.specs.computed.Parts.{◌>>=◌}
+use Rattle.pass_forms.specs.{Text.{SpellsText, IsTextReading}, V1.SpellsV1, V2.SpellsV2, computed.Parts.◌>>=◌}
+use Rattle.pass_json.proofs.Common.{ℕ, ◌<◌, ◌≤◌, Result, FormFault, Plain, WidePass, IsReadAs, UnlessMemory, max_text_len, arith, ◌≡◌, ◌↔◌, List, length, Some}
+use Rattle.pass_json.proofs.Common.{Ok, Err, Form, ReadsTextsExactly, ComputesSpelled, SpellsForm, IsAnyReading, OneReadingEachText, reading, wide_in}
+use Rattle.pass_json.proofs.Common.{SpellsJson, wide_json, Bool, None, Option, [], ap, codes, cond, refl, sym, true, ◌&&◌, ◌∷◌, Data, IsUtf8}
+use Rattle.pass_json.proofs.Common.{IsUtf8-from_is_utf8, eq-eqb, is_utf8, is_utf8-from_IsUtf8, unwrap_or, ◌∙◌, AnswersExactly, FromBase64IsBase64, Items}
+use Rattle.pass_json.proofs.Common.{Members, WideCaveat, get, item, read, AreCaveats, HasOnly, IsCaveatList, IsCaveatObject, IsPass, IsVersion, caveat_names}
+use Rattle.pass_json.proofs.Common.{Contains, caveat_from, caveat_list, caveats_of, field_from, has_only_names, is_version, must_have, of_length, pass_names}
+use Rattle.pass_json.proofs.Common.{IsSome, get_member, inl, inr, member, no_members, pass_from, reading_json, signature_from, value_of, ◌⊎◌, IsBase64, IsField}
+use Rattle.pass_json.proofs.Common.{decoded_text, field_bytes, only_among, string, TooLong, Malformed, Json, IsUnwrapped, Wraps, WrapsOne, as_wide_pass}
+use Rattle.pass_json.proofs.Common.{IsReadingInForm, MayRunOut, V1, V2, FailsAs, HasBytes, IsReadBack, IsWritableText, IsWriting, v1_bytes, v2_bytes}
+use Rattle.pass_json.proofs.Common.{TextsReadBack, WritesExactly, IsTextIn, writing, JsonReadsBack, WritesJsonExactly, MayFailAs}
 
-array_of : (value : Data) (items : Items) → as_array value ≡ Some items → value ≡ array items
-array_of value items e = grind arith
+abbrev pub Spelling : Type 1
+Spelling = WidePass → Type 0
+
+pub same_answer : (One Other : Spelling) → ((wide : WidePass) → One wide → Other wide) → ((wide : WidePass) → Other wide → One wide)
+    → (len other : ℕ) → (len ≤ max_text_len → other ≤ max_text_len) → (max_text_len < len → max_text_len < other)
+    → (answer : Result Plain FormFault) → IsReadAs len One answer → IsReadAs other Other answer
+same_answer One Other to from len other short long answer h = grind (arith, to, from)
+
+pub unless_memory : {A : Type 0} (Holds Other : Result A FormFault → Type 0) (answer : Result A FormFault)
+    → ((a : Result A FormFault) → Holds a → Other a) → UnlessMemory Holds answer → UnlessMemory Other answer
+unless_memory Holds Other answer to h = grind (arith, to)
+
+abbrev Relation : Type 1
+Relation = Form → List ℕ → WidePass → Type 0
+
+same_in : (One Other : Relation) → ((form : Form) (bytes : List ℕ) (wide : WidePass) → One form bytes wide → Other form bytes wide)
+    → (text : List ℕ) (form : Form) (wide : WidePass) → SpellsText One text form wide → SpellsText Other text form wide
+same_in One Other to text form wide h = (h.0, h.1, to form h.0 wide h.2)
+
+same_reading : (One Other : Relation) → ((form : Form) (bytes : List ℕ) (wide : WidePass) → One form bytes wide → Other form bytes wide)
+    → ((form : Form) (bytes : List ℕ) (wide : WidePass) → Other form bytes wide → One form bytes wide)
+    → (text : List ℕ) (answer : Result (Form × Plain) FormFault) → IsTextReading One text answer → IsTextReading Other text answer
+same_reading One Other to from text (Ok (form, pass)) h =
+    same_answer (SpellsText One text form) (SpellsText Other text form) (same_in One Other to text form) (same_in Other One from text form) (length text)
+    (length text) (λ k. k) (λ k. k) (Ok pass) h
+same_reading One Other to from text (Err fault) h =
+    same_answer (λ wide. (form : Form) × SpellsText One text form wide) (λ wide. (form : Form) × SpellsText Other text form wide)
+    (λ wide k. (k.0, same_in One Other to text k.0 wide k.1)) (λ wide k. (k.0, same_in Other One from text k.0 wide k.1)) (length text) (length text)
+    (λ k. k) (λ k. k) (Err fault) h
+
+abbrev Computed : Relation
+Computed form bytes wide = wide_in form bytes ≡ Some wide
+
+module _ (packets : ComputesSpelled SpellsV1 v1.wide_at) (sections : ComputesSpelled SpellsV2 v2.wide_at)
+    (json : ComputesSpelled SpellsJson wide_json) (texts : ReadsTextsExactly) where
+  in_each : (form : Form) (bytes : List ℕ) (wide : WidePass) → SpellsForm form bytes wide ↔ Computed form bytes wide
+  unfolding wide_in
+  in_each form bytes wide = grind (arith, packets, sections, json)
+
+  pub reading_exact : (text : List ℕ) (answer : Result (Form × Plain) FormFault) → IsAnyReading text answer ↔ (reading text ≡ answer)
+  unfolding reading
+  reading_exact text answer =
+      let to = λ (form : Form) (b : List ℕ) (wide : WidePass). (in_each form b wide).0 in
+      let from = λ (form : Form) (b : List ℕ) (wide : WidePass). (in_each form b wide).1 in
+      let exact = texts wide_in text answer in
+      (λ h. exact.0 (same_reading SpellsForm Computed to from text answer h), λ e. same_reading Computed SpellsForm from to text answer (exact.1 e))
+
+  pub one_reading : OneReadingEachText
+  one_reading text one other p q = grind (arith, reading_exact text)
 
 module _ (law : FromBase64IsBase64) where
   decoded : (value : Data) (bytes : List ℕ) → (decoded_text value ≡ Some bytes) ↔ ((text : List ℕ) × (value ≡ string text) × IsBase64 text bytes)
@@ -100,7 +153,7 @@ module _ (law : FromBase64IsBase64) where
   caveats_exact items caveats = grind arith
 
   listed_exact : (found : Option Data) (caveats : List WideCaveat) → (caveat_list found ≡ Some caveats) ↔ IsCaveatList found caveats
-  listed_exact found caveats = grind (arith, array_of, caveats_exact)
+  listed_exact found caveats = grind (arith, caveats_exact)
 
   sized : (found : Option (List ℕ)) (bytes : List ℕ) → ((found >>= of_length 32) ≡ Some bytes) ↔ ((found ≡ Some bytes) × (length bytes ≡ 32))
   sized found bytes = grind (arith, nat_tests)
@@ -165,3 +218,63 @@ module _ (law : FromBase64IsBase64) where
         λ h. both.0 (same_answer (SpellsJson bytes) Computed (json_again bytes) (json_takes bytes) (length bytes) (length bytes) (λ k. k) (λ k. k) answer h),
         λ e. same_answer Computed (SpellsJson bytes) (json_takes bytes) (json_again bytes) (length bytes) (length bytes) (λ k. k) (λ k. k) answer (both.1 e),
       )
+
+pub refused_wrapping : (text : List ℕ) (fault : FormFault) → IsUnwrapped text (Err fault) → IsAnyReading text (Err fault)
+refused_wrapping text TooLong h = h
+refused_wrapping text Malformed h = (h.0, λ wide k. h.1 k.0 k.1.0 k.1.1)
+refused_wrapping text fault h = absurd h
+
+pub reads_back : (text : List ℕ) (form : Form) (bytes : List ℕ) (pass : Plain) → IsUnwrapped text (Ok (form, bytes)) →
+    IsReadAs (length bytes) (SpellsForm form bytes) (Ok pass) → IsAnyReading text (Ok (form, pass))
+reads_back text form bytes pass content read = (content.0, (bytes, content.1, read.1), read.2)
+
+spelled : WrapsOne → (text bytes : List ℕ) (form other : Form) (wide : WidePass) → Wraps text form bytes → SpellsText SpellsForm text other wide →
+    (other ≡ form) × SpellsForm form bytes wide
+spelled one text bytes form other wide wraps h = grind (arith, one text other form h.0 bytes h.1 wraps)
+
+abbrev SpellsAny : List ℕ → Spelling
+SpellsAny text wide = (form : Form) × SpellsText SpellsForm text form wide
+
+pub reads_wrapped : WrapsOne → (text bytes : List ℕ) (form : Form) (answer : Result (Form × Plain) FormFault) → IsUnwrapped text (Ok (form, bytes)) →
+    length bytes ≤ max_text_len → IsAnyReading text answer ↔ IsReadingInForm form bytes answer
+reads_wrapped one text bytes form (Ok (other, pass)) content short = (
+  λ h.
+      let its = spelled one text bytes form other (as_wide_pass pass) content.1 h.1 in
+      (its.0, (short, its.1, h.2)),
+  λ h. rw h.0 (reads_back text form bytes pass content h.1),
+)
+reads_wrapped one text bytes form (Err fault) content short =
+    let Here : Spelling = SpellsForm form bytes in
+    let to = λ (wide : WidePass) (k : SpellsAny text wide). (spelled one text bytes form k.0 wide content.1 k.1).1 in
+    let from : (wide : WidePass) → Here wide → SpellsAny text wide = λ wide k. (form, (bytes, content.1, k)) in (
+      λ h. same_answer (SpellsAny text) Here to from (length text) (length bytes) (λ _. short) (λ long. absurd (omega arith)) (Err fault) h,
+      λ h. same_answer Here (SpellsAny text) from to (length bytes) (length text) (λ _. content.0) (λ long. absurd (omega arith)) (Err fault) h,
+    )
+
+pub may_run_out : (text : List ℕ) (form : Form) (bytes : List ℕ) → IsUnwrapped text (Ok (form, bytes))
+    → ((pass : Plain) × IsReadAs (length bytes) (SpellsForm form bytes) (Ok pass)) ⊎ (form ≡ Json) → MayRunOut text
+may_run_out text form bytes content (inl read) = inl ((form, read.0), reads_back text form bytes read.0 content read.1)
+may_run_out text form bytes content (inr is) = grind arith
+
+back_from : (form : Form) (bytes : List ℕ) (pass : Plain) (text : List ℕ) → IsReadBack (SpellsForm form) form bytes pass text →
+    IsAnyReading text (Ok (form, pass))
+back_from form bytes pass text back = reads_back text form bytes pass back.content back.read
+
+pub may_fail : (writing : Result (List ℕ) FormFault) (fault : FormFault) → FailsAs writing fault → MayFailAs writing fault
+may_fail writing fault h = grind arith
+
+pub one_text : (form : Form) (pass : Plain) (one other : List ℕ) → IsTextIn form pass one → IsTextIn form pass other → one ≡ other
+one_text form pass one other h k = grind arith
+
+pub in_any_form : TextsReadBack → JsonReadsBack → (form : Form) (pass : Plain) (text : List ℕ) → HasBytes pass → IsWritableText (IsTextIn form) pass text →
+    IsAnyReading text (Ok (form, pass))
+in_any_form texts json V1 pass text are written = back_from V1 (v1_bytes pass) pass text ((texts pass text are).0 written)
+in_any_form texts json V2 pass text are written = back_from V2 (v2_bytes pass) pass text ((texts pass text are).1 written)
+in_any_form texts json Json pass text are written = back_from Json text pass text (json pass text written)
+
+pub exact_in_any_form : WritesExactly → WritesJsonExactly → (form : Form) (pass : Plain) (answer : Result (List ℕ) FormFault) → HasBytes pass
+    → length pass.signature ≡ 32 → (writing form pass ≡ answer) ↔ IsWriting (IsTextIn form) pass answer
+unfolding writing
+exact_in_any_form others json V1 pass answer are len = (others pass answer len).0
+exact_in_any_form others json V2 pass answer are len = (others pass answer len).1
+exact_in_any_form others json Json pass answer are len = json pass answer are len
