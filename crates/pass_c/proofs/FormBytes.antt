@@ -1,16 +1,13 @@
 -- Lemmas for the proof that the fields of a pass have at most as many bytes as the encoded pass.
-use Rattle.std.proofs.Common.{Bool, cond, ◌≡◌, ℕ, ◌≤◌, List, [], ◌∷◌, codes, length, map, Option, Some, None, unwrap_or, false, if◌then◌else◌, replicate}
-use Rattle.std.proofs.{Common.{sym, ◌∙◌, ap, arith, is_eq, bytes_eq}, lemmas.{Bool.true≢false, List.{length-append, Sums.sum_by-cons}}}
-use Rattle.std.{proofs.lemmas.{Map.Text.is_eq-slice_cmp, Slice.Eq.bytes_eq-Decides}, specs.{Cmp.Lexicographic.slice_cmp, List.{flat_map, sum_by}}}
-use Rattle.std.specs.{Ordering.nat_cmp, declared.cmp.Ordering.TheVariants.Equal}
-use Rattle.base64.specs.{Engines.{url_safe_no_pad, url_safe, standard_no_pad, standard}, GeneralPurpose.encode_of, Rfc4648.{encode_symbols, padding_len}}
-use Rattle.base64.{specs.declared.engine.general_purpose.GeneralPurpose.GeneralPurpose, proofs.RoundTrip.length-encode_symbols}
-use Rattle.serde_json.specs.{Data.{Data, Items, no_items, item}, Find.get}
+use Rattle.std.proofs.Common.{Bool, cond, ◌≡◌, ℕ, ◌≤◌, List, [], ◌∷◌, codes, length, map, Option, Some, None, unwrap_or, false, if◌then◌else◌, replicate, sym}
+use Rattle.std.proofs.{Common.{◌∙◌, ap, arith, is_eq, bytes_eq}, lemmas.{Bool.true≢false, List.{length-append, Sums.sum_by-cons}, Map.Text.is_eq-slice_cmp}}
+use Rattle.std.{proofs.lemmas.Slice.Eq.bytes_eq-Decides, specs.List.{flat_map, sum_by}}
+use Rattle.base64.{proofs.RoundTrip.length-encode_symbols, specs.{Engines.{url_safe_no_pad, url_safe, standard_no_pad, standard}, GeneralPurpose.encode_of}}
+use Rattle.base64.specs.{Rfc4648.{encode_symbols, padding_len}, declared.engine.general_purpose.GeneralPurpose.GeneralPurpose}
+use Rattle.pass_c.{proofs.JsonBytes.{data_bytes, items_bytes, read_fits, Apart, bytes_at, found_bytes, one_value, three_values}, specs.Laws.fields_len}
 use Rattle.pass_forms.specs.{Envelope.IsBase64, Pass.{Plain, as_wide_pass, widened_caveat}, V1.{SpellsV1, caveat_packets}, V2.{SpellsV2, caveat_section}}
-use Rattle.pass_forms.specs.V2.{optional_field}
 use Rattle.pass_json.specs.Json.{AreCaveats, IsCaveatList, IsCaveatObject, IsField, SpellsJson}
-use Rattle.pass_c.proofs.{JsonBytes.{data_bytes, items_bytes, read_fits}, MemberBytes.{Apart, bytes_at, found_bytes, one_value, three_values}}
-use Rattle.pass_c.specs.Laws.{fields_len}
+use Rattle.serde_json.specs.{Data.{Data, Items, no_items, item}, Find.get}
 
 encoded : (e : GeneralPurpose) (bytes : List ℕ) → length bytes ≤ length (encode_of e bytes)
 encoded e bytes =
@@ -53,11 +50,9 @@ list_fits None [] is = omega arith
 list_fits None (caveat ∷ caveats) is = absurd cc
 list_fits (Some value) caveats is = omega (arith, ap data_bytes is.1, caveats_fit is.0 caveats is.2)
 
-same_name : (k l : List ℕ) → slice_cmp nat_cmp k l ≡ Equal → k ≡ l
-same_name k l is = (bytes_eq-Decides k l).0 (sym (is_eq-slice_cmp k l) ∙ ap is_eq is)
-
 apart : (k l : List ℕ) → bytes_eq k l ≡ false → Apart k l
-apart k l differ = λ name a b. true≢false (sym ((bytes_eq-Decides k l).1 (same_name k name a ∙ sym (same_name l name b))) ∙ differ)
+apart k l differ = λ name a b. true≢false (sym ((bytes_eq-Decides k l).1 (((bytes_eq-Decides k name).0 (sym (is_eq-slice_cmp k name) ∙ ap is_eq a)) ∙ sym
+    ((bytes_eq-Decides l name).0 (sym (is_eq-slice_cmp l name) ∙ ap is_eq b)))) ∙ differ)
 
 names_differ : (l i : Bool) → (bytes_eq (name_of (codes "l") (codes "l64") l) (name_of (codes "i") (codes "i64") i) ≡ false)
     × (bytes_eq (name_of (codes "l") (codes "l64") l) (codes "c") ≡ false) × (bytes_eq (name_of (codes "i") (codes "i64") i) (codes "c") ≡ false)
@@ -92,8 +87,5 @@ sections_fit : (caveats : List (List ℕ)) → sum_by length caveats ≤ length 
 sections_fit [] = omega arith
 sections_fit (caveat ∷ caveats) = grind (arith, length-append, sum_by-cons length caveat caveats, sections_fit caveats)
 
-optional_fits : (location : Option (List ℕ)) → length (unwrap_or location []) ≤ length (optional_field 1 location)
-optional_fits location = grind (arith, length-append)
-
 pub v2_fits : (bytes : List ℕ) (pass : Plain) → SpellsV2 bytes (as_wide_pass pass) → fields_len pass ≤ length bytes
-v2_fits bytes pass is = grind (arith, length-append, optional_fits, sections_fit)
+v2_fits bytes pass is = grind (arith, length-append, sections_fit)

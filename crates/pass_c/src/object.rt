@@ -81,7 +81,7 @@ impl PassObject {
     }
 
     /// Returns the number of caveats, at most 64.
-    #[tactic(auto, using(crate::proofs::PieceLemmas::length_pieces))]
+    #[tactic(auto, using(crate::proofs::HeldLemmas::length_pieces))]
     pub fn caveat_count(&self) -> usize
         ensures value { result ≡ length (held self.now).caveats }
         ensures lens { result ≡ length (take self.now.caveat_count self.now.caveat_lens) }
