@@ -1,11 +1,4 @@
 pub mod Common
-pub mod Walking
-pub mod Signers
-pub mod Verifying
-pub mod Stepping
-pub mod Decoding
-pub mod DeskLaws
-pub mod FollowedEvents
+pub mod VerifyLemmas
+pub mod DeskLemmas
 pub mod FollowedRuns
-pub mod Reading
-pub mod StoreReads

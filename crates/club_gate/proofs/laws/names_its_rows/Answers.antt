@@ -1,4 +1,4 @@
-use Rattle.club_gate.proofs.DeskLaws as desk
+use Rattle.club_gate.proofs.DeskLemmas as desk
 use Rattle.club_gate.proofs.laws.names_its_rows.Goals as goal
 
 pub returns : goal.returns

@@ -1,4 +1,4 @@
-use Rattle.club_gate.proofs.Decoding as decoding
+use Rattle.club_gate.proofs.DeskLemmas as decoding
 use Rattle.club_gate.proofs.laws.seen_alike.Goals as goal
 
 pub returns : goal.returns

@@ -1,5 +1,5 @@
-use Rattle.club_gate.proofs.{Common.Err, Verifying.read_wrapped}
 use Rattle.club_gate.proofs.verify.reads_by_bytes.Goals as goal
+use Rattle.club_gate.proofs.{Common.Err, VerifyLemmas.read_wrapped}
 
 pub returns-clause-wrapped : goal.returns-clause-wrapped
 returns-clause-wrapped c = λ form bytes.

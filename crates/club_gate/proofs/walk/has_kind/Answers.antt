@@ -1,5 +1,5 @@
-use Rattle.club_gate.proofs.{Common.◌∙◌, Walking.blind_at_last}
 use Rattle.club_gate.proofs.walk.has_kind.Goals as goal
+use Rattle.club_gate.proofs.{Common.◌∙◌, VerifyLemmas.blind_at_last}
 
 pub returns : goal.returns
 returns g c = λ pass e short _. blind_at_last c.finds_the_fault_at.ensures c.reads_what_is_understood.ensures _

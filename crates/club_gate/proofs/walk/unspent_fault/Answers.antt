@@ -1,5 +1,5 @@
-use Rattle.club_gate.proofs.{Common.arith, Walking.{fault_at_last, fault_comes, fault_is, no_fault_comes}}
 use Rattle.club_gate.proofs.walk.unspent_fault.Goals as goal
+use Rattle.club_gate.proofs.{Common.arith, VerifyLemmas.{fault_at_last, fault_comes, fault_is, no_fault_comes}}
 
 pub returns-then-is_some : goal.returns-then-is_some
 returns-then-is_some g c = grind (arith, fault_is, fault_at_last, fault_comes)

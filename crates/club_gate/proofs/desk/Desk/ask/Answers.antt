@@ -1,7 +1,7 @@
-use Rattle.club_gate.proofs.Common.{Err, Reply, Result, StoreFault, arith, decoded_words, refl, reply_or_unavailable, unavailable, verdict_in, ◌∙◌, ◌≡◌}
-use Rattle.club_gate.proofs.{Decoding.decoded_text, DeskLaws.{lawful, reply_or_failure}}
-use Rattle.std.specs.Result.{result_unwrap_or}
 use Rattle.club_gate.proofs.desk.Desk.ask.Goals as goal
+use Rattle.std.specs.Result.{result_unwrap_or}
+use Rattle.club_gate.proofs.Common.{Err, Reply, Result, StoreFault, arith, decoded_words, refl, reply_or_unavailable, unavailable, verdict_in, ◌∙◌, ◌≡◌}
+use Rattle.club_gate.proofs.{Common.decoded_pass, DeskLemmas.{lawful, reply_or_failure}}
 
 reply_is : (result : Result Reply StoreFault) → result_unwrap_or result unavailable ≡ reply_or_unavailable result
 reply_is result = grind arith
@@ -18,8 +18,9 @@ returns-clause-lawful g c = λ was_clean club others represents.
 
 pub returns-clause-steps : goal.returns-clause-steps
 returns-clause-steps g c = λ was_clean.
+    let decoded = (c.decodes.ensures c.args.words.now.pass.now (decoded_pass c.args.words.now.pass.now) c.are_bytes.ensures).1 refl in
     let steps = c.reply_to.ensures.steps was_clean in
-    (_, (decoded_text c.decodes.ensures c.args.words.now.pass.now c.are_bytes.ensures, refl), rw (c.unwrap_or.ensures ∙ reply_is c.reply_to.result) steps)
+    (_, (decoded, refl), rw (c.unwrap_or.ensures ∙ reply_is c.reply_to.result) steps)
 
 pub returns-clause-untouched : goal.returns-clause-untouched
 returns-clause-untouched g c = λ fault read.

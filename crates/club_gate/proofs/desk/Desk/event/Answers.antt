@@ -1,6 +1,6 @@
-use Rattle.club_gate.proofs.{Common.refl, Stepping.asked_steps}
 use Rattle.club_core.specs.Run as machine
 use Rattle.club_gate.proofs.desk.Desk.event.Goals as goal
+use Rattle.club_gate.proofs.{Common.refl, DeskLemmas.asked_steps}
 
 pub returns-in-Asked : goal.returns-in-Asked
 returns-in-Asked g c = rw c.in-Asked.is (record {

@@ -1,6 +1,6 @@
-use Rattle.club_gate.proofs.{Common.{arith, rules, sym, ◌∙◌, ◌≤◌}, Signers.spent_within, StoreReads.reads}
-use Rattle.std.proofs.lemmas.Bool.Decides.{nat_tests}
 use Rattle.club_gate.proofs.desk.Desk.has_spent_within.Goals as goal
+use Rattle.std.proofs.lemmas.Bool.Decides.{nat_tests}
+use Rattle.club_gate.proofs.{Common.{arith, rules, sym, ◌∙◌, ◌≤◌}, DeskLemmas.reads, VerifyLemmas.spent_within}
 
 pub returns : goal.returns
 returns g c = reads g.met.S.ClubStore.sound (search rules) (λ was_clean club others represents sound within row.

@@ -1,7 +1,7 @@
-use Rattle.club_gate.proofs.{Common.{All-head, Club, FitsIfAny, IsSound, List, arith, decoded_words, inl, inr, verdict_in, ◌∙◌, ◌≡◌}, Stepping.always_decided}
-use Rattle.club_gate.proofs.{Stepping.{ask_done, ask_failed, ask_fits, changed_fault, fails_at_its_words}, desk.Desk.reply_to.Goals.After-settle}
 use Rattle.club_gate.proofs.desk.Desk.reply_to.Given as given
 use Rattle.club_gate.proofs.desk.Desk.reply_to.Goals as goal
+use Rattle.club_gate.proofs.{Common.{All-head, Club, FitsIfAny, IsSound, List, arith, decoded_words, inl, inr, verdict_in, ◌∙◌, ◌≡◌}, DeskLemmas.always_decided}
+use Rattle.club_gate.proofs.{DeskLemmas.{ask_done, ask_failed, ask_fits, changed_fault, fails_at_its_words}, desk.Desk.reply_to.Goals.After-settle}
 
 decided : (g : given.Over) (c : After-settle g) → g.S.ClubStore.ghosts.is_clean c.settle.new.self → (club : Club) (others : List Club)
     → g.S.ClubStore.ghosts.represents c.args.self.now club others

@@ -1,5 +1,5 @@
-use Rattle.club_gate.proofs.{Common.{All-head, IsSound, IsLawfulRun, LeavesClub, responses_of, machine_events}, FollowedRuns.{for_seen, lawful, leaves_club}}
 use Rattle.club_gate.proofs.desk.Desk.run.Goals as goal
+use Rattle.club_gate.proofs.{Common.{All-head, IsSound, IsLawfulRun, LeavesClub, responses_of, machine_events}, FollowedRuns.{for_seen, lawful, leaves_club}}
 
 pub returns-clause-lawful : goal.returns-clause-lawful
 returns-clause-lawful g c = λ h club others s.

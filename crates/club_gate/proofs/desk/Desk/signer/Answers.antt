@@ -1,7 +1,7 @@
-use Rattle.club_gate.proofs.Common.{Club, Err, KeyRevoked, List, NotVerified, Ok, Plain, arith, false, key_in, pass_fields, refl, rules, sym, ◌∙◌, ◌≡◌}
-use Rattle.club_gate.proofs.{Common.signer_of, Signers.{by_tests, signer_by_tests}, StoreReads.reads, desk.Desk.signer.Goals.In_ok-is_signed}
 use Rattle.club_gate.proofs.desk.Desk.signer.Given as given
 use Rattle.club_gate.proofs.desk.Desk.signer.Goals as goal
+use Rattle.club_gate.proofs.Common.{Club, Err, KeyRevoked, List, NotVerified, Ok, Plain, arith, false, key_in, pass_fields, refl, rules, sym, ◌∙◌, ◌≡◌}
+use Rattle.club_gate.proofs.{Common.signer_of, DeskLemmas.reads, VerifyLemmas.{by_tests, key_there}, desk.Desk.signer.Goals.In_ok-is_signed}
 
 by_row : (g : given.Over) (c : In_ok-is_signed g) → g.S.ClubStore.ghosts.is_clean c.is_signed.new.self → (club : Club) (others : List Club)
     → g.S.ClubStore.ghosts.represents c.args.self.now club others → (pass : Plain) → g.F.FieldSource.left c.args.source.now ≡ pass_fields pass
@@ -12,8 +12,7 @@ by_row g c clean club others represents pass fields =
     let after = c.key_row.ensures.kept between club others represents in
     let source = c.in-Some.ensures pass (c.again-fields.ensures ∙ fields) in
     let found = rw source.0 at (c.in_ok-row.ensures.returned between club others represents) in
-    signer_by_tests club pass c.args.moment c.in-Some-2.row c.in_ok-is_signed.field-0 (sym c.in-Some-2.is ∙ found) (λ key there same.
-    c.in_ok-is_signed.ensures.returned clean club others after pass key source.0 source.1 there same)
+    grind (arith, key_there, sym c.in-Some-2.is ∙ found)
 
 pub returns-then-not-branch : goal.returns-then-not-branch
 returns-then-not-branch g c = reads g.met.S.ClubStore.sound (search rules) (λ clean club others represents sound pass fields.

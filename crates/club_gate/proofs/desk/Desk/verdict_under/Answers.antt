@@ -1,6 +1,6 @@
-use Rattle.club_gate.proofs.{Common.{None, arith, rules, sym, ◌∙◌, ◌≡◌}, Reading.verdict_read, Signers.on_record, StoreReads.reads}
-use Rattle.std.proofs.lemmas.Grind.{common_steps}
 use Rattle.club_gate.proofs.desk.Desk.verdict_under.Goals as goal
+use Rattle.std.proofs.lemmas.Grind.{common_steps}
+use Rattle.club_gate.proofs.{Common.{None, arith, rules, sym, ◌∙◌, ◌≡◌}, DeskLemmas.reads, VerifyLemmas.{verdict_read, on_record}}
 
 pub returns-then-is_some : goal.returns-then-is_some
 returns-then-is_some g c = reads g.met.S.ClubStore.sound (search rules) (λ clean club others represents sound pass fields short signer.
