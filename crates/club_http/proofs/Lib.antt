@@ -1,2 +1,1 @@
-pub mod ReceivedLemmas
-pub mod RepliedLemmas
+pub mod ExchangeLemmas

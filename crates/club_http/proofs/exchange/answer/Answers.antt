@@ -1,6 +1,6 @@
-use Rattle.std.{proofs.Common.◌≡◌, specs.Io.KnownBytes.Appends}
-use Rattle.club_http.proofs.RepliedLemmas.{exchanged_to_all}
 use Rattle.club_http.proofs.exchange.answer.Goals as goal
+use Rattle.std.{proofs.Common.◌≡◌, specs.Io.KnownBytes.Appends}
+use Rattle.club_http.proofs.ExchangeLemmas.{exchanged_to_all}
 
 pub returns-clause-exchanged : goal.returns-clause-exchanged
 returns-clause-exchanged g c =

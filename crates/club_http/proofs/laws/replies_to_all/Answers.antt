@@ -1,5 +1,5 @@
-use Rattle.club_http.proofs.RepliedLemmas.{replied_to_all}
 use Rattle.club_http.proofs.laws.replies_to_all.Goals as goal
+use Rattle.club_http.proofs.ExchangeLemmas.{replied_to_all}
 
 pub returns : goal.returns
 returns g c moment before after bytes old reply new received replied =

@@ -1,9 +1,9 @@
-use Rattle.std.proofs.Common.{◌≡◌, ◌<◌, ◌≤◌, ◌+◌, ◌-◌, [], length, take, inl, inr, append-nil, arith, refl}
-use Rattle.std.proofs.{KnownBytes.{Consumes-kept, Consumes-nil, Consumes-trans}, lemmas.{Grind.common_steps, List.take-take, Slice.take-put_mid_below}}
-use borrow.Rule.Slice.PartMut.{put_mid}
-use Rattle.club_http.{proofs.{ReceivedLemmas.{filled, within_request, not_so, stops}, receive.receive.Goals.After-fill}, specs.Calls.{nothing, more}}
 use Rattle.club_http.proofs.receive.receive.Given as given
 use Rattle.club_http.proofs.receive.receive.Goals as goal
+use Rattle.std.proofs.{Common.{◌≡◌, ◌<◌, ◌≤◌, ◌+◌, ◌-◌, [], length, take, inl, inr, append-nil, arith, refl}, KnownBytes.{Consumes-kept, Consumes-nil}}
+use Rattle.std.proofs.{KnownBytes.Consumes-trans, lemmas.{Grind.common_steps, List.take-take, Slice.take-put_mid_below}}
+use Rattle.club_http.{proofs.{ExchangeLemmas.{filled, within_request, not_so, stops}, receive.receive.Goals.After-fill}, specs.Calls.{nothing, more}}
+use borrow.Rule.Slice.PartMut.{put_mid}
 
 pub loop-reader-init : goal.loop-reader-init
 loop-reader-init g c = record { within = omega arith; came = Consumes-nil _; covers = c.requires.begins; gave = nothing; counted = refl }
