@@ -1,7 +1,1 @@
-pub mod ServedLemmas
-pub mod TimedLemmas
-pub mod LogLemmas
-pub mod MeanwhileLemmas
-pub mod AnswerLemmas
-pub mod AcceptedLemmas
-pub mod ExchangeLemmas
+pub mod ServerLemmas

@@ -1,5 +1,5 @@
-use Rattle.desk_server.proofs.AnswerLemmas.{sent_status, sent_text}
 use Rattle.desk_server.proofs.door.put_answer.Goals as goal
+use Rattle.desk_server.proofs.ServerLemmas.{sent_status, sent_text}
 
 pub returns-in-Ok-put_all : goal.returns-in-Ok-put_all
 returns-in-Ok-put_all g c =

@@ -1,6 +1,6 @@
-use Rattle.std.proofs.{Common.{◌≤◌, ◌-◌, length, arith}, KnownBytes.Consumes-trans, lemmas.Grind.common_steps}
-use Rattle.desk_server.proofs.TimedLemmas.{filled}
 use Rattle.desk_server.proofs.door.read_command.Goals as goal
+use Rattle.std.proofs.{Common.{◌≤◌, ◌-◌, length, arith}, KnownBytes.Consumes-trans, lemmas.Grind.common_steps}
+use Rattle.desk_server.proofs.ServerLemmas.{filled}
 
 pub loop-len-preserved : goal.loop-len-preserved
 loop-len-preserved g c =

@@ -1,6 +1,6 @@
-use Rattle.std.proofs.Common.{ap}
-use Rattle.desk_server.proofs.LogLemmas.{writes_lines}
 use Rattle.desk_server.proofs.laws.a_log_has_its_lines.Goals as goal
+use Rattle.std.proofs.Common.{ap}
+use Rattle.desk_server.proofs.ServerLemmas.{writes_lines}
 
 pub returns : goal.returns
 returns g c =

@@ -1,8 +1,8 @@
-use Rattle.std.proofs.Common.{◌≤◌, ◌^◌, ◌∷◌, ◌++◌, suc, [], length, length-append, arith, refl, rules}
 use Rattle.desk_server.specs.Served as spec
-use Rattle.desk_server.specs.{Served.alone, declared.log.LogEvent.TheVariants.{Absent, Overrun, Unanswered, Exchanged, Commanded}}
-use Rattle.desk_server.proofs.ServedLemmas.{noted_alone, one_call, one_more}
 use Rattle.desk_server.proofs.serve.serve_logged.Goals as goal
+use Rattle.std.proofs.Common.{◌≤◌, ◌^◌, ◌∷◌, ◌++◌, suc, [], length, length-append, arith, refl, rules}
+use Rattle.desk_server.{proofs.ServerLemmas.{noted_alone, one_call, one_more}, specs.{Served.alone, declared.log.LogEvent.TheVariants.{Absent, Overrun}}}
+use Rattle.desk_server.specs.declared.log.LogEvent.TheVariants.{Unanswered, Exchanged, Commanded}
 
 pub loop-served-init : goal.loop-served-init
 loop-served-init g c = record {

@@ -1,7 +1,7 @@
 -- The invariant of the loop in `serve_logged`.
-use Rattle.std.proofs.Common.{◌+◌, ◌-◌, ◌≤◌}
-use Rattle.desk_server.{proofs.ServedLemmas.SoFar, specs.Served.HasTalked}
 use Rattle.desk_server.proofs.serve.serve_logged.Given as goal
+use Rattle.std.proofs.Common.{◌+◌, ◌-◌, ◌≤◌}
+use Rattle.desk_server.{proofs.ServerLemmas.SoFar, specs.Served.HasTalked}
 
 abbrev pub invariant-loop-served : goal.invariant-loop-served
 invariant-loop-served g l = record {

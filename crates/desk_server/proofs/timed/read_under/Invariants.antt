@@ -1,6 +1,6 @@
 -- The invariant of the loop in `read_under`.
-use Rattle.desk_server.proofs.TimedLemmas.{Interrupted}
 use Rattle.desk_server.proofs.timed.read_under.Given as goal
+use Rattle.desk_server.proofs.ServerLemmas.{Interrupted}
 
 abbrev pub invariant-loop-interrupted : goal.invariant-loop-interrupted
 invariant-loop-interrupted g l =

@@ -1,6 +1,6 @@
-use Rattle.std.proofs.{Common.{refl, rules, ◌∙◌}, KnownBytes.{Keeps-refl, Keeps-trans}}
-use Rattle.desk_server.{proofs.MeanwhileLemmas.{alone_none, one_command_more}, specs.Between.{no_wait, wait_again}}
 use Rattle.desk_server.proofs.between.BetweenInlet.fill.Goals as goal
+use Rattle.std.proofs.{Common.{refl, rules, ◌∙◌}, KnownBytes.{Keeps-refl, Keeps-trans}}
+use Rattle.desk_server.{proofs.ServerLemmas.{alone_none, one_command_more}, specs.Between.{no_wait, wait_again}}
 
 pub loop-commanded-init : goal.loop-commanded-init
 loop-commanded-init g c = record { waited = no_wait; reads_nothing = Keeps-refl _; counted = refl; alone = alone_none _ _ _ _ _ _ }

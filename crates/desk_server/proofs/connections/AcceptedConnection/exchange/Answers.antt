@@ -1,7 +1,7 @@
+use Rattle.desk_server.proofs.connections.AcceptedConnection.exchange.Goals as goal
 use Rattle.std.proofs.{Common.{[], Ok, Err, refl}, KnownBytes.Appends-nil}
 use Rattle.club_http.specs.{Calls.not_put, declared.fault.AnswerFault.TheVariants.Read}
-use Rattle.desk_server.proofs.ExchangeLemmas.{answered, exchanged, unasked_to_all}
-use Rattle.desk_server.proofs.connections.AcceptedConnection.exchange.Goals as goal
+use Rattle.desk_server.proofs.ServerLemmas.{answered, exchanged, unasked_to_all}
 
 pub returns-in_default : goal.returns-in_default
 returns-in_default g c =

@@ -1,7 +1,7 @@
+use Rattle.desk_server.proofs.timed.Accepted.take_rest.Goals as goal
 use Rattle.std.proofs.{Common.{◌≡◌, ◌≤◌, ◌-◌, ◌++◌, length, take, arith, length-append, refl}, KnownBytes.{Consumes-trans, Keeps-trans}}
 use Rattle.std.proofs.lemmas.Grind.{common_steps}
-use Rattle.desk_server.proofs.AcceptedLemmas.{moved_more}
-use Rattle.desk_server.proofs.timed.Accepted.take_rest.Goals as goal
+use Rattle.desk_server.proofs.ServerLemmas.{moved_more}
 
 pub loop-taken-preserved : goal.loop-taken-preserved
 loop-taken-preserved g c =
