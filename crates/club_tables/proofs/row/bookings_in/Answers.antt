@@ -1,5 +1,5 @@
-use Rattle.club_tables.proofs.{Common.arith, lists.BookingRows.{bookings_more, no_bookings}}
 use Rattle.club_tables.proofs.row.bookings_in.Goals as goal
+use Rattle.club_tables.proofs.{Common.arith, JoinLemmas.{bookings_more, no_bookings}}
 
 pub returns-in_default-clause-storage : goal.returns-in_default-clause-storage
 returns-in_default-clause-storage c _ = no_bookings c.args.rows.now c.loop-row.row-index c.row-item.result (omega arith) c.row-item.is c.in_default.ensures

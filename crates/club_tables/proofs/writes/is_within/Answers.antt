@@ -1,5 +1,5 @@
-use Rattle.club_tables.proofs.{Common.{arith, nat_tests}, changes.{NumberLemmas.numbers_if_fits, WriteLemmas.{quota_if_fits, refund_if_fits}}}
 use Rattle.club_tables.proofs.writes.is_within.Goals as goal
+use Rattle.club_tables.proofs.{Common.{arith, nat_tests}, NumberLemmas.numbers_if_fits, OpenLemmas.{quota_if_fits, refund_if_fits}}
 
 pub returns-in-ReplaceQuota-clause-unfit : goal.returns-in-ReplaceQuota-clause-unfit
 returns-in-ReplaceQuota-clause-unfit c = λ off club fits. let low = quota_if_fits _ _ club (rw c.in-ReplaceQuota.is at fits) in grind (arith, nat_tests)

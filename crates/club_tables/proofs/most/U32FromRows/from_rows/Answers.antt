@@ -1,6 +1,6 @@
-use Rattle.club_tables.proofs.Common.{ap, sym, subst, ◌∙◌, arith, take, take_all, All-more, All-same, IsTakenRow, most_in, whole_in}
-use Rattle.club_tables.proofs.queries.MostLemmas.{most_more, none_taken}
 use Rattle.club_tables.proofs.most.U32FromRows.from_rows.Goals as goal
+use Rattle.club_tables.proofs.{Common.{ap, sym, subst, ◌∙◌, arith, take, take_all, All-more, All-same, IsTakenRow, most_in, whole_in}, NumberLemmas.most_more}
+use Rattle.club_tables.proofs.NumberLemmas.{none_taken}
 
 pub loop-row-preserved : goal.loop-row-preserved
 loop-row-preserved c =

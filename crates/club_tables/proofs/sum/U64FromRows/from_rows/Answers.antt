@@ -1,6 +1,6 @@
-use Rattle.club_tables.proofs.Common.{rules, ap, sym, subst, ◌∙◌, arith, take, sum_by, take_all, All-more, All-same, sum_by_more, cost_in, IsCostIn, IsCostRow}
-use Rattle.club_tables.proofs.queries.MostLemmas.{cost_in_is, no_costs}
 use Rattle.club_tables.proofs.sum.U64FromRows.from_rows.Goals as goal
+use Rattle.club_tables.proofs.Common.{rules, ap, sym, subst, ◌∙◌, arith, take, sum_by, take_all, All-more, All-same, sum_by_more, cost_in, IsCostIn, IsCostRow}
+use Rattle.club_tables.proofs.NumberLemmas.{cost_in_is, no_costs}
 
 pub loop-row-preserved : goal.loop-row-preserved
 loop-row-preserved c =

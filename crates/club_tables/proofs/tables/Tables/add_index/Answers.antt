@@ -1,5 +1,5 @@
-use Rattle.club_tables.proofs.{Common.{inr, refl, index_batch, HoldsClubVersion2}, opening.{MakingLemmas.holds_second, OpenLemmas.runs_batch}}
 use Rattle.club_tables.proofs.tables.Tables.add_index.Goals as goal
+use Rattle.club_tables.proofs.{Common.{inr, refl, index_batch, HoldsClubVersion2}, MakingLemmas.holds_second, OpenLemmas.runs_batch}
 
 pub returns-clause-opens : goal.returns-clause-opens
 returns-clause-opens g c =

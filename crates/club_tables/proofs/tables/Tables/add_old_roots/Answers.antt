@@ -1,5 +1,5 @@
-use Rattle.club_tables.proofs.{Common.{inl, inr, refl, migration, HoldsClubVersion1}, opening.{MakingLemmas.holds_first, OpenLemmas.runs_batch}}
 use Rattle.club_tables.proofs.tables.Tables.add_old_roots.Goals as goal
+use Rattle.club_tables.proofs.{Common.{inl, inr, refl, migration, HoldsClubVersion1}, MakingLemmas.holds_first, OpenLemmas.runs_batch}
 
 pub returns-clause-opens : goal.returns-clause-opens
 returns-clause-opens g c =

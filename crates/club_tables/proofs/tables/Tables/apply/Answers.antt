@@ -1,5 +1,5 @@
-use Rattle.club_tables.proofs.{Common.arith, changes.WriteLemmas.{changes, refuses}}
 use Rattle.club_tables.proofs.tables.Tables.apply.Goals as goal
+use Rattle.club_tables.proofs.{Common.arith, OpenLemmas.{changes, refuses}}
 
 pub returns-clause-makes : goal.returns-clause-makes
 returns-clause-makes g c =

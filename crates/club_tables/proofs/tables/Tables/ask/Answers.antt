@@ -1,6 +1,6 @@
-use Rattle.club_tables.proofs.Common.{arith, inl, inr, refl, HasCleanDisk, state, FailsToQuery, transaction_start, bound}
-use Rattle.club_tables.proofs.crashes.SurviveLemmas.{Keeps, shown_keeps, fails_keeps, too_late_keeps, then_rolled}
 use Rattle.club_tables.proofs.tables.Tables.ask.Goals as goal
+use Rattle.club_tables.proofs.{Common.{arith, inl, inr, refl, HasCleanDisk, state, FailsToQuery, transaction_start, bound}, CrashLemmas.{Keeps, shown_keeps}}
+use Rattle.club_tables.proofs.CrashLemmas.{fails_keeps, too_late_keeps, then_rolled}
 
 pub returns-in-Err-clause-kept : goal.returns-in-Err-clause-kept
 returns-in-Err-clause-kept g c clean is_open =

@@ -1,8 +1,7 @@
-use Rattle.club_tables.proofs.Common.{rules, ◌≡◌, List, ℕ, Option, Result, Ghosts, Survives, Held, state, Booking, StoreFault, booking_under, OfBooking}
-use Rattle.club_tables.proofs.{Common.{IsFirst, IsBookingNamed, reading_statement, ReadsClub, IsKept, booking_values}, queries.KeyLemmas.booking_shown}
-use Rattle.club_tables.proofs.{lists.BookingRows.{first_held, unnamed, one_booking}, crashes.RepresentsLemmas.{read_answer, fewer_read}}
-use Rattle.club_tables.specs.Answers.{Answers}
 use Rattle.club_tables.proofs.tables.Tables.booking.Goals as goal
+use Rattle.club_tables.proofs.Common.{rules, ◌≡◌, List, ℕ, Option, Result, Ghosts, Survives, Held, state, Booking, StoreFault, booking_under, OfBooking}
+use Rattle.club_tables.proofs.{Common.{IsFirst, IsBookingNamed, reading_statement, ReadsClub, IsKept, booking_values}, CrashLemmas.{read_answer, fewer_read}}
+use Rattle.club_tables.{proofs.{JoinLemmas.{first_held, unnamed, one_booking}, MemberLemmas.booking_shown}, specs.Answers.Answers}
 
 read_booking : {S : Type 0} (g : Ghosts S) (key : List ℕ) (number : ℕ) {old new : Held S} {result : Result (Option Booking) StoreFault}
     → Answers g (reading_statement (OfBooking key number)) (IsFirst (IsBookingNamed key number)) old new result → IsKept (state g old) (state g new)

@@ -1,7 +1,7 @@
-use Rattle.club_tables.proofs.Common.{◌≡◌, All, IsTrue, inl, inr, sym, subst, ◌∙◌, arith, All-push, Ghosts, Database, HasCleanDisk, Held, state, HasOrGetsIndex}
-use Rattle.club_tables.proofs.Common.{EnsuresIndex, Understands, texts_by_key, index_text, HoldsClubVersion2, IsKept, IsUnderstood}
-use Rattle.club_tables.proofs.{crashes.SurviveLemmas.opened_after, opening.OpenLemmas.{keeps_after, opens_after, opens_not, kept_then}}
 use Rattle.club_tables.proofs.tables.Tables.complete.Goals as goal
+use Rattle.club_tables.proofs.Common.{◌≡◌, All, IsTrue, inl, inr, sym, subst, ◌∙◌, arith, All-push, Ghosts, Database, HasCleanDisk, Held, state, HasOrGetsIndex}
+use Rattle.club_tables.proofs.{Common.{EnsuresIndex, Understands, texts_by_key, index_text, HoldsClubVersion2, IsKept, IsUnderstood}, CrashLemmas.opened_after}
+use Rattle.club_tables.proofs.OpenLemmas.{keeps_after, opens_after, opens_not, kept_then}
 
 ensured_after : {S : Type 0} (g : Ghosts S) (old mid new : Held S) → HasCleanDisk (state g mid) → HasCleanDisk (state g new) → IsTrue (state g new).is_open
     → IsKept (state g old) (state g mid) → (IsTrue (state g mid).is_open → Understands g texts_by_key mid) → HasOrGetsIndex g mid new → EnsuresIndex g old new

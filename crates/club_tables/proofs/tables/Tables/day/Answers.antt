@@ -1,6 +1,6 @@
-use Rattle.club_tables.proofs.{Common.{rules, Vec, IfOk-weaker, Booking, OfDay, AreBookings, Global}, lists.BookingRows.{day_of_rows, within_limits}}
-use Rattle.club_tables.proofs.{queries.MemberLemmas.day_shown, crashes.RepresentsLemmas.read_by}
 use Rattle.club_tables.proofs.tables.Tables.day.Goals as goal
+use Rattle.club_tables.proofs.{Common.{rules, Vec, IfOk-weaker, Booking, OfDay, AreBookings, Global}, CrashLemmas.read_by, JoinLemmas.day_of_rows}
+use Rattle.club_tables.proofs.{JoinLemmas.within_limits, MemberLemmas.day_shown}
 
 pub returns-in-Err-clause-reads : goal.returns-in-Err-clause-reads
 returns-in-Err-clause-reads g c =

@@ -1,7 +1,6 @@
-use Rattle.club_tables.proofs.{Common.{inl, inr, refl, state, IsOpeningBatch, index_batch, HoldsClubVersion2}, opening.MakingLemmas.named_represents}
-use Rattle.club_tables.proofs.{crashes.SurviveLemmas.{commits_nothing, was_clean}, opening.OpenLemmas.{batch_failed, keeps_after, opens_after, opens_not}}
-use Rattle.club_tables.proofs.crashes.RepresentsLemmas.{at_once}
 use Rattle.club_tables.proofs.tables.Tables.ensure_index.Goals as goal
+use Rattle.club_tables.proofs.{Common.{inl, inr, refl, state, IsOpeningBatch, index_batch, HoldsClubVersion2}, CrashLemmas.{commits_nothing, was_clean}}
+use Rattle.club_tables.proofs.{CrashLemmas.at_once, MakingLemmas.named_represents, OpenLemmas.{batch_failed, keeps_after, opens_after, opens_not}}
 
 pub returns-in-Ok-clause-opens : goal.returns-in-Ok-clause-opens
 returns-in-Ok-clause-opens g c =

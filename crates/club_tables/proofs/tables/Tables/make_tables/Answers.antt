@@ -1,5 +1,5 @@
-use Rattle.club_tables.proofs.{Common.{inl, refl, table_batch, HoldsClubAnyVersion}, opening.OpenLemmas.{holds_found, runs_batch}}
 use Rattle.club_tables.proofs.tables.Tables.make_tables.Goals as goal
+use Rattle.club_tables.proofs.{Common.{inl, refl, table_batch, HoldsClubAnyVersion}, OpenLemmas.{holds_found, runs_batch}}
 
 pub returns-clause-opens : goal.returns-clause-opens
 returns-clause-opens g c =

@@ -1,6 +1,6 @@
-use Rattle.club_tables.proofs.Common.{[], ◌∷◌, All, inl, inr, refl, subst, arith, Database, OLDER_ROOT, FailsToPrepare, first_texts, migration}
-use Rattle.club_tables.proofs.{Common.{HoldsClubVersion1, IsUnderstood}, opening.OpenLemmas.{batch_failed, keeps_after, opens_after, opens_not, one_more}}
 use Rattle.club_tables.proofs.tables.Tables.migrate.Goals as goal
+use Rattle.club_tables.proofs.Common.{[], ◌∷◌, All, inl, inr, refl, subst, arith, Database, OLDER_ROOT, FailsToPrepare, first_texts, migration}
+use Rattle.club_tables.proofs.{Common.{HoldsClubVersion1, IsUnderstood}, OpenLemmas.{batch_failed, keeps_after, opens_after, opens_not, one_more}}
 
 pub returns-in-Ok-clause-opens : goal.returns-in-Ok-clause-opens
 returns-in-Ok-clause-opens g c =

@@ -1,5 +1,5 @@
-use Rattle.club_tables.proofs.{Common.{◌∙◌, OfTaken}, queries.MostLemmas.taken_shown, crashes.RepresentsLemmas.read_answer}
 use Rattle.club_tables.proofs.tables.Tables.most_taken.Goals as goal
+use Rattle.club_tables.proofs.{Common.{◌∙◌, OfTaken}, CrashLemmas.read_answer, NumberLemmas.taken_shown}
 
 pub returns-clause-reads : goal.returns-clause-reads
 returns-clause-reads g c =

@@ -1,10 +1,9 @@
+use Rattle.club_tables.proofs.tables.Tables.open.Goals as goal
 use Rattle.club_tables.proofs.Common.{◌≡◌, ◌≢◌, ◌⊎◌, ℕ, List, [], ◌∷◌, All, IsTrue, inl, inr, refl, sym, subst, ◌∙◌, arith, Row, Ghosts, Database, HasCleanDisk}
 use Rattle.club_tables.proofs.Common.{Held, state, BoundStatement, IsIdle, IsKept, IsUnderstood, VERSION, HasValues, version_values, HasNoDesk, AcceptsTables}
 use Rattle.club_tables.proofs.Common.{YieldsRows, HasRunOver, Upgrade, EnsuresIndex, first_texts, texts_by_key, indexed_texts, table_batch, migration}
-use Rattle.club_tables.proofs.{Common.{index_batch, HoldsClubAnyVersion}, crashes.SurviveLemmas.{opened_after, was_clean}, opening.MakingLemmas.makes_free}
-use Rattle.club_tables.proofs.opening.OpenLemmas.{batch_failed, keeps_after, opens_after, opens_not, found_ready, one_version, first_found, second_found}
-use Rattle.club_tables.proofs.crashes.RepresentsLemmas.{at_once}
-use Rattle.club_tables.proofs.tables.Tables.open.Goals as goal
+use Rattle.club_tables.proofs.{Common.{index_batch, HoldsClubAnyVersion, rules}, CrashLemmas.{opened_after, was_clean, at_once}, MakingLemmas.makes_free}
+use Rattle.club_tables.proofs.OpenLemmas.{batch_failed, keeps_after, opens_after, opens_not, found_ready, first_found, second_found}
 
 module _ {S : Type 0} (g : Ghosts S) (old mid new : Held S) (rows : List Row) (earlier : HasCleanDisk (state g mid)) (rest : IsIdle (state g old))
     (kept : IsKept (state g old) (state g mid)) (answered : YieldsRows VERSION.now (state g old).now rows) where
@@ -39,7 +38,7 @@ HoldsVersion rows version = (row : Row) × (rows ≡ row ∷ []) × HasValues ro
 
 by_version : {Second First : Type 0} (rows : List Row) → (Second × (rows ≡ version_values 2 ∷ [])) ⊎ (First × (rows ≡ version_values 1 ∷ []))
     → (HoldsVersion rows 2 → Second) × (HoldsVersion rows 1 → First)
-by_version rows given = grind (arith, one_version)
+by_version rows given = grind (arith, rules)
 
 pub returns-in-Err-Memory-clause-opens : goal.returns-in-Err-Memory-clause-opens
 returns-in-Err-Memory-clause-opens g c =

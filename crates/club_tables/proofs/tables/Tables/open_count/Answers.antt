@@ -1,5 +1,5 @@
-use Rattle.club_tables.proofs.{Common.{OfOpen, IsCount, ◌∙◌, rules}, crashes.RepresentsLemmas.read_answer, queries.MemberLemmas.open_shown}
 use Rattle.club_tables.proofs.tables.Tables.open_count.Goals as goal
+use Rattle.club_tables.proofs.{Common.{OfOpen, IsCount, ◌∙◌, rules}, CrashLemmas.read_answer, MemberLemmas.open_shown}
 
 pub returns-in-Err-clause-reads : goal.returns-in-Err-clause-reads
 returns-in-Err-clause-reads g c =

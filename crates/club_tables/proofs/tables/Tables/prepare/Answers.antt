@@ -1,5 +1,5 @@
-use Rattle.club_tables.proofs.{Common.{arith, [], HasCleanDisk, state, transaction_start}, crashes.SurviveLemmas.{Keeps, not_run_keeps, then_rolled}}
 use Rattle.club_tables.proofs.tables.Tables.prepare.Goals as goal
+use Rattle.club_tables.proofs.{Common.{arith, [], HasCleanDisk, state, transaction_start}, CrashLemmas.{Keeps, not_run_keeps, then_rolled}}
 
 pub returns-in-Err-clause-kept : goal.returns-in-Err-clause-kept
 returns-in-Err-clause-kept g c clean is_open =

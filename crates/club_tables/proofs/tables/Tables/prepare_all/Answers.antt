@@ -1,6 +1,6 @@
-use Rattle.club_tables.proofs.{Common.{arith, HasCleanDisk, state, FailsToPrepare}, opening.OpenLemmas.{kept_then, one_at, one_understood, all_understood}}
-use Rattle.club_tables.proofs.crashes.RepresentsLemmas.{survives_none}
 use Rattle.club_tables.proofs.tables.Tables.prepare_all.Goals as goal
+use Rattle.club_tables.proofs.{Common.{arith, HasCleanDisk, state, FailsToPrepare}, CrashLemmas.survives_none, OpenLemmas.{kept_then, one_at, one_understood}}
+use Rattle.club_tables.proofs.OpenLemmas.{all_understood}
 
 pub loop-text-preserved : goal.loop-text-preserved
 loop-text-preserved g c =

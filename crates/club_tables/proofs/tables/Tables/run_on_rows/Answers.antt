@@ -1,9 +1,8 @@
+use Rattle.club_tables.proofs.tables.Tables.run_on_rows.Goals as goal
 use Rattle.club_tables.proofs.Common.{rules, arith, map, inl, inr, refl, ◌∙◌, ℕ, ◌<◌, List, length, take, get_or, Err, StoreFault, Ghosts, HasCleanDisk}
 use Rattle.club_tables.proofs.Common.{Survives, IsRolledBack, Held, state, survives_then, survives_begin, RanInTurn, transaction_start, bound_statement}
-use Rattle.club_tables.proofs.{Common.{Commits, StopsAt, Storage, Statement}, crashes.SurviveLemmas.{execute_keeps, then_rolled, turn_at, RanUpTo, all_ran}}
-use Rattle.club_tables.proofs.crashes.SurviveLemmas.{fails_at, fails_last, commit_survives, survives_as, was_clean, Keeps, commit_keeps}
-use Rattle.club_tables.proofs.crashes.RepresentsLemmas.{survives_none}
-use Rattle.club_tables.proofs.tables.Tables.run_on_rows.Goals as goal
+use Rattle.club_tables.proofs.{Common.{Commits, StopsAt, Storage, Statement}, CrashLemmas.{execute_keeps, then_rolled, turn_at, RanUpTo, all_ran, fails_at}}
+use Rattle.club_tables.proofs.CrashLemmas.{fails_last, commit_survives, survives_as, was_clean, Keeps, commit_keeps, survives_none}
 
 stopped : {S : Type 0} {g : Ghosts S} {fewest : ℕ} {statements : List Statement} {at : ℕ} {old was : Held S} → RanUpTo g fewest statements at old was
     → (d : Statement) (mid new : Held S) (fault : StoreFault) → at < length statements → Survives (state g was) (state g mid) (λ _. ⊥)

@@ -1,5 +1,5 @@
-use Rattle.club_tables.proofs.{Common.◌≡◌, crashes.SurviveLemmas.RanUpTo}
 use Rattle.club_tables.proofs.tables.Tables.run_on_rows.Given as goal
+use Rattle.club_tables.proofs.{Common.◌≡◌, CrashLemmas.RanUpTo}
 
 abbrev pub invariant-loop-statement : goal.invariant-loop-statement
 invariant-loop-statement g l = record {

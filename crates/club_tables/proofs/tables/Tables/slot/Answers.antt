@@ -1,5 +1,5 @@
-use Rattle.club_tables.proofs.{Common.OfSlot, lists.BookingRows.use_is, crashes.RepresentsLemmas.read_answer, queries.KeyLemmas.slot_shown}
 use Rattle.club_tables.proofs.tables.Tables.slot.Goals as goal
+use Rattle.club_tables.proofs.{Common.OfSlot, CrashLemmas.read_answer, JoinLemmas.use_is, MemberLemmas.slot_shown}
 
 pub returns-clause-reads : goal.returns-clause-reads
 returns-clause-reads g c =

@@ -1,5 +1,5 @@
-use Rattle.club_tables.proofs.{Common.{◌∙◌, OfCosts}, queries.{MostLemmas.costs_are, KeyLemmas.costs_shown}, crashes.RepresentsLemmas.read_answer}
 use Rattle.club_tables.proofs.tables.Tables.spent.Goals as goal
+use Rattle.club_tables.proofs.{Common.{◌∙◌, OfCosts}, CrashLemmas.read_answer, MemberLemmas.costs_shown, NumberLemmas.costs_are}
 
 pub returns-clause-reads : goal.returns-clause-reads
 returns-clause-reads g c =

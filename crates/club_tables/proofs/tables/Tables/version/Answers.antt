@@ -1,7 +1,6 @@
-use Rattle.club_tables.proofs.Common.{inl, inr, IfOk-weaker, HasCleanDisk, Database, state, Club, HoldsClubVersion1, HoldsClubVersion2}
-use Rattle.club_tables.proofs.{crashes.RepresentsLemmas.represents_on, opening.{VersionLemmas.version_answered, OpenLemmas.version_returned}}
-use Rattle.club_tables.proofs.crashes.SurviveLemmas.{was_clean}
 use Rattle.club_tables.proofs.tables.Tables.version.Goals as goal
+use Rattle.club_tables.proofs.Common.{inl, inr, IfOk-weaker, HasCleanDisk, Database, state, Club, HoldsClubVersion1, HoldsClubVersion2}
+use Rattle.club_tables.proofs.{CrashLemmas.{represents_on, was_clean}, MakingLemmas.version_answered, OpenLemmas.version_returned}
 
 pub returns-clause-ok : goal.returns-clause-ok
 returns-clause-ok g c clean =

@@ -1,22 +1,20 @@
 -- Lemmas about the rows that the tables store for the club after each change.
-use Rattle.std.specs.Prelude.{Option}
 use Rattle.club_core.specs.declared.change.Change.TheVariants.{MarkClosed}
-use Rattle.club_tables.proofs.Common.{rules, ◌≡◌, ℕ, ◌≤◌, pos, neg_ℤ, Bool, List, Some, refl, sym, ◌∙◌, ◌≢◌, ◌-◌, true, if◌then◌else◌, [], ◌∷◌, ◌++◌, map}
-use Rattle.club_tables.proofs.Common.{Contains, ap, arith, All-contains, bytes_eq-Decides, find, bytes_eq, binary, Arith, Add, ◌<◌, ◌^◌, SlotUse, IsFacility}
-use Rattle.club_tables.proofs.Common.{Int, Club, IsSound, taken_in, same_slot, IsBooking, Booking, Facility, Slot, whole, persons_taken, SlotRow, AllPairs, Has}
-use Rattle.club_tables.proofs.Common.{has_kept, slice_get, filter, all_has, has_found, Database, HoldsRows, Rows, subst, FitsClub, is_closed, AllByRecursion}
-use Rattle.club_tables.proofs.Common.{false, list_any, row_of, contains_had, has_contained, ◌+◌, Binary, Compare, Member, member_named, MemberRow, is_true}
-use Rattle.club_tables.proofs.Common.{member_row, used_by, nat_tests, IsMember, TakeCredit, debited_member, is_some, has_mapped, HasFacility, places_limit, Le}
-use Rattle.club_tables.proofs.Common.{not, ◌&&◌, cond, Option, None, sum_by, option_and_then, map-append, list_any-append, or-true, or-false}
-use Rattle.club_tables.proofs.Common.{recursion_from_All, Key, OlderRoot, InsertMember, InsertKey, MarkRevoked, ReplaceRoot, InsertBooking, after, revoked_key}
-use Rattle.club_tables.proofs.Common.{good_until, rotated_key, persons_of, key_named, is_key_of, slot_use, older_root_of, IsOwnedBy, HasRoot, is_in, cost_of}
-use Rattle.club_tables.proofs.{Common.{OlderRow, IsStoredAs, older_by, map-map, MarkOpen, closed_but}, changes.AddLemmas.{new_row, close_use, open_use}}
-use Rattle.club_tables.proofs.changes.{AddLemmas.{take_use, put_older, older_put, put_once as olders_once}, CancelLemmas.mapped_holds, ChangeLemmas.whole_to}
-use Rattle.club_tables.proofs.{changes.{ChangeLemmas.used_row, ObeyLemmas.slot_facilities}, lists.KeyedRows.{not_same, put_slot, changed, new_row as slot_row}}
-use Rattle.club_tables.proofs.lists.{KeyedRows.{same_itself, by_put, same_row, use_put, slot_once}, OwnerLemmas.{apart_last, map_agree, not_among, unequal}}
-use Rattle.club_tables.proofs.{lists.OwnerLemmas.{sum_more, owner_is}, queries.{KeyLemmas.{one_named, same_slots}, MemberLemmas.total}}
-use Rattle.club_tables.proofs.statements.SelectLemmas.{apart_from_pairs, find_first, only, contains_counts, find_some, found, none_pass, filter_same, none_of}
-use Rattle.club_tables.proofs.statements.UpdateLemmas.{each_of}
+use Rattle.club_tables.proofs.AddLemmas.{new_row, close_use, open_use, take_use, put_older, older_put, put_once as olders_once, slot_facilities}
+use Rattle.club_tables.proofs.{ChangeLemmas.{mapped_holds, whole_to, used_row}, Common.{Option, rules, ◌≡◌, ℕ, ◌≤◌, pos, neg_ℤ, Bool, List, Some, refl, sym}}
+use Rattle.club_tables.proofs.Common.{◌∙◌, ◌≢◌, ◌-◌, true, if◌then◌else◌, [], ◌∷◌, ◌++◌, map, Contains, ap, arith, All-contains, bytes_eq-Decides, find}
+use Rattle.club_tables.proofs.Common.{bytes_eq, binary, Arith, Add, ◌<◌, ◌^◌, SlotUse, IsFacility, Int, Club, IsSound, taken_in, same_slot, IsBooking, Booking}
+use Rattle.club_tables.proofs.Common.{Facility, Slot, whole, persons_taken, SlotRow, AllPairs, Has, has_kept, slice_get, filter, all_has, has_found, Database}
+use Rattle.club_tables.proofs.Common.{HoldsRows, Rows, subst, FitsClub, is_closed, AllByRecursion, false, list_any, row_of, contains_had, has_contained, ◌+◌}
+use Rattle.club_tables.proofs.Common.{Binary, Compare, Member, member_named, MemberRow, is_true, member_row, used_by, nat_tests, IsMember, TakeCredit}
+use Rattle.club_tables.proofs.Common.{debited_member, is_some, has_mapped, HasFacility, places_limit, Le, not, ◌&&◌, cond, None, sum_by, option_and_then}
+use Rattle.club_tables.proofs.Common.{map-append, list_any-append, or-true, or-false, recursion_from_All, Key, OlderRoot, InsertMember, InsertKey, MarkRevoked}
+use Rattle.club_tables.proofs.Common.{ReplaceRoot, InsertBooking, after, revoked_key, good_until, rotated_key, persons_of, key_named, is_key_of, slot_use}
+use Rattle.club_tables.proofs.Common.{older_root_of, IsOwnedBy, HasRoot, is_in, cost_of, OlderRow, IsStoredAs, older_by, map-map, MarkOpen, closed_but}
+use Rattle.club_tables.proofs.{MemberLemmas.{apart_last, map_agree, not_among, unequal, sum_more, owner_is, one_named, same_slots, total}, PutLemmas.not_same}
+use Rattle.club_tables.proofs.PutLemmas.{put_slot, changed, new_row as slot_row, same_itself, by_put, same_row, use_put, slot_once}
+use Rattle.club_tables.proofs.SelectLemmas.{apart_from_pairs, find_first, only, contains_counts, find_some, found, none_pass, filter_same, none_of}
+use Rattle.club_tables.proofs.UpdateLemmas.{each_of}
 
 pub contains_mapped : {X Y : Type 0} (f : X → Y) (xs : List X) (y : Y) → Contains (map f xs) y → (x : X) × Contains xs x × (f x ≡ y)
 contains_mapped f xs y has = let it = has_mapped f xs y (has_contained (map f xs) y has) in (it.0, contains_had xs it.0 it.1, sym it.2)

@@ -1,18 +1,107 @@
--- Lemmas about the rows that pass a test, and about SELECT queries of one table, with and without
--- ORDER BY.
-use Rattle.club_tables.proofs.Common.{inl, inr, ◌≡◌, ◌≤◌, ℕ, suc, ℤ, pos, Bool, true, false, cond, ◌==◌, Some, List, [], ◌∷◌, length, map, slice_get, refl, sym}
-use Rattle.club_tables.proofs.Common.{ap, subst, ◌∙◌, arith, ◌+◌, filter, find, flat_map, AllPairs, IsPermutation, IsSorted, AllByRecursion, AllZip, list_all}
-use Rattle.club_tables.proofs.Common.{bytes_eq, is_eq, is_lt, nat_tests, IsPermutation-map, length_permutation, sorted_far, ranks_by, IsPermutation-refl}
-use Rattle.club_tables.proofs.Common.{IsPermutation-cons, IsPermutation-middle, IsPermutation-trans, recursion_from_All, All-from_recursion, filter_passes, Int}
-use Rattle.club_tables.proofs.Common.{Text, Blob, Null, Binary, value_cmp-Int, value_cmp-Text, value_cmp-Blob, Compare, Eq, binary, is_true, from_truth, Row}
-use Rattle.club_tables.proofs.Common.{Trees, Term, Env, holds, eval_all, inner, end, IsAnswer, Output, output, Query, output_cmp, key_cmp, Select, Database}
-use Rattle.club_tables.proofs.Common.{Reads, Answers, one_permutation, IsRowOf, Holds, select, Has, map-map, filter-map, ascending-filter, ascending-map}
-use Rattle.club_tables.proofs.Common.{all_of, pull_back, all-permutation, along_permutation, is_gt, ordering_reverse, IsTotalOrder, length-map, get_or-map}
-use Rattle.club_tables.proofs.Common.{option_to_list, Contains, not, list_any, list_any_at, has_found, has_kept, contains_had, all_from, ap₂, overlay}
-use Rattle.club_tables.proofs.Common.{IsAscending}
+-- Lemmas about the commands that SQLite compiles SQL texts into, and about SELECT queries of one
+-- table.
 use Rattle.std.{proofs.lemmas.{List.Kept.AllPairs-cons, Map.Text.is_eq-slice_cmp}, specs.declared.cmp.Ordering.Ordering}
-use Rattle.sqlite_value.specs.declared.keys.Key.{Key}
+use Rattle.club_tables.proofs.Common.{arith, nat_tests, ◌≡◌, ◌≢◌, ℕ, List, Ok, Some, slice_get, false, ◌==◌, if◌then◌else◌, [], ◌∷◌, sym, subst, ◌≤◌}
+use Rattle.club_tables.proofs.Common.{AllByRecursion, Table, Database, IsDatabase, Schema, Command, CreateTable, CreateIndex, created, understood, IsPlain}
+use Rattle.club_tables.proofs.Common.{command_of, statement_of, Trees, State, Executes, Facility, Key, Booking, club_schema, version_values, member_values}
+use Rattle.club_tables.proofs.Common.{facility_values, key_values, slot_values, booking_values, older_values, MemberRow, Rows, SlotRow, OlderRow, Holds, rules}
+use Rattle.club_tables.proofs.Common.{HoldsTrees, HoldsRows, members_tree, facilities_tree, keys_tree, slots_tree, bookings_tree, olders_tree, BoundStatement}
+use Rattle.club_tables.proofs.Common.{table_defined_by, lacks_sequence, index_defined_by, Index, inl, inr, suc, ℤ, pos, Bool, true, cond, length, map, refl, ap}
+use Rattle.club_tables.proofs.Common.{◌∙◌, ◌+◌, filter, find, flat_map, AllPairs, IsPermutation, IsSorted, AllZip, list_all, bytes_eq, is_eq, is_lt}
+use Rattle.club_tables.proofs.Common.{IsPermutation-map, length_permutation, sorted_far, ranks_by, IsPermutation-refl, IsPermutation-cons, IsPermutation-middle}
+use Rattle.club_tables.proofs.Common.{IsPermutation-trans, recursion_from_All, All-from_recursion, filter_passes, Int, Text, Blob, Null, Binary, value_cmp-Int}
+use Rattle.club_tables.proofs.Common.{value_cmp-Text, value_cmp-Blob, Compare, Eq, binary, is_true, from_truth, Row, Term, Env, holds, eval_all, inner, end}
+use Rattle.club_tables.proofs.Common.{IsAnswer, Output, output, Query, output_cmp, key_cmp, Select, Reads, Answers, one_permutation, IsRowOf, select, Has}
+use Rattle.club_tables.proofs.Common.{map-map, filter-map, ascending-filter, ascending-map, all_of, pull_back, all-permutation, along_permutation, is_gt}
+use Rattle.club_tables.proofs.Common.{IsTotalOrder, length-map, get_or-map, option_to_list, Contains, not, list_any, list_any_at, has_found, has_kept}
+use Rattle.club_tables.proofs.Common.{contains_had, all_from, ap₂, overlay, IsAscending}
+use Rattle.sqlite_value.specs.declared.keys.Key.{Key as SortKey}
 pub use Rattle.sqlite_trees.proofs.ListLemmas.{filter_same, filter_none as none_pass}
+
+-- SQLite compiles the SQL text into this command for a database with this schema.
+pub record Means (schema : Schema) (text : List ℕ) (command : Command) : Type 0 where
+  pub is : command_of (understood schema text) ≡ command
+  pub plain : IsPlain (understood schema text)
+
+-- The SQL text creates this table.
+pub record Makes (schema : Schema) (text : List ℕ) (table : Table) : Type 0 where
+  pub plain : IsPlain (understood schema text)
+  pub is : command_of (understood schema text) ≡ CreateTable
+  pub whole : statement_of text (understood schema text) ≡ text
+  pub defined : table_defined_by text ≡ Ok table
+  pub uncounted : lacks_sequence (created schema table) ≡ false
+
+-- The SQL text creates this index.
+pub record MakesIndex (schema : Schema) (text : List ℕ) (at : ℕ) (table : Table) (index : Index) : Type 0 where
+  pub plain : IsPlain (understood schema text)
+  pub listed : slice_get schema.tables at ≡ Some table
+  pub is : command_of (understood schema text) ≡ CreateIndex at
+  pub whole : statement_of text (understood schema text) ≡ text
+  pub defined : index_defined_by table text ≡ Ok index
+
+-- A statement changed only the table with this B-tree.
+pub record Wrote (tables : Schema) (old new : Database) (tree : ℕ) : Type 0 where
+  pub schema : new.schema ≡ tables
+  pub others : AllByRecursion (λ (t : Table). t.tree ≢ tree → new.trees t.tree ≡ old.trees t.tree) tables.tables
+  pub sound : IsDatabase new
+
+-- The relation `P` holds after the statement has run on tables that contain these rows.
+abbrev pub WhenRan : BoundStatement → Rows → (State → State → ℕ → Type 0) → Type 1
+WhenRan statement rows P = (old new : State) (count : ℕ) → HoldsRows old.now rows → Executes statement.0 statement.1 old new (Ok count) → P old new count
+
+abbrev pub Steps : BoundStatement → Rows → Rows → Type 1
+Steps statement rows next = WhenRan statement rows (λ old new count. HoldsRows new.now next × (1 ≤ count))
+
+pub trees_kept : {number : ℕ} {old new : Trees} {rows : Rows} → AllByRecursion (λ (t : Table). new t.tree ≡ old t.tree) club_schema.tables
+    → HoldsTrees number old rows → HoldsTrees number new rows
+trees_kept {number = number} {rows = rows} kept held = record {
+  version = subst (λ rs. Holds version_values rs (number ∷ [])) (sym kept.0) held.version;
+  members = subst (λ rs. Holds member_values rs rows.members) (sym kept.1.0) held.members;
+  facilities = subst (λ rs. Holds facility_values rs rows.facilities) (sym kept.1.1.0) held.facilities;
+  keys = subst (λ rs. Holds key_values rs rows.keys) (sym kept.1.1.1.0) held.keys;
+  slots = subst (λ rs. Holds slot_values rs rows.slots) (sym kept.1.1.1.1.0) held.slots;
+  bookings = subst (λ rs. Holds booking_values rs rows.bookings) (sym kept.1.1.1.1.1.0) held.bookings;
+  olders = subst (λ rs. Holds older_values rs rows.olders) (sym kept.1.1.1.1.1.1.0) held.olders;
+}
+
+abbrev pub but : ℕ → Trees → Trees → Trees
+but tree old new at = if at == tree then old at else new at
+
+pub others_kept : (tree : ℕ) (old new : Trees) (ts : List Table) → AllByRecursion (λ (t : Table). t.tree ≢ tree → new t.tree ≡ old t.tree) ts
+    → AllByRecursion (λ (t : Table). but tree old new t.tree ≡ old t.tree) ts
+others_kept tree old new [] others = tt
+others_kept tree old new (t ∷ ts) others = (one, others_kept tree old new ts others.1)
+  where
+    one : but tree old new t.tree ≡ old t.tree
+    one = grind (arith, nat_tests, others.0)
+
+module _ {old new : Database} {rows : Rows} (holds_rows : HoldsRows old rows) where
+  kept : {tree : ℕ} → Wrote club_schema old new tree → HoldsTrees 2 (but tree old.trees new.trees) rows
+  kept {tree = tree} wrote = trees_kept (others_kept tree old.trees new.trees club_schema.tables wrote.others) holds_rows.held
+
+  pub on_members : Wrote club_schema old new members_tree → {members : List MemberRow} → Holds member_values (new.trees members_tree) members
+      → HoldsRows new (record rows { members = members })
+  on_members wrote held = let k = kept wrote in search rules
+
+  pub on_facilities : Wrote club_schema old new facilities_tree → {facilities : List Facility} → Holds facility_values (new.trees facilities_tree) facilities
+      → HoldsRows new (record rows { facilities = facilities })
+  on_facilities wrote held = let k = kept wrote in search rules
+
+  pub on_keys : Wrote club_schema old new keys_tree → {keys : List Key} → Holds key_values (new.trees keys_tree) keys
+      → HoldsRows new (record rows { keys = keys })
+  on_keys wrote held = let k = kept wrote in search rules
+
+  pub on_slots : Wrote club_schema old new slots_tree → {slots : List SlotRow} → Holds slot_values (new.trees slots_tree) slots
+      → HoldsRows new (record rows { slots = slots })
+  on_slots wrote held = let k = kept wrote in search rules
+
+  pub on_bookings : Wrote club_schema old new bookings_tree → {bookings : List Booking} → Holds booking_values (new.trees bookings_tree) bookings
+      → HoldsRows new (record rows { bookings = bookings })
+  on_bookings wrote held = let k = kept wrote in search rules
+
+  pub on_olders : Wrote club_schema old new olders_tree → {olders : List OlderRow} → Holds older_values (new.trees olders_tree) olders
+      → HoldsRows new (record rows { olders = olders })
+  on_olders wrote held = let k = kept wrote in search rules
 
 pub from_truth_is : (b : Bool) → is_true (from_truth (Some b)) ≡ b
 from_truth_is b = grind arith
@@ -69,8 +158,8 @@ module _ (params : Row) (tests : List Term) (project : List Term) where
       simp map-map at (shown_of a _ (a.grouped ∙ pick_by_if test (λ row. params ∷ row ∷ []) (db.trees tree)) a.distinct a.shown)
 
 -- The row of an element: its rowid, and then its values.
-abbrev pub row_of : {X : Type 0} → (X → Row) → ℤ × X → Row
-row_of values q = Int q.0 ∷ values q.1
+abbrev pub id_row : {X : Type 0} → (X → Row) → ℤ × X → Row
+id_row values q = Int q.0 ∷ values q.1
 
 pub lone_pair : {X : Type 0} (pairs : List (ℤ × X)) (x : X) → map (λ q. q.1) pairs ≡ x ∷ [] → (id : ℤ) × (pairs ≡ (id, x) ∷ [])
 lone_pair (q ∷ []) x is = (q.0, let same : q.1 ≡ x = cc in ap (λ y. (q.0, y) ∷ []) same)
@@ -82,7 +171,7 @@ no_pair (q ∷ pairs) none = absurd cc
 
 pub record Paired {X : Type 0} (values : X → Row) (rows : List Row) (xs : List X) : Type 0 where
   pub pairs : List (ℤ × X)
-  pub rows_are : rows ≡ map (row_of values) pairs
+  pub rows_are : rows ≡ map (id_row values) pairs
   pub xs_are : xs ≡ map (λ q. q.1) pairs
 
 pub paired : {X : Type 0} (values : X → Row) (rows : List Row) (xs : List X) → AllZip (λ row x. IsRowOf (values x) row) rows xs → Paired values rows xs
@@ -159,12 +248,9 @@ IsSorted-from_map : {X Y : Type 0} (cmp : Y → Y → Ordering) (f : X → Y) (x
 IsSorted-from_map cmp f xs sorted k d low high =
     rw (get_or-map f xs (k + 1) d (f d) high, get_or-map f xs k d (f d) (omega arith)) at (sorted k (f d) low (rw length-map high))
 
-reverse_is_gt : (o : Ordering) → is_gt (ordering_reverse o) ≡ is_lt o
-reverse_is_gt o = grind arith
-
 pub none_greater : {X : Type 0} (cmp : X → X → Ordering) → IsTotalOrder cmp → (xs : List X) → IsSorted cmp xs → AllPairs (λ a b. is_gt (cmp a b) ≡ false) xs
 none_greater cmp total xs sorted i j d less low =
-    ap is_gt (total.antisymm _ _) ∙ reverse_is_gt _ ∙ sorted_far (λ x y. is_lt (cmp x y)) (ranks_by total (λ x. x)) xs sorted i j d (omega arith) low
+    ap is_gt (total.antisymm _ _) ∙ (grind arith) ∙ sorted_far (λ x y. is_lt (cmp x y)) (ranks_by total (λ x. x)) xs sorted i j d (omega arith) low
 
 module _ {X : Type 0} (R : X → X → Type 0) (symmetric : (x y : X) → R x y → R y x) where
   abbrev Stays : List X → List X → Type 0
@@ -185,7 +271,7 @@ pub record InOrder {X : Type 0} (show : X → Row) (cmp : X → X → Ordering) 
   pub sorted : IsSorted cmp ordered
   pub shown : rows ≡ map show ordered
 
-module _ {X : Type 0} (values : X → Row) (p : X → Bool) (show sort : X → Row) {params : Row} {tests project : List Term} {order : List (Term × Key)} where
+module _ {X : Type 0} (values : X → Row) (p : X → Bool) (show sort : X → Row) {params : Row} {tests project : List Term} {order : List (Term × SortKey)} where
   pub selected_in_order : {tree : ℕ} {db : Database} {rows : List Row}
       → Answers db (record { lets = []; body = record (select (inner tree end) tests project) { order = order } }) params rows
       → ((id : ℤ) (x : X) → list_all (holds (params ∷ (Int id ∷ values x) ∷ [])) tests ≡ p x)

@@ -1,16 +1,20 @@
--- Lemmas about the tables that exist before and after the database is opened, and about the steps of
--- opening the tables.
-use Rattle.club_tables.proofs.Common.{rules, ◌≡◌, ◌⊎◌, ℕ, List, [], ◌∷◌, Result, IsTrue, true, false, true≢false, codes, inl, inr, refl, sym, subst, ap, ◌∙◌}
-use Rattle.club_tables.proofs.Common.{arith, is_ok, on_ok_weaker, on_err_weaker, everything, Row, Schema, col, inner, end, understood, listing_schema, VERSION}
-use Rattle.club_tables.proofs.Common.{HasValues, version_values, select, Ghosts, Trees, Database, State, HasCleanDisk, Shown, Held, state, Club, StoreFault}
-use Rattle.club_tables.proofs.Common.{club_schema, first_schema, unindexed_schema, no_schema, HoldsClub, HoldsClubVersion2, Holds, desk_tree, RepresentsBy}
-use Rattle.club_tables.proofs.Common.{Represents, RepresentsVersion1, RepresentsVersion2, IsFound, IsOpeningBatch, RunsBatch, table_batch, BoundStatement}
-use Rattle.club_tables.proofs.Common.{Asked, Ran, IsKept, Commits, Err, All, ◌+◌, ◌<◌, ◌≤◌, ◌++◌, length, map, take, get_or, zero, suc, Bor, add-one}
-use Rattle.club_tables.proofs.Common.{IfErr-weaker, map-append, All-push, Survives, IsAfterReadings, FailsToRun, IsOpeningFault, Opens, YieldsRows, FoundReady}
-use Rattle.club_tables.proofs.{Common.{OneOf, IsUntouched, IsIdle, IsUnderstood, take-suc}, opening.MakingLemmas.{never_ran, makes_again, made_tables}}
-use Rattle.club_tables.proofs.{crashes.RepresentsLemmas.{represents_by, Asks, asked_open, asked_reads}, statements.SelectLemmas.{selected, short_permutation}}
-use Rattle.club_tables.proofs.crashes.SurviveLemmas.{may_commit, was_clean, after_one, commits_after}
+-- Lemmas about the steps of opening the tables, and about the club after the statements of a
+-- change.
 use Rattle.std.proofs.Math.Seq.{take_all}
+use Rattle.club_tables.proofs.{ChangeLemmas.mapped_holds, Common.{rules, ◌≡◌, ◌⊎◌, ℕ, List, [], ◌∷◌, Result, IsTrue, true, false, true≢false, codes, inl, inr}}
+use Rattle.club_tables.proofs.Common.{refl, sym, subst, ap, ◌∙◌, arith, is_ok, on_ok_weaker, on_err_weaker, everything, Row, Schema, col, inner, end}
+use Rattle.club_tables.proofs.Common.{understood, listing_schema, VERSION, HasValues, version_values, select, Ghosts, Trees, Database, State, HasCleanDisk}
+use Rattle.club_tables.proofs.Common.{Shown, Held, state, Club, StoreFault, club_schema, first_schema, unindexed_schema, HoldsClub, HoldsClubVersion2, Holds}
+use Rattle.club_tables.proofs.Common.{desk_tree, RepresentsBy, Represents, RepresentsVersion1, RepresentsVersion2, IsFound, IsOpeningBatch, RunsBatch}
+use Rattle.club_tables.proofs.Common.{table_batch, BoundStatement, Asked, Ran, IsKept, Commits, Err, All, ◌+◌, ◌<◌, ◌≤◌, ◌++◌, length, map, take, get_or, zero}
+use Rattle.club_tables.proofs.Common.{suc, Bor, add-one, IfErr-weaker, map-append, All-push, Survives, IsAfterReadings, FailsToRun, IsOpeningFault, Opens}
+use Rattle.club_tables.proofs.Common.{YieldsRows, FoundReady, OneOf, IsUntouched, IsIdle, IsUnderstood, take-suc, Ok, OnOk, OnErr, MatchResult, after, IsSound}
+use Rattle.club_tables.proofs.Common.{FitsClub, IsLeftOf, ChangesClub, IsChangeFault, IsRunFault, InLimits, transaction_start, AreStatementsOf, statements_of}
+use Rattle.club_tables.proofs.Common.{Member, Booking, IsMember, IsBooking, MarkCancelled, cancelled_booking, ReplaceQuota, bytes_eq, quota_limit}
+use Rattle.club_tables.proofs.{Common.{member_with_quota, Storage, Change, SuitingChangesKeepSound}, CrashLemmas.{represents_by, Asks, asked_open, asked_reads}}
+use Rattle.club_tables.proofs.CrashLemmas.{may_commit, was_clean, after_one, commits_after, at_once, less_in_turn, kept_when_idle, commits_nothing}
+use Rattle.club_tables.proofs.{MakingLemmas.{never_ran, makes_again, made_tables}, MemberLemmas.is_numbered, PlanLemmas.{plan, made, fits_if_ran}}
+use Rattle.club_tables.proofs.SelectLemmas.{selected, short_permutation, found}
 
 abbrev pub IsSettled : State → Type 0
 IsSettled state = (trees : Trees) → IsTrue state.is_open → state.may_leave trees → trees ≡ state.committed.trees
@@ -57,11 +61,6 @@ holds_found g old db ran clean club others found =
       | inr (inr blank) ↦ subst (HoldsClub db) (sym blank.1) (made_tables g old db ran (ap (λ (d : Database). d.schema) now ∙ blank.0))
     ]
 
--- SQLite refuses the query for the version if the database has no tables.
-no_version : is_ok (understood no_schema VERSION.now) ≡ false
-unfolding understood listing_schema everything
-no_version = refl
-
 abbrev AsksVersion : Schema → Type 0
 AsksVersion schema = Asks schema VERSION.now (select (inner desk_tree end) [] (col 1 1 ∷ [])) (codes "version" ∷ [])
 
@@ -82,7 +81,7 @@ version_row g old rows asked schema asks db now over version held =
 pub version_returned : {S : Type 0} (g : Ghosts S) (old : Held S) (rows : List Row) → HasCleanDisk (state g old) → Asked g VERSION.now [] old rows
     → (club : Club) (others : List Club) → IsFound (state g old) club others → (RepresentsVersion2 (state g old) club others × (rows ≡ version_values 2 ∷ []))
     ⊎ (RepresentsVersion1 (state g old) club others × (rows ≡ version_values 1 ∷ []))
-unfolding Shown
+unfolding Shown understood listing_schema everything
 version_returned g old rows clean asked club others found =
     let is_open = asked_open g VERSION.now [] old rows asked in
     let now = found.idle clean is_open in
@@ -104,12 +103,9 @@ version_returned g old rows clean asked club others found =
       )
       | inr (inr blank) ↦
           let none : is_ok (understood (state g old).now.schema VERSION.now) ≡ false =
-          ap (λ s. is_ok (understood s VERSION.now)) (ap (λ (d : Database). d.schema) now ∙ blank.0) ∙ no_version in
+          ap (λ s. is_ok (understood s VERSION.now)) (ap (λ (d : Database). d.schema) now ∙ blank.0) ∙ (refl) in
           absurd (true≢false (sym (ap is_ok asked.shown.1.is) ∙ none))
     ]
-
-pub one_version : (rows : List Row) (m n : ℕ) → rows ≡ version_values m ∷ [] → (row : Row) × (rows ≡ row ∷ []) × HasValues row (version_values n) → m ≡ n
-one_version rows m n is one = search rules
 
 pub second_found : (s : State) (club : Club) (others : List Club) → RepresentsVersion2 s club others → IsFound s club others
 second_found s club others second = record { held = λ clean is_open. inl (second.held clean is_open); idle = second.idle; left = second.left }
@@ -188,3 +184,107 @@ module _ (db : Database) (texts : List (Bor (List ℕ))) where
   all_understood at now same past before =
       subst (λ (s : Database). All (IsUnderstood s.schema) (map text_at texts)) (sym same)
       (subst (λ ts. All (IsUnderstood db.schema) (map text_at ts)) (take_all at texts past) before)
+
+module _ {S : Type 0} (g : Ghosts S) (all : List BoundStatement) (some : 0 < length all) (old new : Held S)
+    (survives : Survives (state g old) (state g new) (λ trees. (db : Database) × Ran g 1 all old db × (trees ≡ db.trees)))
+    (clean : HasCleanDisk (state g new)) (club : Club) (others : List Club) (represents : Represents (state g old) club others) where
+  old_clean : HasCleanDisk (state g old)
+  old_clean = omega (arith, survives.clean)
+
+  held : (db : Database) → Ran g 1 all old db → HoldsClub (state g old).now club
+  held db ran = subst (λ (d : Database). HoldsClub d club) (sym (represents.idle old_clean (ran.was_open some))) (represents.held old_clean (ran.was_open some))
+
+  kept_as : (clubs : List Club) → ((trees : Trees) (db : Database) → Ran g 1 all old db → trees ≡ db.trees → IsLeftOf trees (club ∷ clubs))
+      → ((trees : Trees) → IsLeftOf trees (club ∷ others) → IsLeftOf trees (club ∷ clubs)) → IsKept (state g old) (state g new)
+      → Represents (state g new) club clubs
+  kept_as clubs leaves was_left kept =
+      represents_by HoldsClub (state g old) (state g new) kept (λ _. old_clean) club others clubs represents (λ clean trees may.
+      elim (survives.crash clean trees may) [
+        | inl was ↦ was_left trees (represents.left old_clean trees was)
+        | inr new ↦ leaves trees new.0 new.1 new.2
+      ])
+
+  module _ (next : Club) (Fits : Type 0) (sound_if : IsSound next → (db : Database) → HoldsClub (state g old).now club → Ran g 1 all old db
+      → HoldsClub db next) (fits : (db : Database) → HoldsClub (state g old).now club → Ran g 1 all old db → Fits × HoldsClub db next) where
+    pub wrote : {E : Type 0} (r : Result (Unit {0}) E) → OnOk r (IsTrue (state g new).is_open × Ran g 1 all old (state g new).committed
+        × ((state g new).now ≡ (state g new).committed)) → OnErr r (IsKept (state g old) (state g new)) → IsSettled (state g new)
+        → MatchResult r (λ _. Fits × Represents (state g new) next [])
+        (λ _. (IsSound next → Represents (state g new) club (next ∷ others)) × (¬ Fits → Represents (state g new) club others))
+    wrote (Ok done) ok err settled =
+        let it = fits (state g new).committed (held _ ok.1) ok.1 in
+        (it.0, settles (state g new) next [] (λ _ _. it.1) (λ _. ok.0) ok.2 settled)
+    wrote (Err e) ok err settled = (
+      λ sound. kept_as (next ∷ others) (λ trees db ran is.
+          inr (inl (db, sym is, inl (inl (sound_if sound db (held db ran) ran)))))
+          (λ trees left. elim left [ inl here ↦ inl here | inr there ↦ inr (inr there) ])
+          err,
+      λ unfit. kept_as others (λ trees db ran is. absurd (unfit (fits db (held db ran) ran).0)) (λ trees left. left) err,
+    )
+
+some_statements : (change : Change) → 0 < length (statements_of change)
+some_statements change = grind arith
+
+pub changes : {S : Type 0} {g : Ghosts S} → SuitingChangesKeepSound → (change : Change) → InLimits change → {old new : Held S}
+    {result : Result (Unit {0}) StoreFault} → Commits g 1 (statements_of change) old new result → IsSettled (state g new) → ChangesClub g change old new result
+changes {g = g} law change within {old = old} {new = new} {result = r} commits settled =
+    let all = statements_of change in
+    let old_clean = λ (clean : HasCleanDisk (state g new)). let e : HasCleanDisk (state g old) = omega (arith, commits.survives.clean) in e in
+    record {
+      was_clean = old_clean;
+      effect = λ clean club others represents.
+          let made_of = λ (db : Database) (tables : HoldsClub (state g old).now club) (ran : Ran g 1 all old db).
+          let fits = fits_if_ran g old club tables law db change within ran in
+          let both : FitsClub change club × HoldsClub db (after change club) = (fits, made g old club tables db change fits ran) in
+          both in
+          wrote g all (some_statements change) old new commits.survives clean club others represents (after change club) (FitsClub change club)
+          (λ sound db tables ran. (made_of db tables ran).1) made_of r (commits.ran clean) commits.kept settled;
+      no_change = on_err_weaker r (λ kept rest. kept) commits.kept;
+      survives = may_commit g 1 all (AreStatementsOf change) refl old new commits.survives;
+      fault = λ clean. IfErr-weaker r (FailsToRun g 1 all old new) (IsChangeFault g change old new) (λ fault failed.
+          inl (record { from = old; after = at_once g old (old_clean clean); failure = failed })) (commits.fault clean);
+      fault_if_fits = λ clean club others represents fits. IfErr-weaker r (FailsToRun g 1 all old new) (IsRunFault g 0 all old new) (λ fault
+          failed. record {
+            from = old;
+            after = at_once g old (old_clean clean);
+            failure = record {
+              mid = failed.mid;
+              failure = less_in_turn g all (transaction_start old) failed.mid fault (λ is_open.
+                  let tables = subst (λ (d : Database). HoldsClub d club) (sym (represents.idle (old_clean clean) is_open))
+                  (represents.held (old_clean clean) is_open) in
+                  let it = plan g old club tables change fits in
+                  (tables.rows, it.0, tables.holds_rows, it.1)) failed.failure;
+              fault_count = failed.fault_count;
+            };
+          }) (commits.fault clean);
+    }
+
+-- Assume that a change has a value outside its limits, and that a change with such a value fits no
+-- club. Then a call that runs no statement and returns `Storage` satisfies `ChangesClub`.
+pub refuses : {S : Type 0} {g : Ghosts S} (change : Change) → ¬ InLimits change → ((club : Club) → ¬ FitsClub change club) → (held : Held S)
+    → ChangesClub g change held held (Err Storage)
+refuses {g = g} change out unfit held = record {
+  was_clean = λ clean. clean;
+  effect = λ clean club others represents. (
+    λ sound. represents_by HoldsClub (state g held) (state g held) (λ _ is_open. (is_open, represents.idle clean is_open, refl)) (λ c. c) club others
+        (after change club ∷ others) represents (λ c trees may. elim (represents.left c trees may) [ inl here ↦ inl here | inr there ↦ inr (inr there) ]),
+    λ _. represents,
+  );
+  no_change = kept_when_idle (state g held);
+  survives = commits_nothing g 1 (AreStatementsOf change) held held (search (rules, arith));
+  fault = λ clean. inr (out, refl);
+  fault_if_fits = λ clean club others represents fits. absurd (unfit club fits);
+}
+
+pub quota_if_fits : (name : List ℕ) (quota : ℕ) (club : Club) → FitsClub (ReplaceQuota name quota) club → quota ≤ quota_limit
+quota_if_fits name quota club fits =
+    let m = fits.carries.0 in
+    let there = found (λ (m : Member). bytes_eq m.name name) club.members m fits.carries.1 in
+    let row = mapped_holds IsMember (member_with_quota name quota) club.members m fits.sound.rows.members there.0 in
+    grind (arith, there.1, row.quota)
+
+pub refund_if_fits : (booking : Booking) (member : List ℕ) (refund : ℕ) (club : Club) → FitsClub (MarkCancelled booking member refund) club
+    → refund ≤ booking.charge
+refund_if_fits booking member refund club fits =
+    let there = found (is_numbered booking.key booking.number) club.bookings booking fits.carries.0.0 in
+    let row = mapped_holds IsBooking (cancelled_booking booking.key booking.number refund) club.bookings booking fits.sound.rows.bookings there.0 in
+    grind (arith, there.1, fits.carries.0.1, row.refund)

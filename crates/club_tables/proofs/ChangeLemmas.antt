@@ -1,15 +1,18 @@
--- Lemmas about the statements that update the row of a member or of a key.
-use Rattle.club_tables.proofs.Common.{rules, ◌≡◌, ◌+◌, ◌≤◌, ℕ, ℤ, pos, Some, Bool, true, ◌&&◌, if◌then◌else◌, List, [], ◌∷◌, length, map, ◌≢◌, refl, sym, ap}
-use Rattle.club_tables.proofs.Common.{◌∙◌, filter, find, AllPairs, list_all, bytes_eq, and_parts, bytes_eq-Decides, and-true, or-true, or-false, everything}
-use Rattle.club_tables.proofs.Common.{Int, Text, Blob, Binary, Arith, Compare, Add, Eq, binary, cast_row, Row, Term, col, op2, holds, lit, understood, Key}
-use Rattle.club_tables.proofs.Common.{credited_member, revoked_key, rotated_key, truth, MemberRow, ADD_CREDIT, ADD_USED, REVOKE_KEY, SET_ROOT, used_values}
-use Rattle.club_tables.proofs.Common.{whole, member_values, key_values, is_given, Rows, members_tree, keys_tree, is_true, nat_le, nat_tests, arith}
-use Rattle.club_tables.proofs.Common.{value_cmp-Int, SET_QUOTA, Sub, TAKE_CREDIT, debited_member, ◌<◌, ◌-◌, ◌^◌, member_with_quota, Le}
-use Rattle.club_tables.proofs.{changes.AddLemmas.{member_table, key_table}, queries.KeyLemmas.{both_tests, one_named}, statements.InsertLemmas.cast_int}
-use Rattle.club_tables.proofs.statements.{MeansLemmas.{on_members, on_keys, Steps, WhenRan}, UpdateLemmas.{FindsOne, finds_by, finds_row, one_changed}}
-use Rattle.club_tables.proofs.statements.SelectLemmas.{text_equal, shows, test, blob_equal, contains_counts, find_some, found, wider_is}
-use Rattle.club_tables.proofs.queries.MemberLemmas.{total}
-use Rattle.club_tables.proofs.statements.JoinLemmas.{is_counted, some_counted, counted_some, passes, shown, with_count, answered_counted, counts_elements}
+-- Lemmas about the statements that update the row of a member, a key or a cancelled booking.
+use Rattle.club_tables.proofs.{AddLemmas.{member_table, key_table, booking_table}, Common.{rules, ◌≡◌, ◌+◌, ◌≤◌, ℕ, ℤ, pos, Some, Bool, true, ◌&&◌}}
+use Rattle.club_tables.proofs.Common.{if◌then◌else◌, List, [], ◌∷◌, length, map, ◌≢◌, refl, sym, ap, ◌∙◌, filter, find, AllPairs, list_all, bytes_eq, and_parts}
+use Rattle.club_tables.proofs.Common.{bytes_eq-Decides, and-true, or-true, or-false, everything, Int, Text, Blob, Binary, Arith, Compare, Add, Eq, binary}
+use Rattle.club_tables.proofs.Common.{cast_row, Row, Term, col, op2, holds, lit, understood, Key, credited_member, revoked_key, rotated_key, truth, MemberRow}
+use Rattle.club_tables.proofs.Common.{ADD_CREDIT, ADD_USED, REVOKE_KEY, SET_ROOT, used_values, whole, member_values, key_values, is_given, Rows, members_tree}
+use Rattle.club_tables.proofs.Common.{keys_tree, is_true, nat_le, nat_tests, arith, value_cmp-Int, SET_QUOTA, Sub, TAKE_CREDIT, debited_member, ◌<◌, ◌-◌, ◌^◌}
+use Rattle.club_tables.proofs.Common.{member_with_quota, Le, slice_index_or, false, ◌++◌, subst, All, Contains, length-map, get_or-map, Booking}
+use Rattle.club_tables.proofs.Common.{cancelled_booking, booking_under, is_in, taken_in, cost_of, Slot, Member, same_slot, persons_of, Club, IsSound, is_key_of}
+use Rattle.club_tables.proofs.Common.{IsBooking, IsOwnedBy, IsToCancel, CANCEL_BOOKING, booking_values, member_row, used_by, all_from, test_has}
+use Rattle.club_tables.proofs.JoinLemmas.{is_counted, counted_some, passes, shown, with_count, answered_counted, counts_elements, truths}
+use Rattle.club_tables.proofs.MemberLemmas.{both_tests, one_named, total, AreBookingsOnce, is_numbered, is_uncancelled, one_numbered, same_numbers}
+use Rattle.club_tables.proofs.{MemberLemmas.{picked_changed, owner_is}, SelectLemmas.{on_members, on_keys, Steps, WhenRan, text_equal, shows, test, blob_equal}}
+use Rattle.club_tables.proofs.SelectLemmas.{contains_counts, find_some, found, wider_is, on_bookings, whole_equal, Apart, apart_from_pairs, IsLone}
+use Rattle.club_tables.proofs.UpdateLemmas.{cast_int, FindsOne, finds_by, finds_row, one_changed, one_found}
 
 abbrev pub AreKeysOnce : List Key → Type 0
 AreKeysOnce = AllPairs (λ (a : Key) (b : Key). a.name ≢ b.name)
@@ -163,7 +166,7 @@ module _ (rows : Rows) (once : AreNamedOnce rows.members) (name : List ℕ) wher
     -- If a row of the table of keys passes the test of owners, the key belongs to the member.
     pub owned_key : AreKeysOnce rows.keys → has_owner ≡ true → (k : Key) × StoresKey key rows.keys k × (k.member ≡ name)
     owned_key unique owned =
-        let one = find_some owns rows.keys (some_counted (filter owns rows.keys) owned) in
+        let one = find_some owns rows.keys (grind arith) in
         let key_is = wider_is owns is_key (λ k h. (and_parts (is_key k) _ h).0) rows.keys (one_named (λ (k : Key). k.name) key rows.keys unique) one.0 one.1 in
         (one.0, key_is.0, (bytes_eq-Decides one.0.member name).0 (and_parts (is_key one.0) _ key_is.1).1)
 
@@ -248,3 +251,115 @@ module _ (rows : Rows) (once : AreKeysOnce rows.keys) (name : List ℕ) where
     root_set key is same until old new count holds_rows ran =
         one_changed (root_finds old new count holds_rows ran) key is (rw ((found has_name rows.keys key is).1, (bytes_eq-Decides key.root was).1 same) refl)
         (rotated_key name root until) (λ key fails. rw fails refl) (λ id passes. rw passes refl) casts_key (λ wrote held. on_keys holds_rows wrote held)
+
+abbrev cancel_tests : List Term
+cancel_tests =
+    is_given 1 0 ∷ is_given 2 1 ∷ is_given 3 2 ∷ is_given 4 3 ∷ is_given 5 4 ∷ is_given 6 5 ∷ is_given 7 6 ∷ is_given 8 7 ∷ is_given 9 8 ∷ is_given 10 9
+    ∷ is_uncancelled ∷ []
+
+abbrev cancel_terms : List Term
+cancel_terms = col 1 0 ∷ col 1 0 ∷ col 1 1 ∷ col 1 2 ∷ col 1 3 ∷ col 1 4 ∷ col 1 5 ∷ col 1 6 ∷ col 1 7 ∷ col 1 8 ∷ lit (Int (pos 1)) ∷ col 0 10 ∷ []
+
+-- Cancelling a booking doesn't change a booking with another key or number.
+other_stays : (key : List ℕ) (number refund : ℕ) (booking : Booking) → is_numbered key number booking ≡ false
+    → cancelled_booking key number refund booking ≡ booking
+other_stays key number refund booking fails = grind (arith, or-false)
+
+pub mapped_holds : {X Y : Type 0} (P : Y → Type 0) (f : X → Y) (xs : List X) (x : X) → All P (map f xs) → Contains xs x → P (f x)
+mapped_holds P f xs x all has = subst P (get_or-map f xs has.0 x (f x) has.1 ∙ ap f has.2) (all has.0 (f x) (omega (arith, has.1, length-map xs f)))
+
+module _ (rows : Rows) (once : AreBookingsOnce rows.bookings) (booking : Booking) (refund : ℕ) where
+  abbrev params : Row
+  params = booking_values booking ++ whole refund ∷ []
+
+  abbrev is_here : Booking → Bool
+  is_here = is_numbered booking.key booking.number
+
+  abbrev is_as_given : Booking → Bool
+  is_as_given b = test params cancel_tests cancel_terms (Int (pos 0) ∷ booking_values b)
+
+  as_given : (b : Booking) → is_as_given b ≡ true → (b ≡ booking) × (b.cancelled ≡ false)
+  as_given b h =
+      let passes = holds (params ∷ (Int (pos 0) ∷ booking_values b) ∷ []) in
+      let all = all_from (λ test. passes test ≡ true) cancel_tests (λ test. test_has passes cancel_tests test h) in
+      grind (arith, nat_tests, bytes_eq-Decides, text_equal, whole_equal, truths)
+
+  cancel_finds : WhenRan (CANCEL_BOOKING.now, params) rows (λ old new count.
+      FindsOne booking_values is_as_given is_here rows.bookings (shows params cancel_tests cancel_terms) old new booking_table count)
+  unfolding understood everything
+  cancel_finds =
+      finds_row 5 params cancel_tests cancel_terms (record { is = refl; plain = (refl, refl) }) refl (λ db holds_rows. holds_rows.held.bookings) (λ id b. refl)
+      (λ b passes. subst (λ (x : Booking). is_here x ≡ true) (sym (as_given b passes).0) (grind (arith, nat_tests, bytes_eq-Decides)))
+      (one_numbered booking.key booking.number rows.bookings once)
+
+  -- If the statement that cancels a booking writes a row, the booking was stored and not yet
+  -- cancelled.
+  pub cancel_found : WhenRan (CANCEL_BOOKING.now, params) rows (λ old new count.
+      1 ≤ count → (booking_under booking.key booking.number rows.bookings ≡ Some booking) × (booking.cancelled ≡ false))
+  cancel_found old new count holds_rows ran some =
+      let one = one_found (cancel_finds old new count holds_rows ran) some in
+      let given = as_given one.0 one.2 in
+      (one.1 ∙ ap Some given.0, sym (ap (λ (x : Booking). x.cancelled) given.0) ∙ given.1)
+
+  -- If the booking is stored and isn't cancelled, the statement updates the booking's row.
+  pub booking_cancelled : booking_under booking.key booking.number rows.bookings ≡ Some booking → booking.cancelled ≡ false
+      → Steps (CANCEL_BOOKING.now, params) rows (record rows { bookings = map (cancelled_booking booking.key booking.number refund) rows.bookings })
+  booking_cancelled on_record uncancelled old new count holds_rows ran =
+      one_changed (cancel_finds old new count holds_rows ran) booking on_record (grind (arith, nat_tests, bytes_eq-Decides, text_equal, whole_equal))
+      (cancelled_booking booking.key booking.number refund) (other_stays booking.key booking.number refund)
+      (λ id passes. rw (passes, uncancelled) refl) (λ id b. simp cast_int) (λ wrote held. on_bookings holds_rows wrote held)
+
+module _ (club : Club) (sound : IsSound club) (booking : Booking) (cancels : IsToCancel booking club) (refund : ℕ)
+    (fits : IsSound (record club { bookings = map (cancelled_booking booking.key booking.number refund) club.bookings })) where
+  abbrev key : List ℕ
+  key = booking.key
+
+  abbrev number : ℕ
+  number = booking.number
+
+  abbrev change : Booking → Booking
+  change = cancelled_booking key number refund
+
+  abbrev next : Club
+  next = record club { bookings = map change club.bookings }
+
+  alone : Apart (IsLone (is_numbered key number)) club.bookings
+  alone = apart_from_pairs _ club.bookings (λ i j d less low both.
+      sound.unique.bookings i j d less low (same_numbers key number (slice_index_or club.bookings i d) (slice_index_or club.bookings j d) both.0 both.1))
+
+  pub there : Contains club.bookings booking × (is_numbered key number booking ≡ true)
+  there = found (is_numbered key number) club.bookings booking cancels.0
+
+  nothing_back : booking.refund ≡ 0
+  nothing_back = (subst IsBooking there.0.2 (sound.rows.bookings there.0.0 booking there.0.1)).kept cancels.1
+
+  now_cancelled : (change booking).cancelled ≡ true
+  now_cancelled = grind (arith, there.1, cancels.1, or-true)
+
+  now_refund : (change booking).refund ≡ refund
+  now_refund = grind (arith, there.1, cancels.1)
+
+  -- If the key belongs to the member, a cancellation lowers the member's spent points by the
+  -- refund.
+  pub used_back : (name : List ℕ) → used_by next name + (if is_key_of name club key then refund else 0) ≡ used_by club name
+  used_back name =
+      let own : Booking → Bool = λ b. is_key_of name club b.key in
+      let sums = picked_changed (is_numbered key number) change (other_stays key number refund) cost_of own club.bookings booking alone cancels.0 in
+      grind (arith, nothing_back, now_refund, (mapped_holds IsBooking change club.bookings booking fits.rows.bookings there.0).refund)
+
+  -- If the booking is in the slot, a cancellation lowers the slot's number of persons by the
+  -- booking's number of persons.
+  pub taken_back : (s : Slot) → taken_in s next.bookings + (if same_slot booking.slot s then persons_of booking else 0) ≡ taken_in s club.bookings
+  taken_back s =
+      let sums = picked_changed (is_numbered key number) change (other_stays key number refund) persons_of (is_in s) club.bookings booking alone cancels.0 in
+      let moved = rw (now_cancelled, cancels.1) at sums in
+      omega (arith, moved)
+
+  pub used_less : (member : List ℕ) → IsOwnedBy member key club → (m : Member) → used_row member (λ n. n - refund) (member_row club m) ≡ member_row next m
+  used_less member owned m =
+      ap (λ n. let row : MemberRow = record { member = m; used = n } in row)
+      (grind (arith, ap (λ b. used_by next m.name + (if b then refund else 0)) (sym (owner_is club sound key member m.name owned)) ∙ used_back m.name))
+
+  pub taken_less : (s : Slot) → taken_in s next.bookings ≡ (if same_slot booking.slot s then taken_in s club.bookings - persons_of booking else taken_in s
+      club.bookings)
+  taken_less s = sym (grind (arith, taken_back s))

@@ -1,5 +1,0 @@
--- Lemmas about creating, migrating and opening the tables.
-
-pub mod MakingLemmas
-pub mod VersionLemmas
-pub mod OpenLemmas
