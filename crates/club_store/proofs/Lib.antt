@@ -1,4 +1,1 @@
-pub mod CrashLemmas
-pub mod ViewLemmas
-pub mod ReadingLemmas
-pub mod FailingLemmas
+pub mod StoreLemmas

@@ -1,5 +1,5 @@
-use Rattle.club_store.proofs.FailingLemmas.{change_failed, sound_changes}
 use Rattle.club_store.proofs.club.StoreClubStore.apply.Goals as goal
+use Rattle.club_store.proofs.StoreLemmas.{change_failed, sound_changes}
 
 pub returns-clause-changed : goal.returns-clause-changed
 returns-clause-changed g c = λ was_clean.

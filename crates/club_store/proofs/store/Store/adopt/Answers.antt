@@ -1,9 +1,9 @@
-use Rattle.std.proofs.{Common.{[], ◌∷◌, inl, inr, refl, sym, ap, ◌∙◌, arith}, lemmas.Bool.not-true}
-use Rattle.sqlite.specs.{Effect.Database, Held.state}
-use Rattle.club_core.specs.Club.{empty_club}
-use Rattle.club_tables.specs.Tables.{HoldsClubAnyVersion}
-use Rattle.club_store.proofs.{CrashLemmas.{one_found, represents_one, the_one}, ReadingLemmas.opens_nothing}
 use Rattle.club_store.proofs.store.Store.adopt.Goals as goal
+use Rattle.std.proofs.{Common.{[], ◌∷◌, inl, inr, refl, sym, ap, ◌∙◌, arith}, lemmas.Bool.not-true}
+use Rattle.club_core.specs.Club.{empty_club}
+use Rattle.club_store.proofs.StoreLemmas.{one_found, represents_one, the_one, opens_nothing}
+use Rattle.club_tables.specs.Tables.{HoldsClubAnyVersion}
+use Rattle.sqlite.specs.{Effect.Database, Held.state}
 
 pub returns-in-Ok-clause-was_clean : goal.returns-in-Ok-clause-was_clean
 returns-in-Ok-clause-was_clean g c clean = omega (arith, (rw c.over-tables.ensures at c.in-Ok.ensures.opens).survives.clean)

@@ -1,8 +1,8 @@
-use Rattle.std.proofs.Common.{Some, sym, ap, ◌∙◌}
-use Rattle.club_rows.specs.declared.key.Key.{Key}
-use Rattle.club_core.specs.Club.{key_named}
-use Rattle.club_store.proofs.{ReadingLemmas.{both_read, read_as, read_failed}, ViewLemmas.with_older}
 use Rattle.club_store.proofs.store.Store.key.Goals as goal
+use Rattle.std.proofs.Common.{Some, sym, ap, ◌∙◌}
+use Rattle.club_core.specs.Club.{key_named}
+use Rattle.club_rows.specs.declared.key.Key.{Key}
+use Rattle.club_store.proofs.StoreLemmas.{both_read, read_as, read_failed, with_older}
 
 pub returns-clause-reads : goal.returns-clause-reads
 returns-clause-reads g c =
