@@ -1,3 +1,1 @@
-pub mod EditLemmas
-pub mod WidthLemmas
-pub mod WordLemmas
+pub mod StepLemmas

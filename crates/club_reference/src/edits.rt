@@ -20,7 +20,7 @@ fn credit_row(member: &Member, name: &Name, points: u32) -> Member
 }
 
 /// Adds points to the credit of the member with this name.
-#[tactic(auto, using(crate::proofs::EditLemmas::edited_more))]
+#[tactic(auto, using(crate::proofs::StepLemmas::edited_more))]
 pub(crate) fn credit(members: &mut [Member], name: &Name, points: u32)
     requires { All (λ (member : MemberRow). member.credited ≤ credited_limit)
         (map (after.credited_member name.now points) members.old) }
@@ -42,7 +42,7 @@ fn debit_row(member: &Member, name: &Name, points: u32) -> Member
 }
 
 /// Subtracts points from the credit of the member with this name.
-#[tactic(auto, using(crate::proofs::EditLemmas::edited_more))]
+#[tactic(auto, using(crate::proofs::StepLemmas::edited_more))]
 pub(crate) fn debit(members: &mut [Member], name: &Name, points: u32)
     ensures { members.new ≡ map (after.debited_member name.now points) members.old }
 {
@@ -62,7 +62,7 @@ fn quota_row(member: &Member, name: &Name, quota: u8) -> Member
 }
 
 /// Sets the quota of the member with this name.
-#[tactic(auto, using(crate::proofs::EditLemmas::edited_more))]
+#[tactic(auto, using(crate::proofs::StepLemmas::edited_more))]
 pub(crate) fn set_quota(members: &mut [Member], name: &Name, quota: u8)
     ensures { members.new ≡ map (after.member_with_quota name.now quota) members.old }
 {
@@ -93,7 +93,7 @@ fn numbers_row(
 }
 
 /// Sets the places, price and opening hours of the facility with this name.
-#[tactic(auto, using(crate::proofs::EditLemmas::edited_more))]
+#[tactic(auto, using(crate::proofs::StepLemmas::edited_more))]
 pub(crate) fn set_numbers(
     facilities: &mut [Facility],
     name: &Name,
@@ -119,7 +119,7 @@ fn revoke_row(key: &Key, name: &Name) -> Key
 }
 
 /// Marks the key with this name as revoked.
-#[tactic(auto, using(crate::proofs::EditLemmas::edited_more))]
+#[tactic(auto, using(crate::proofs::StepLemmas::edited_more))]
 pub(crate) fn revoke(keys: &mut [Key], name: &Name)
     ensures { keys.new ≡ map (after.revoked_key name.now) keys.old }
 {
@@ -145,7 +145,7 @@ fn rotate_row(key: &Key, name: &Name, root: &Root, until: Moment) -> Key
 
 /// Replaces the root of the key with this name. The key's former root becomes the key's older root,
 /// which expires at the moment `until`.
-#[tactic(auto, using(crate::proofs::EditLemmas::edited_more))]
+#[tactic(auto, using(crate::proofs::StepLemmas::edited_more))]
 pub(crate) fn rotate(keys: &mut [Key], name: &Name, root: &Root, until: Moment)
     ensures { keys.new ≡ map (after.rotated_key name.now root.now until) keys.old }
 {
@@ -174,7 +174,7 @@ fn cancel_row(booking: &Booking, key: &Name, number: BookingNumber, refund: u32)
 
 /// Marks the booking with this key and this number as cancelled, and records the refund. A booking
 /// that is already cancelled doesn't change.
-#[tactic(auto, using(crate::proofs::EditLemmas::edited_more))]
+#[tactic(auto, using(crate::proofs::StepLemmas::edited_more))]
 pub(crate) fn cancel(bookings: &mut [Booking], key: &Name, number: BookingNumber, refund: u32)
     ensures { bookings.new ≡ map (after.cancelled_booking key.now number refund) bookings.old }
 {

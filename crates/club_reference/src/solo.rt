@@ -107,7 +107,7 @@ impl Club {
 
     /// Returns the number of persons in the slot, not counting the bookings of `member`, and
     /// whether the slot is closed. If `slot` is `None`, the number is 0 and `closed` is false.
-    #[tactic(auto, using(crate::proofs::WidthLemmas::sum_filtered_le))]
+    #[tactic(auto, using(crate::proofs::StepLemmas::sum_filtered_le))]
     pub fn outside(&self, member: &Name, slot: Option<Slot>) -> SlotUse
         ensures { result ≡ solo.outside member.now self.now slot }
     {
@@ -128,7 +128,7 @@ impl Club {
 
     /// Returns the answer to a request of one member. `self` is the member's part of the club, and
     /// `others` is the result of `outside` for the requested slot.
-    #[tactic(auto, using(crate::proofs::WordLemmas::answers_seen, crate::proofs::WordLemmas::seen_with_others))]
+    #[tactic(auto, using(crate::proofs::StepLemmas::answers_seen, crate::proofs::StepLemmas::seen_with_others))]
     fn answer_alone(&self, words: &Words, moment: Moment, others: SlotUse) -> Verdict
         ensures value { result ≡ solo.solo_verdict self.now (words_model words.now) moment others }
         ensures fits { FitsWidths self.now }

@@ -67,7 +67,7 @@ impl Club {
 
     /// Returns the view of a request that is made with this key. Returns `None` if the key's member
     /// doesn't exist.
-    #[tactic(auto, using(crate::proofs::WidthLemmas::sum_filtered_le))]
+    #[tactic(auto, using(crate::proofs::StepLemmas::sum_filtered_le))]
     fn view_of(&self, key: &Key, request: &Request, moment: Moment) -> Option<KeyView>
         ensures few { IfSome result (λ seen. seen.view.taken ≤ 50) }
         ensures value { result
@@ -209,7 +209,7 @@ impl Club {
 
     /// Returns the reply to a request that comes at this moment, and the change that the request
     /// makes.
-    #[tactic(auto, using(crate::proofs::WordLemmas::answers_seen))]
+    #[tactic(auto, using(crate::proofs::StepLemmas::answers_seen))]
     fn answer(&self, words: &Words, moment: Moment) -> Verdict
         ensures value { result ≡ verdict_in self.now (words_model words.now) moment }
         ensures fits { FitsWidths self.now }

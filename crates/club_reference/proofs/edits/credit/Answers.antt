@@ -1,8 +1,8 @@
-use Rattle.club_reference.proofs.EditLemmas.{holds_next}
+use Rattle.club_reference.proofs.edits.credit.Goals as goal
 use Rattle.std.proofs.Common.{◌≤◌, arith}
 use Rattle.club_core.specs.After.{credited_member}
+use Rattle.club_reference.proofs.StepLemmas.{holds_next}
 use Rattle.club_rows.specs.declared.member.Member.{Member}
-use Rattle.club_reference.proofs.edits.credit.Goals as goal
 
 pub credit_row-requires : goal.credit_row-requires
 credit_row-requires c =

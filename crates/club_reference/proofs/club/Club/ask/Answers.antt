@@ -1,7 +1,7 @@
-use Rattle.club_reference.{proofs.{WidthLemmas.{AllowsIfAny, fits_after, allows_answer}, WordLemmas.their_model}, specs.computed.Words.words_model}
+use Rattle.club_reference.proofs.club.Club.ask.Goals as goal
 use Rattle.std.proofs.{Common.{◌∙◌, rules, sym, ap, subst, arith}, lemmas.{Grind.common_steps, Result.err_from_is_err_and}}
 use Rattle.club_core.specs.declared.verdict.Verdict.{Verdict}
-use Rattle.club_reference.proofs.club.Club.ask.Goals as goal
+use Rattle.club_reference.{proofs.StepLemmas.{AllowsIfAny, fits_after, allows_answer, their_model}, specs.computed.Words.words_model}
 
 pub apply-requires : goal.apply-requires
 apply-requires c =

@@ -1,6 +1,6 @@
-use Rattle.club_reference.proofs.WidthLemmas.{fits_after, allows_command}
-use Rattle.std.proofs.Common.{◌∙◌, sym}
 use Rattle.club_reference.proofs.club.Club.office.Goals as goal
+use Rattle.std.proofs.Common.{◌∙◌, sym}
+use Rattle.club_reference.proofs.StepLemmas.{fits_after, allows_command}
 
 pub apply-requires : goal.apply-requires
 apply-requires c =

@@ -1,20 +1,49 @@
--- Lemmas for the proof that a club's numbers always fit their types.
-use Rattle.std.proofs.Common.{◌≡◌, ℕ, Bool, true, List, [], ◌∷◌, refl, arith, ◌+◌, ◌-◌, ◌≤◌, cond, ◌++◌, false, get_or, ◌∙◌, ap}
-use Rattle.std.proofs.lemmas.{Bool.Decides.nat_tests, List.{Elements.{All-head, All-tail, All-filter, All-push, All-map, filter_passes}, Folds.find-append}}
-use Rattle.std.{proofs.lemmas.{List.Sums.sum_by-cons, Slice.Eq.bytes_eq-Decides}, specs.{List.list_any, Prelude.{Option, Some, find, filter, map, All}}}
-use Rattle.std.specs.{Prelude.{option_map, fold, sum_by, None, Result, Ok}, Str.bytes_eq}
+-- Lemmas for editing lists, for the proof that a club's numbers always fit their types, and about
+-- the model of `Words`.
+use Rattle.club_core.specs.declared.request.Request.TheVariants as asked
+use Rattle.std.proofs.Common.{◌≡◌, ℕ, ◌+◌, ◌<◌, zero, suc, List, [], ◌∷◌, ◌++◌, length, take, drop, get_or, set, refl, arith, ◌∙◌, sym, ap, subst, add-one, map}
+use Rattle.std.proofs.lemmas.List.{get_or-map, length-map, Elements.{All-head, All-tail, All-filter, All-push, All-map, filter_passes, at_from_Contains}}
+use Rattle.std.proofs.lemmas.{Bool.Decides.{nat_tests, same_from_decides, Decides-like, Decides-by_or}, List.Folds.find-append, Slice.Eq.bytes_eq-Decides}
+use Rattle.std.{proofs.lemmas.List.Sums.sum_by-cons, specs.{List.list_any, Prelude.{All, find, filter, option_map, fold, sum_by, Result, Ok, Contains, Err}}}
+use Rattle.std.{proofs.{Common.{Bool, true, ◌-◌, ◌≤◌, cond, false, Option, Some, None, Decides}, Math.Path.fun_ext}, specs.{Str.bytes_eq, Vec.vec_items}}
 use Rattle.club_core.specs.{After.{after, credited_member, debited_member, member_with_quota, facility_with_numbers, cancelled_booking}, Answer.answer_to}
-use Rattle.club_core.specs.{Answer.answer_by_basis, Basis.{Basis, view_of, basis_of}, Club.{Club, member_named, is_key_of, facility_named, key_named}}
+use Rattle.club_core.specs.{Answer.answer_by_basis, Basis.{Basis, view_of, basis_of, seen_of}, Club.{Club, member_named, is_key_of, facility_named, key_named}}
 use Rattle.club_core.specs.{Club.bookings_of, Office.office_verdict, Pass.{Pass, Words}, Request.request_slot, Solo.{part_of, with_others, solo_verdict}}
 use Rattle.club_core.specs.{Sums.{is_in, taken_in, cost_of, is_under, spent_under, balance_of}, Verdict.{new_booking, verdict_of}}
 use Rattle.club_core.specs.declared.change.Change.{Change, TheVariants.{InsertMember, AddCredit, InsertFacility, InsertBooking, MarkCancelled, TakeCredit}}
 use Rattle.club_core.specs.declared.{change.Change.TheVariants.{ReplaceNumbers, ReplaceQuota}, command.Command.Command, pass_fault.PassFault.PassFault}
 use Rattle.club_core.specs.declared.{request.Request.Request, slot_use.SlotUse.SlotUse, view.View.View}
-use Rattle.club_reference.specs.Widths.{FitsWidths}
+use Rattle.club_reference.specs.{Words.{IsModelOf, IsPassModel, IsResultModel, answer_seen}, computed.Words.{pass_model, pass_result_model, words_model}}
+use Rattle.club_reference.specs.{Solo.with_outside, Laws.ModelsWords, Widths.FitsWidths, declared.words.{Words.Words as WordsInCode, Pass.Pass as PassInCode}}
 use Rattle.club_rows.specs.{Booking.{same_slot, persons_of}, Facility.charge_of, declared.{booking.Booking.Booking, facility.Facility.Facility, key.Key.Key}}
 use Rattle.club_rows.specs.declared.member.Member.{Member}
-use Rattle.club_values.specs.declared.slot.Slot.{Slot}
-use Rattle.club_core.specs.declared.request.Request.TheVariants as asked
+use Rattle.club_values.specs.{Reading.Reads, declared.slot.Slot.Slot}
+use Rattle.pass_caveats.specs.{Caveat.Understood, Fault.AreUnderstoodAs, Laws.ReadsWhatIsUnderstood, computed.CaveatOf.caveat_of, declared.caveat.Caveat.Caveat}
+
+-- The list after `f` has edited the elements before index `i`.
+abbrev pub edited : {X : Type 0} → (X → X) → ℕ → List X → List X
+edited f i xs = map f (take i xs) ++ drop i xs
+
+next : {X : Type 0} (f : X → X) (i : ℕ) (xs : List X) (d : X) → i < length xs → get_or (edited f i xs) i d ≡ get_or xs i d
+next f i [] d h = absurd (omega arith)
+next f zero (x ∷ xs) d h = refl
+next f (suc i) (x ∷ xs) d h = next f i xs d (omega arith)
+
+edited-next : {X : Type 0} (f : X → X) (i : ℕ) (xs : List X) (d : X) → i < length xs
+    → set (edited f i xs) i (f (get_or (edited f i xs) i d)) ≡ edited f (suc i) xs
+edited-next f i [] d h = absurd (omega arith)
+edited-next f zero (x ∷ xs) d h = refl
+edited-next f (suc i) (x ∷ xs) d h = ap (λ ys. f x ∷ ys) (edited-next f i xs d (omega arith))
+
+pub edited_more : {X : Type 0} (f : X → X) (i : ℕ) (xs ys : List X) (x y : X) → i < length xs → ys ≡ edited f i xs → y ≡ f (get_or ys i x)
+    → set ys i y ≡ edited f (i + 1) xs
+edited_more f i xs ys x y h same made = grind (arith, edited-next f i xs x h, add-one i)
+
+pub holds_next : {X : Type 0} (P : X → Type 0) (f : X → X) (i : ℕ) (xs ys : List X) (x : X) → i < length xs → ys ≡ edited f i xs → All P (map f xs)
+    → P (f (get_or ys i x))
+holds_next P f i xs ys x h same holds =
+    let at : get_or (map f xs) i (f x) ≡ f (get_or ys i x) = get_or-map f xs i x (f x) h ∙ ap f (sym (ap (λ zs. get_or zs i x) same ∙ next f i xs x h)) in
+    subst P at (holds i (f x) (rw length-map h))
 
 pub fold_less : {X : Type 0} (f : X → ℕ) (n : ℕ) (xs : List X) → fold (λ left x. left - f x) n xs ≡ n - sum_by f xs
 fold_less f n [] = omega arith
@@ -223,3 +252,68 @@ allows_solo club words moment others h =
 
 pub allows_command : (club : Club) (command : Command) (change : Change) → office_verdict club command ≡ Ok (Some change) → Allows club change
 allows_command club command change e = grind (arith, nat_tests)
+
+Decides-signed : (roots : List (List ℕ)) (root : List ℕ) → Decides (list_any (λ other. bytes_eq other root) roots) (Contains roots root)
+Decides-signed roots root =
+    Decides-like _ (λ h. (h.0, h.1, h.2 root)) (at_from_Contains roots root)
+    (Decides-by_or (λ other. bytes_eq other root) (λ other. other ≡ root) (list_any (λ other. bytes_eq other root))
+    (λ other. bytes_eq-Decides other root) refl (λ _ _. refl) roots)
+
+module _ (reads : ReadsWhatIsUnderstood) where
+  read_as : (text : List ℕ) (found : Option Caveat) → caveat_of text ≡ found → Reads (Understood text) found
+  read_as text None e = λ caveat h. let x = (reads text caveat).0 h in absurd (cc)
+  read_as text (Some caveat) e = (reads text caveat).1 e
+
+  one_reading : (text : List ℕ) (one : Option Caveat) → Reads (Understood text) one → caveat_of text ≡ one
+  one_reading text (Some caveat) h = (reads text caveat).0 h
+  one_reading text None h = let never = λ (caveat : Caveat) (e : caveat_of text ≡ Some caveat). h caveat ((reads text caveat).1 e) in grind (arith, never)
+
+  all_read : (texts : List (List ℕ)) → AreUnderstoodAs texts (map caveat_of texts)
+  all_read [] = tt
+  all_read (text ∷ texts) = (read_as text (caveat_of text) refl, all_read texts)
+
+  one_list : (texts : List (List ℕ)) (caveats : List (Option Caveat)) → AreUnderstoodAs texts caveats → map caveat_of texts ≡ caveats
+  one_list [] [] h = refl
+  one_list (text ∷ texts) (caveat ∷ caveats) h = cc (one_reading text caveat h.0, one_list texts caveats h.1)
+  one_list texts caveats h = absurd h
+
+  is_model : (pass : PassInCode) → IsPassModel pass (pass_model pass)
+  is_model pass = record {
+    key = refl;
+    caveats = all_read (map vec_items pass.caveats.items);
+    signed = λ root. let d = Decides-signed pass.roots.items root in (d.0, d.1);
+  }
+
+  one_model : (pass : PassInCode) (model : Pass) → IsPassModel pass model → pass_model pass ≡ model
+  one_model pass model h =
+      let computed = pass_model pass in
+      let caveats = one_list (map vec_items pass.caveats.items) model.caveats h.caveats in
+      let roots : computed.is_signed ≡ model.is_signed =
+      fun_ext (λ (root : List ℕ). sym (same_from_decides _ _ (h.signed root) (Decides-signed pass.roots.items root))) in
+      λ i. record { key = sym h.key i; caveats = caveats i; is_signed = roots i }
+
+  is_result_model : (pass : Result PassInCode PassFault) → IsResultModel pass (pass_result_model pass)
+  is_result_model (Ok pass) = is_model pass
+  is_result_model (Err fault) = refl
+
+  one_result : (pass : Result PassInCode PassFault) (model : Result Pass PassFault) → IsResultModel pass model → pass_result_model pass ≡ model
+  one_result (Ok pass) (Ok model) h = ap (λ (p : Pass). let read : Result Pass PassFault = Ok p in read) (one_model pass model h)
+  one_result (Err fault) (Err other) h = cc
+  one_result pass model h = absurd h
+
+  one_of : (words : WordsInCode) (model : Words) → IsModelOf words model → words_model words ≡ model
+  one_of words model h = let pass = one_result words.pass model.pass h.0 in λ i. record { pass = pass i; request = sym h.1 i }
+
+  pub models_words : ModelsWords
+  models_words words model = (one_of words model, λ e. subst (λ (m : Words). IsModelOf words m) e (is_result_model words.pass, refl))
+
+pub their_model : ModelsWords → (words : WordsInCode) → IsModelOf words (words_model words)
+their_model law words = (law words (words_model words)).1 refl
+
+pub answers_seen : (pass : Result Pass PassFault) (request : Request) (moment : ℕ) (basis : Option Basis)
+    → answer_seen pass request moment (option_map (seen_of request moment) basis) ≡ answer_to pass request moment basis
+answers_seen pass request moment basis = grind arith
+
+pub seen_with_others : (request : Request) (moment : ℕ) (others : SlotUse) (basis : Option Basis)
+    → option_map (with_outside others) (option_map (seen_of request moment) basis) ≡ option_map (seen_of request moment) (option_map (with_others others) basis)
+seen_with_others request moment others basis = grind arith
