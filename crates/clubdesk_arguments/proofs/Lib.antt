@@ -1,3 +1,1 @@
-pub mod ValueLemmas
 pub mod ArgumentsLemmas
-pub mod ReaderLemmas

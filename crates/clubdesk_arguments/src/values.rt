@@ -40,7 +40,7 @@ pub fn count_of(text: &str) -> Option<u32>
 }
 
 /// Parses a booking number from 1 to 999,999,999.
-#[tactic(auto, using(crate::proofs::ValueLemmas::number_made))]
+#[tactic(auto, using(crate::proofs::ArgumentsLemmas::number_made))]
 pub fn booking_number_of(text: &str) -> Option<BookingNumber>
     ensures { result ≡ spec.booking_number_of text.now }
 {

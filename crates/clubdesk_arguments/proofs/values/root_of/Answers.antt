@@ -1,6 +1,6 @@
-use Rattle.std.proofs.Common.{◌∙◌, ap, option_and_then, sym}
-use Rattle.clubdesk_arguments.{proofs.ValueLemmas.root_made, specs.Values.{has_key_root_length, key_root_of}}
 use Rattle.clubdesk_arguments.proofs.values.root_of.Goals as goal
+use Rattle.std.proofs.Common.{◌∙◌, ap, option_and_then, sym}
+use Rattle.clubdesk_arguments.{proofs.ArgumentsLemmas.root_made, specs.Values.{has_key_root_length, key_root_of}}
 
 pub returns-in_err-root : goal.returns-in_err-root
 unfolding key_root_of
