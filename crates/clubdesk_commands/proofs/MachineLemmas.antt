@@ -1,22 +1,20 @@
 -- Lemmas for comparing a server over a store with a server over a club.
-use Rattle.std.proofs.Common.{◌≡◌, ◌≢◌, ◌⊎◌, ℕ, false, List, Option, Some, None, Result, inl, inr, refl, ap}
-use Rattle.std.specs.{Prelude.String, declared.alloc.Global.Global}
+use Rattle.clubdesk_commands.specs.Does as does
+use Rattle.clubdesk_commands.specs.OfficeDesk as spec
+use Rattle.std.{proofs.Common.{◌≡◌, ◌≢◌, ◌⊎◌, ℕ, false, List, Option, Some, None, Result, inl, inr, refl, ap}, specs.Prelude.String}
+use Rattle.std.specs.declared.alloc.Global.{Global}
 use Rattle.clap.specs.Words.{Text}
-use Rattle.club_core.specs.{Answer.verdict_in, Club.Club, Pass.Words, Run.{Event, Asked, Response, ToMember}, Store.StoreGhosts}
-use Rattle.club_core.specs.declared.{command.Command.Command, refusal.Refusal.TheVariants.Unavailable, reply.Reply.{Reply, TheVariants.Refused}}
-use Rattle.club_core.specs.declared.request.Request.{Request}
+use Rattle.club_core.specs.{Run.{Event, Asked, Response, ToMember}, Store.StoreGhosts, declared.refusal.Refusal.TheVariants.Unavailable, Answer.verdict_in}
+use Rattle.club_core.specs.{declared.{command.Command.Command, reply.Reply.{Reply, TheVariants.Refused}, request.Request.Request}, Pass.Words, Club.Club}
 use Rattle.club_gate.specs.{Desk.{HasFailed, IsAnsweredBy, IsDecidedBy, IsRefusedBy, Steps}, Response.desk_presentation, declared.event.OfficeReply.OfficeReply}
 use Rattle.club_gate.specs.declared.fault.Fault.{Fault as DeskFault}
-use Rattle.club_http.specs.{Desk.AnswersBy}
+use Rattle.club_http.specs.Desk.{AnswersBy}
 use Rattle.club_laws.specs.Failed.{IsStep, is_unavailable}
 use Rattle.clubdesk_arguments.specs.declared.{fault.Fault.Fault, task.{Service.Service, Task.{Task, TheVariants.{Give, Key, ShowAccount}}}}
-use Rattle.clubdesk_commands.specs.{Does.{DeskShows, Does, IsAnswered}, Machine.{itself, machine_answers, machine_commands}}
-use Rattle.clubdesk_commands.specs.{OfficeDesk.{CarriesOutBy, DoesArguments}, Run.{FollowsMachine, RunsServer}}
-use Rattle.clubdesk_commands.specs.Does as does
-use Rattle.clubdesk_commands.proofs.AlikeLemmas.{Simulates, run_alike, same, so}
-use Rattle.jiff_core.specs.declared.timestamp.Timestamp.{Timestamp}
-use Rattle.clubdesk_commands.specs.OfficeDesk as spec
+use Rattle.clubdesk_commands.{proofs.RunLemmas.{Simulates, run_alike, same, so}, specs.{Does.{DeskShows, Does, IsAnswered}, Machine.{itself, machine_answers}}}
+use Rattle.clubdesk_commands.specs.{Machine.machine_commands, OfficeDesk.{CarriesOutBy, DoesArguments}, Run.{FollowsMachine, RunsServer}}
 use Rattle.desk_server.specs.{Served.Turn, declared.office.Answer.Answer}
+use Rattle.jiff_core.specs.declared.timestamp.Timestamp.{Timestamp}
 
 machine_steps : (club next : Club) (event : Event) (response : Response OfficeReply) → IsStep desk_presentation club event response next
     → Steps itself club next event response

@@ -1,19 +1,205 @@
--- Lemmas for the proof of `run`.
-use Rattle.std.proofs.Common.{◌≡◌, ℕ, List, Option, Result, Ok, Err, inr, map, rules}
-use Rattle.clap.specs.Words.{Text}
-use Rattle.jiff_core.specs.declared.timestamp.Timestamp.{Timestamp}
-use Rattle.club_core.specs.{Store.StoreGhosts, declared.store.StoreFault.StoreFault}
+-- Lemmas for comparing the servers of two desks, such as a server over a store with a server over
+-- a club, and for the proof of `run`.
+use Rattle.club_http.specs.Replied as replied
+use Rattle.clubdesk_commands.specs.Run as run
+use Rattle.desk_server.specs.Served as served
 use Rattle.club_core.specs.declared.store.StoreFault.TheVariants as store
-use Rattle.desk_server.specs.Served.{Turn}
-use Rattle.desk_server.specs.declared.databases.Databases.{Ghosts as DatabasesWords}
-use Rattle.desk_server.specs.declared.databases.Visit.{Ghosts as VisitWords}
+use Rattle.std.proofs.Common.{◌≡◌, ℕ, List, Option, Some, None, Result, Ok, Err, refl, ◌∙◌, arith, ◌∷◌, suc, zero, ◌<◌, [], get_or, length, map, option_copied}
+use Rattle.std.{proofs.{Common.{option_map, slice_get, string_bytes, ap, sym, inr, rules}, lemmas.Option.{slice_get-map, slice_get_past}}, specs.Borrow.Bor}
+use Rattle.std.specs.{Prelude.String, Slice.IsItemAt}
+use Rattle.clap.specs.Words.{Text}
+use Rattle.club_clock.specs.Moments.{GivesMoment, showing}
+use Rattle.club_core.specs.{Store.StoreGhosts, declared.{reply.Reply.Reply, request.Request.Request, store.StoreFault.StoreFault}}
+use Rattle.club_http.specs.{Replied.{AnswerRelation, IsReplied}, declared.fault.AnswerFault.{AnswerFault, TheVariants.{Read, Write}}}
 use Rattle.clubdesk_arguments.specs.{Arguments.{AskFor, ReadsArguments}, Fault.fault_of_opening, JobModel.JobModel, declared.fault.Fault.Fault}
 use Rattle.clubdesk_arguments.specs.declared.task.{Service.Service, Work.Work}
-use Rattle.command_line.specs.declared.job.Asked.{Asked, TheVariants.Perform}
-use Rattle.clubdesk_commands.specs.{Output.{EndsWork, Stream}, Run.{Announces, Serves}}
-use Rattle.clubdesk_commands.specs.Run as spec
+use Rattle.clubdesk_commands.specs.{OfficeDesk.{answers_with_clock, carries_out_with_clock}, Output.{EndsWork, Stream}, Run.{RunsServer, over_socket}}
+use Rattle.clubdesk_commands.specs.Run.{Announces, Serves}
+use Rattle.command_line.specs.declared.job.Asked.{Asked as AskedJob, TheVariants.Perform}
+use Rattle.desk_server.specs.Served.{AreCommanded, AreServed, CommandRelation, Ends, IsCarriedOut, IsExchanged, ServesOne, ServesTurns, Turn}
+use Rattle.desk_server.specs.declared.{databases.{Databases.Ghosts as DatabasesWords, Visit.Ghosts as VisitWords}, log.LogEvent.{LogEvent, TheVariants.Absent}}
+use Rattle.desk_server.specs.declared.{log.LogEvent.TheVariants.{Overrun, Unanswered, Exchanged, Commanded}, office.{Answer.Answer, Carried.Carried}}
+use Rattle.desk_server.specs.declared.serve.ClockOutOfRange.{ClockOutOfRange}
+use Rattle.jiff_core.specs.declared.timestamp.Timestamp.{Timestamp}
+use Rattle.serde_json.specs.{Data.{Data, items_depth, string}, Find.as_str, View.{items_of, view}, declared.value.Value.Value}
 
-pub asks_for : {X : Type 0} (text : X → Text) {given arguments : List X} {read : Asked JobModel} {job whole : JobModel} {work : Work} → given ≡ arguments
+module _ {D E : Type 0} (Clean : D → Type 0) (Represents : D → E → Type 0) where
+  -- If the first desk is clean after the change, it was clean before the change. In this case,
+  -- `Gives` relates each state of the second desk that the old desk represents to a state that the
+  -- new desk represents.
+  pub record Simulates (old new : D) (Gives : E → E → Type 0) : Type 0 where
+    pub was_clean : Clean new → Clean old
+    pub follows : Clean new → (e : E) → Represents old e → (next : E) × Represents new next × Gives e next
+
+  pub same : {old new : D} {Gives : E → E → Type 0} → new ≡ old → ((e : E) → Gives e e) → Simulates old new Gives
+  same is gives = record { was_clean = λ clean. rw (← is) clean; follows = λ clean e represents. (e, rw is represents, gives e) }
+
+  pub so : {old new : D} {Gives Wanted : E → E → Type 0} → Simulates old new Gives → ((e next : E) → Gives e next → Wanted e next) → Simulates old new Wanted
+  so simulates wants = record {
+    was_clean = simulates.was_clean;
+    follows = λ clean e represents. let next = simulates.follows clean e represents in (next.0, next.1, wants _ _ next.2);
+  }
+
+  after : {old mid new : D} {First Second Wanted : E → E → Type 0} → Simulates old mid First → Simulates mid new Second
+      → ((e now next : E) → First e now → Second now next → Wanted e next) → Simulates old new Wanted
+  after first second wants = record {
+    was_clean = λ clean. first.was_clean (second.was_clean clean);
+    follows = λ clean e represents.
+        let now = first.follows (second.was_clean clean) e represents in
+        let next = second.follows clean now.0 now.1 in
+        (next.0, next.1, wants _ _ _ now.2 next.2);
+  }
+
+  module _ (Answers : ℕ → AnswerRelation D) (Answers' : ℕ → AnswerRelation E) (Carries : CommandRelation D) (Carries' : CommandRelation E)
+      (answered : (moment : ℕ) (text : List ℕ) (request : Request) (old : D) (reply : Reply) (new : D) → Answers moment text request old reply new
+      → Simulates old new (λ e next. Answers' moment text request e reply next))
+      (commanded : (bytes : List ℕ) (old : D) (answer : Answer) (new : D) → Carries bytes old answer new
+      → Simulates old new (λ e next. Carries' bytes e answer next))
+    where
+      replies : (moment : ℕ) (bytes : List ℕ) {old new : D} (reply : Reply) → IsReplied (Answers moment) bytes old reply new
+          → Simulates old new (λ e next. IsReplied (Answers' moment) bytes e reply next)
+      replies moment bytes reply (replied.parser_refusal refusal reads is kept) = same kept (λ e. replied.parser_refusal refusal reads is refl)
+      replies moment bytes reply (replied.desk_reply decoded reads answers) =
+          so (answered moment decoded.pass decoded.request _ reply _ answers) (λ e next answers. replied.desk_reply decoded reads answers)
+      replies moment bytes reply (replied.out_of_memory holds is kept) = same kept (λ e. replied.out_of_memory holds is refl)
+
+      exchanges : (moment : ℕ) (bytes : List ℕ) {old new : D} (written : List ℕ) (outcome : Result Reply AnswerFault)
+          → IsExchanged (Answers moment) bytes old written outcome new
+          → Simulates old new (λ e next. IsExchanged (Answers' moment) bytes e written outcome next)
+      exchanges moment bytes written (Ok reply) (is, wrote) = so (replies moment bytes reply is) (λ e next gives. (gives, wrote))
+      exchanges moment bytes written (Err Read) (kept, nothing) = same kept (λ e. (refl, nothing))
+      exchanges moment bytes written (Err (Write n)) (reply, is, fewer, wrote) =
+          so (replies moment bytes reply is) (λ e next gives. (reply, gives, fewer, wrote))
+
+      carried_out : (carried : Option Carried) {old new : D} → IsCarriedOut Carries old carried new
+          → Simulates old new (λ e next. IsCarriedOut Carries' e carried next)
+      carried_out None kept = same kept (λ e. refl)
+      carried_out (Some carried) (bytes, answer, carries, is) = so (commanded bytes _ answer _ carries) (λ e next carries. (bytes, answer, carries, is))
+
+      module _ {Clock : Type 0} (Given : GivesMoment Clock) where
+        are_commanded : {clock : Clock} {old : D} {events : List LogEvent} {clock' : Clock} {new : D} → AreCommanded Given Carries clock old events clock' new
+            → Simulates old new (λ e next. AreCommanded Given Carries' clock e events clock' next)
+        are_commanded served.no_command = same refl (λ e. served.no_command)
+        are_commanded (served.one_command events moment carried c d c' new before gives is) =
+            after (are_commanded before) (carried_out carried is)
+            (λ e now next before is. served.one_command events moment carried c now c' next before gives is)
+
+        module _ (Ended : Ends) where
+          one : (clock : Clock) (old : D) (f : ℕ) (meanwhile : List LogEvent) (event : LogEvent) (clock' : Clock) (new : D) (f' : ℕ)
+              → ServesOne Given Answers Carries Ended clock old f meanwhile event clock' new f'
+              → Simulates old new (λ e next. ServesOne Given Answers' Carries' over_socket clock e f meanwhile event clock' next f')
+          one clock old f meanwhile Absent clock' new f' (none, counted, still, kept) = same kept (λ e. (none, counted, still, refl))
+          one clock old f meanwhile Overrun clock' new f' (none, counted, still, kept) = same kept (λ e. (none, counted, still, refl))
+          one clock old f meanwhile (Commanded moment carried) clock' new f' (none, counted, gives, is) =
+              so (carried_out carried is) (λ e next is. (none, counted, gives, is))
+          one clock old f meanwhile Unanswered clock' new f' never = absurd never
+          one clock old f meanwhile (Exchanged moment line outcome) clock' new f' (counted, client) =
+              after (are_commanded client.commanded) (exchanges moment client.bytes client.written outcome client.exchanged)
+              (λ e now next commanded exchanged. (
+                counted,
+                record {
+                  given = client.given;
+                  left = now;
+                  gives = client.gives;
+                  commanded = commanded;
+                  bytes = client.bytes;
+                  written = client.written;
+                  begins = client.begins;
+                  exchanged = exchanged;
+                  ended = tt;
+                },
+              ))
+
+          all : {clock : Clock} {old : D} {f : ℕ} {turns : List Turn} {clock' : Clock} {new : D} {f' : ℕ}
+              → AreServed Given Answers Carries Ended clock old f turns clock' new f'
+              → Simulates old new (λ e next. AreServed Given Answers' Carries' over_socket clock e f turns clock' next f')
+          all served.none = same refl (λ e. served.none)
+          all (served.more turns turn c d f1 c' new f' before due it) =
+              after (all before) (one c d f1 turn.meanwhile turn.event c' new f' it)
+              (λ e now next before it. served.more turns turn c now f1 c' next f' before due it)
+
+          serves : {turns : List Turn} {count : ℕ} {clock : Clock} {old : D} {f : ℕ} {outcome : Result Unit ClockOutOfRange} {clock' : Clock} {new : D} {f' : ℕ}
+              → ServesTurns Given Answers Carries Ended turns count clock old f outcome clock' new f'
+              → Simulates old new (λ e next. ServesTurns Given Answers' Carries' over_socket turns count clock e f outcome clock' next f')
+          serves it = so (all it.before) (λ e next before. record { turns = it.turns; last = it.last; before = before; ends = it.ends })
+
+      pub run_alike : {Machine : Type 0} (Shows : Machine → Option Timestamp → Type 0) (machine : Machine) (service : Service) (turns : List Turn)
+          (Noted : List Turn → Type 0) {old new : D} (result : Result Unit Fault) → RunsServer Shows machine Answers Carries service turns old new Noted result
+          → Simulates old new (λ e next. RunsServer Shows machine Answers' Carries' service turns e next Noted result)
+      run_alike Shows machine service turns Noted result (run.listened outcome last failures is it noted) =
+          so (serves (showing Shows) over_socket it) (λ e next it. run.listened outcome last failures is it noted)
+      run_alike Shows machine service turns Noted result (run.not_listened fault none kept nothing) = same kept (λ e. run.not_listened fault none refl nothing)
+
+by_itself : {Desk : Type 0} {old new : Desk} {Gives : Desk → Desk → Type 0} → Gives old new → Simulates (λ desk. Unit {0}) (λ desk e. desk ≡ e) old new Gives
+by_itself {new} gives = record { was_clean = λ clean. tt; follows = λ clean e is. (new, refl, rw (← is) gives) }
+
+-- A server over any connections is also a server over sockets.
+pub over_sockets : {Clock Desk : Type 0} {Given : GivesMoment Clock} {Answers : ℕ → AnswerRelation Desk} {Carries : CommandRelation Desk} {Ended : Ends}
+    {turns : List Turn} {count : ℕ} {clock : Clock} {desk : Desk} {f : ℕ} {outcome : Result Unit ClockOutOfRange} {clock' : Clock} {desk' : Desk} {f' : ℕ}
+    → ServesTurns Given Answers Carries Ended turns count clock desk f outcome clock' desk' f'
+    → ServesTurns Given Answers Carries over_socket turns count clock desk f outcome clock' desk' f'
+over_sockets {Given} {Answers} {Carries} {Ended} {desk} it =
+    let over = (serves _ _ Answers Answers Carries Carries (λ moment text request old reply new answers. by_itself answers)
+    (λ bytes old answer new carries. by_itself carries) Given Ended it).follows tt desk refl in
+    rw over.1 over.2
+
+module _ {S Machine : Type 0} (Shows : Machine → Option Timestamp → Type 0) (machine : Machine) (Answers : ℕ → AnswerRelation S)
+    (Carries : (Option Timestamp → Type 0) → CommandRelation S)
+  where
+    abbrev Always : S × Machine → Type 0
+    Always desk = Unit {0}
+
+    -- The desk has this store, and its clock is `machine`.
+    abbrev Has : S × Machine → S → Type 0
+    Has desk store = (desk.0 ≡ store) × (desk.1 ≡ machine)
+
+    answered : (moment : ℕ) (text : List ℕ) (request : Request) (old : S × Machine) (reply : Reply) (new : S × Machine)
+        → answers_with_clock Answers moment text request old reply new
+        → Simulates Always Has old new (λ store next. Answers moment text request store reply next)
+    answered moment text request old reply new (answers, still) =
+        record { was_clean = λ always. tt; follows = λ always store has. (new.0, (refl, still ∙ has.1), rw has.0 at answers) }
+
+    commanded : (bytes : List ℕ) (old : S × Machine) (answer : Answer) (new : S × Machine)
+        → carries_out_with_clock Shows Carries bytes old answer new
+        → Simulates Always Has old new (λ store next. Carries (Shows machine) bytes store answer next)
+    commanded bytes old answer new (carries, still) =
+        record { was_clean = λ always. tt; follows = λ always store has. (new.0, (refl, still ∙ has.1), rw (has.0, has.1) at carries) }
+
+    pub over_the_store : (service : Service) (turns : List Turn) (store left : S) (still : Machine) (Noted : List Turn → Type 0) (result : Result Unit Fault)
+        → RunsServer Shows machine (answers_with_clock Answers) (carries_out_with_clock Shows Carries) service turns (store, machine) (left, still) Noted result
+        → RunsServer Shows machine Answers (Carries (Shows machine)) service turns store left Noted result
+    over_the_store service turns store left still Noted result runs =
+        let alike = run_alike _ _ _ Answers _ (Carries (Shows machine)) answered commanded Shows machine service turns Noted result runs in
+        let it = alike.follows tt store (refl, refl) in
+        rw it.1.0 it.2
+
+pub no_depth : (texts : List Text) → items_depth (items_of (map string texts)) ≡ 0
+no_depth [] = refl
+no_depth (text ∷ texts) = rw (no_depth texts) refl
+
+pub same_items : (xs ys : List Data) → items_of xs ≡ items_of ys → xs ≡ ys
+same_items (x ∷ xs) (y ∷ ys) e = let rest : xs ≡ ys = same_items xs ys (cc) in cc
+same_items [] [] e = refl
+same_items _ _ e = cc
+
+-- If one of the values isn't a text, the values aren't all texts.
+pub not_texts : (values : List Value) (i : ℕ) (value : Value) → i < length values → value ≡ get_or values i value → as_str (view value) ≡ None
+    → (texts : List Text) → map view values ≡ map string texts → ⊥
+not_texts [] i value below is none texts e = omega arith
+not_texts (x ∷ values) i value below is none [] e = cc
+not_texts (x ∷ values) zero value below is none (text ∷ texts) e = let same : view value ≡ string text = cc in grind arith
+not_texts (x ∷ values) (suc i) value below is none (text ∷ texts) e = not_texts values i value (omega arith) is none texts (cc)
+
+second : {X : Type 0} (xs : List X) (lent : Option (Bor X)) → IsItemAt xs 1 lent → option_copied lent ≡ slice_get xs 1
+second xs None at = sym (slice_get_past xs 1 at.3)
+second (a ∷ b ∷ xs) (Some x) at = ap Some at.1
+second _ (Some x) at = absurd (omega (arith, at.3.0))
+
+pub named : {Z : Type 0} (arguments : List (String Z)) (name : Option (Bor (String Z))) → IsItemAt arguments 1 name
+    → option_map string_bytes (option_copied name) ≡ slice_get (map string_bytes arguments) 1
+named arguments name at = ap (λ found. option_map string_bytes found) (second arguments name at) ∙ sym (slice_get-map string_bytes arguments 1)
+
+pub asks_for : {X : Type 0} (text : X → Text) {given arguments : List X} {read : AskedJob JobModel} {job whole : JobModel} {work : Work} → given ≡ arguments
     → ReadsArguments (map text given) (Ok read) → read ≡ Perform whole → job ≡ whole → job.work ≡ work → AskFor (map text arguments) job.file work
 asks_for text same reads is as_whole asked = rw (← same, ← asked, as_whole) (rw is at reads)
 
@@ -30,6 +216,6 @@ pub serves_well : {D S R V Machine : Type 0} {databases : DatabasesWords D S R V
     {Shows : Machine → Option Timestamp → Type 0} {machine : Machine} {file : Text} {old new : D} {written : Stream} {result : Result Unit Fault}
     {service : Service} {Noted : List Turn → Type 0}
     → Serves databases visits ghosts Shows machine file service old new written Noted result → EndsWork written.no_change result
-serves_well (spec.not_opened fault opens is kept nothing) = not_opened fault is kept
-serves_well (spec.no_door fault store between opens closes is kept nothing) = not_opened fault is kept
-serves_well (spec.server_done store left between turns opens serves follows announces closes) = announces_well _ _ _ announces
+serves_well (run.not_opened fault opens is kept nothing) = not_opened fault is kept
+serves_well (run.no_door fault store between opens closes is kept nothing) = not_opened fault is kept
+serves_well (run.server_done store left between turns opens serves follows announces closes) = announces_well _ _ _ announces

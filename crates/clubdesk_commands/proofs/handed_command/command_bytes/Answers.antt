@@ -1,8 +1,8 @@
+use Rattle.clubdesk_commands.proofs.handed_command.command_bytes.Goals as goal
 use Rattle.std.proofs.{Common.{arith, ◌≡◌, ◌≤◌, ◌∷◌, ap, map, Some, ◌∙◌}, lemmas.{List.take_all, Result.IfOk-weaker}}
 use Rattle.clap.proofs.WalkLemmas.{IfOk-both}
-use Rattle.clubdesk_commands.{proofs.HandedLemmas.no_depth, specs.HandedCommand.command_data}
+use Rattle.clubdesk_commands.{proofs.RunLemmas.no_depth, specs.HandedCommand.command_data}
 use Rattle.serde_json.{proofs.Views.view-Array, specs.{Data.{array, depth}, Read.max_depth, View.{items_of, view}, declared.value.Value.Array}}
-use Rattle.clubdesk_commands.proofs.handed_command.command_bytes.Goals as goal
 
 pub returns : goal.returns
 returns g c =

@@ -1,7 +1,7 @@
-use Rattle.std.proofs.Common.{arith, ◌≡◌, ◌∷◌, map, sym}
-use Rattle.clubdesk_commands.{proofs.HandedLemmas.same_items, specs.HandedCommand.command_data}
-use Rattle.serde_json.specs.{Data.array, View.{items_of, view}}
 use Rattle.clubdesk_commands.proofs.handed_command.read_command.Goals as goal
+use Rattle.std.proofs.Common.{arith, ◌≡◌, ◌∷◌, map, sym}
+use Rattle.clubdesk_commands.{proofs.RunLemmas.same_items, specs.HandedCommand.command_data}
+use Rattle.serde_json.specs.{Data.array, View.{items_of, view}}
 
 pub returns-in_default-2 : goal.returns-in_default-2
 returns-in_default-2 c root arguments command =

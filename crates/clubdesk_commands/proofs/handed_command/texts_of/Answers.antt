@@ -1,6 +1,6 @@
-use Rattle.std.proofs.Common.{arith}
-use Rattle.clubdesk_commands.proofs.HandedLemmas.{not_texts}
 use Rattle.clubdesk_commands.proofs.handed_command.texts_of.Goals as goal
+use Rattle.std.proofs.Common.{arith}
+use Rattle.clubdesk_commands.proofs.RunLemmas.{not_texts}
 
 pub returns-in_default : goal.returns-in_default
 returns-in_default c =

@@ -1,8 +1,8 @@
+use Rattle.clubdesk_commands.specs.OfficeDesk as spec
+use Rattle.clubdesk_commands.proofs.office_desk.answer_command.Goals as goal
 use Rattle.std.{proofs.Common.{Err, ap, map, refl, sym, subst}, specs.String.string_bytes}
 use Rattle.clubdesk_arguments.specs.Arguments.{ReadsArguments}
-use Rattle.clubdesk_commands.specs.OfficeDesk as spec
 use Rattle.clubdesk_commands.proofs.RunLemmas.{asks_for}
-use Rattle.clubdesk_commands.proofs.office_desk.answer_command.Goals as goal
 
 pub returns-in-Ok-ShowText : goal.returns-in-Ok-ShowText
 returns-in-Ok-ShowText g c =

@@ -1,7 +1,7 @@
-use Rattle.std.proofs.Common.{Err, ap, refl}
 use Rattle.clubdesk_commands.specs.Run as spec
-use Rattle.clubdesk_commands.proofs.RunLemmas.{not_opened}
 use Rattle.clubdesk_commands.proofs.program.perform.Goals as goal
+use Rattle.std.proofs.Common.{Err, ap, refl}
+use Rattle.clubdesk_commands.proofs.RunLemmas.{not_opened}
 
 pub returns-in-Ok-Opened-clause-performs : goal.returns-in-Ok-Opened-clause-performs
 returns-in-Ok-Opened-clause-performs g c =

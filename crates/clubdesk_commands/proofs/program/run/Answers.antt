@@ -1,7 +1,7 @@
-use Rattle.std.proofs.Common.{Err, ap, refl}
 use Rattle.clubdesk_commands.specs.Run as spec
-use Rattle.clubdesk_commands.proofs.{RunLemmas.{asks_for, serves_well}, program.run.Goals.{in-Office, in-Rootless+in-Ok}}
 use Rattle.clubdesk_commands.proofs.program.run.Goals as goal
+use Rattle.std.proofs.Common.{Err, ap, refl}
+use Rattle.clubdesk_commands.proofs.{RunLemmas.{asks_for, serves_well}, program.run.Goals.{in-Office, in-Rootless+in-Ok}}
 
 pub returns-in-Ok-ShowText : goal.returns-in-Ok-ShowText
 returns-in-Ok-ShowText g c =

@@ -1,10 +1,9 @@
-use Rattle.std.proofs.Common.{refl, ◌≡◌, ◌⊎◌, ℕ, [], Result, Err, inl, inr}
-use Rattle.clubdesk_commands.specs.{Output.Stream, Run.StopsBefore}
-use Rattle.clubdesk_arguments.specs.declared.fault.Fault.{Fault, TheVariants.{Memory, InputOutput}}
 use Rattle.desk_server.specs.Served as served
 use Rattle.clubdesk_commands.specs.Run as spec
-use Rattle.clubdesk_commands.proofs.AlikeLemmas.{over_sockets}
 use Rattle.clubdesk_commands.proofs.server.serve.Goals as goal
+use Rattle.std.proofs.Common.{refl, ◌≡◌, ◌⊎◌, ℕ, [], Result, Err, inl, inr}
+use Rattle.clubdesk_arguments.specs.declared.fault.Fault.{Fault, TheVariants.{Memory, InputOutput}}
+use Rattle.clubdesk_commands.{proofs.RunLemmas.over_sockets, specs.{Output.Stream, Run.StopsBefore}}
 
 stops : (asked : ℕ) (written : Stream) (fault : Fault) → StopsBefore asked written fault
     → let result : Result Unit Fault = Err fault in (result ≡ Err Memory) ⊎ (result ≡ Err InputOutput)

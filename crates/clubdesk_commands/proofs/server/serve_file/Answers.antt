@@ -1,9 +1,8 @@
-use Rattle.std.proofs.Common.{Err, ap, refl}
 use Rattle.desk_server.specs.Served as served
-use Rattle.clubdesk_commands.specs.OfficeDesk.{CarriesOutBy}
 use Rattle.clubdesk_commands.specs.Run as spec
-use Rattle.clubdesk_commands.proofs.{ClockLemmas.over_the_store, MachineLemmas.follows_machine}
 use Rattle.clubdesk_commands.proofs.server.serve_file.Goals as goal
+use Rattle.std.proofs.Common.{Err, ap, refl}
+use Rattle.clubdesk_commands.{proofs.{MachineLemmas.follows_machine, RunLemmas.over_the_store}, specs.OfficeDesk.CarriesOutBy}
 
 pub returns-in-Err-clause-done : goal.returns-in-Err-clause-done
 returns-in-Err-clause-done g c = spec.not_opened c.in-Err.fault c.in-Err.ensures (ap Err c.from.ensures) refl served.nothing

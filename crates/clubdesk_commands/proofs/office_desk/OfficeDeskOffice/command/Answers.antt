@@ -1,7 +1,7 @@
-use Rattle.std.{proofs.Common.{Ok, Err, ap, refl, ◌∙◌}, specs.String.string_bytes}
 use Rattle.clubdesk_commands.specs.OfficeDesk as spec
-use Rattle.clubdesk_commands.proofs.NamedLemmas.{named}
 use Rattle.clubdesk_commands.proofs.office_desk.OfficeDeskOffice.command.Goals as goal
+use Rattle.std.{proofs.Common.{Ok, Err, ap, refl, ◌∙◌}, specs.String.string_bytes}
+use Rattle.clubdesk_commands.proofs.RunLemmas.{named}
 
 pub returns-in-Some-Ok : goal.returns-in-Some-Ok
 returns-in-Some-Ok g c =
