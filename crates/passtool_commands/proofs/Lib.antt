@@ -1,9 +1,1 @@
-pub mod OptionLemmas
-pub mod NarrowLemmas
-pub mod ListingLemmas
-pub mod ArgumentsLemmas
-pub mod CaveatTest
-pub mod StepLemmas
-pub mod OutputLemmas
-pub mod RunLemmas
-pub mod AnswerLaws
+pub mod CommandLemmas

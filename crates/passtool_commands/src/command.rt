@@ -45,7 +45,7 @@ impl<'a> Job<'a> for Command<'a> {
 
     ghost Reads = { ReadsCommand };
 
-    #[tactic(auto, using(crate::proofs::CaveatTest::values_read))]
+    #[tactic(auto, using(crate::proofs::CommandLemmas::values_read))]
     fn read(
         alloc: Global,
         name: Name,

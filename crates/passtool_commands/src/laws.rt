@@ -34,13 +34,13 @@ pub fn verify_decides_signed()
 }
 
 /// The pass that `mint` makes is signed under the root of `mint`.
-#[tactic(auto, using(crate::proofs::AnswerLaws::mint_signs))]
+#[tactic(auto, using(crate::proofs::CommandLemmas::mint_signs))]
 pub fn mint_signs()
     ensures { MintSigns }
 {}
 
 /// If a pass is signed under a root, it stays signed under this root after `narrow` adds caveats.
-#[tactic(auto, using(crate::proofs::AnswerLaws::narrowing_keeps_signed))]
+#[tactic(auto, using(crate::proofs::CommandLemmas::narrowing_keeps_signed))]
 pub fn narrowing_keeps_signed()
     ensures { NarrowingKeepsSigned }
 {}

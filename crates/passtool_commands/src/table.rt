@@ -118,7 +118,7 @@ static PASSTOOL: Program<Name> = Program {
 impl Commands for Name {
     ghost table = { passtool };
 
-    #[tactic(auto, using(crate::proofs::ArgumentsLemmas::is_good), unfolding(crate::specs::Application::passtool))]
+    #[tactic(auto, using(crate::proofs::CommandLemmas::is_good), unfolding(crate::specs::Application::passtool))]
     fn application<'a>(alloc: Global) -> Result<Command<'a>, AllocError> {
         make_application(alloc, &PASSTOOL)
     }

@@ -1,4 +1,4 @@
-use Rattle.passtool_commands.proofs.AnswerLaws as laws
+use Rattle.passtool_commands.proofs.CommandLemmas as laws
 use Rattle.passtool_commands.proofs.laws.answers_once.Goals as goal
 
 pub returns : goal.returns

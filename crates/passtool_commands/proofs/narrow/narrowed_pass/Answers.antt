@@ -1,6 +1,6 @@
-use Rattle.std.proofs.{Common.{◌∙◌, Err, length, ap, refl, arith}, lemmas.Result.err_from_is_err_and}
-use Rattle.passtool_commands.proofs.NarrowLemmas.{all_added, counted_on, grown, one_added, one_refused}
 use Rattle.passtool_commands.proofs.narrow.narrowed_pass.Goals as goal
+use Rattle.std.proofs.{Common.{◌∙◌, Err, length, ap, refl, arith}, lemmas.Result.err_from_is_err_and}
+use Rattle.passtool_commands.proofs.CommandLemmas.{all_added, counted_on, grown, one_added, one_refused}
 
 pub loop-caveat-init : goal.loop-caveat-init
 loop-caveat-init c = record { left = refl; counted = omega arith; few = c.requires }

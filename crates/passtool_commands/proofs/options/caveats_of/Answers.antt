@@ -1,7 +1,7 @@
+use Rattle.passtool_commands.proofs.options.caveats_of.Goals as goal
 use Rattle.std.proofs.{Common.{◌∙◌, Some, None, map, codes}, lemmas.Result.IfOk-weaker}
 use Rattle.clap.specs.Words.{found_of}
-use Rattle.passtool_commands.proofs.OptionLemmas.{values_read}
-use Rattle.passtool_commands.proofs.options.caveats_of.Goals as goal
+use Rattle.passtool_commands.proofs.CommandLemmas.{raw_values_read as values_read}
 
 pub returns-in-Some : goal.returns-in-Some
 returns-in-Some c =

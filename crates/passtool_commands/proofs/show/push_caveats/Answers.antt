@@ -1,6 +1,6 @@
-use Rattle.std.{proofs.Common.{◌≡◌, ◌+◌, ◌++◌, codes, rules, refl, arith}, specs.Fmt.decimal}
-use Rattle.passtool_commands.proofs.ListingLemmas.{caveat_written, no_caveat_left}
 use Rattle.passtool_commands.proofs.show.push_caveats.Goals as goal
+use Rattle.std.{proofs.Common.{◌≡◌, ◌+◌, ◌++◌, codes, rules, refl, arith}, specs.Fmt.decimal}
+use Rattle.passtool_commands.proofs.CommandLemmas.{caveat_written, no_caveat_left}
 
 pub loop-index-init : goal.loop-index-init
 loop-index-init c = refl

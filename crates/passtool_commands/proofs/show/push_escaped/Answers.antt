@@ -1,6 +1,6 @@
-use Rattle.std.proofs.Common.{refl, arith}
-use Rattle.passtool_commands.proofs.ListingLemmas.{byte_written, none_left}
 use Rattle.passtool_commands.proofs.show.push_escaped.Goals as goal
+use Rattle.std.proofs.Common.{refl, arith}
+use Rattle.passtool_commands.proofs.CommandLemmas.{byte_written, none_left}
 
 pub loop-byte-init : goal.loop-byte-init
 loop-byte-init c = refl

@@ -1,6 +1,6 @@
-use Rattle.std.proofs.Common.{map}
-use Rattle.passtool_commands.proofs.RunLemmas.{performs_alone, performs_arguments, refused_alone, refused_arguments}
 use Rattle.passtool_commands.proofs.tool.run.Goals as goal
+use Rattle.std.proofs.Common.{map}
+use Rattle.passtool_commands.proofs.CommandLemmas.{performs_alone, performs_arguments, refused_alone, refused_arguments}
 
 pub returns-in-Err-clause-arguments : goal.returns-in-Err-clause-arguments
 returns-in-Err-clause-arguments g c = rw c.from.ensures (refused_arguments (map g.S.AsStr.text c.args.arguments.now) c.in-Err.fault c.in-Err.ensures)

@@ -1,6 +1,6 @@
-use Rattle.std.proofs.Common.{◌∙◌, ap, sym, not}
-use Rattle.passtool_commands.{proofs.OptionLemmas.place_map, specs.{Arguments.first_unknown, computed.Arguments.is_understood}}
 use Rattle.passtool_commands.proofs.caveats.Caveats.first_unknown.Goals as goal
+use Rattle.std.proofs.Common.{◌∙◌, ap, sym, not}
+use Rattle.passtool_commands.{proofs.CommandLemmas.place_map, specs.{Arguments.first_unknown, computed.Arguments.is_understood}}
 
 pub returns : goal.returns
 returns c =

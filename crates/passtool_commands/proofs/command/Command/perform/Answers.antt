@@ -1,6 +1,6 @@
-use Rattle.std.proofs.{Common.inr, lemmas.Result.err_from_is_err_and}
-use Rattle.passtool_commands.proofs.RunLemmas.{begun, failed, performed}
 use Rattle.passtool_commands.proofs.command.Command.perform.Goals as goal
+use Rattle.std.proofs.{Common.inr, lemmas.Result.err_from_is_err_and}
+use Rattle.passtool_commands.proofs.CommandLemmas.{begun, failed, performed}
 
 pub returns-in_err-answer-clause-answer : goal.returns-in_err-answer-clause-answer
 returns-in_err-answer-clause-answer g c =

@@ -1,6 +1,6 @@
-use Rattle.std.proofs.Common.{◌≡◌, ◌∙◌, ap₂, map, sym}
-use Rattle.passtool_commands.{proofs.StepLemmas.goes_on, specs.Answer.{IsOnly, WritesPass, narrowing, new_pass}}
 use Rattle.passtool_commands.proofs.mint.Mint.answer.Goals as goal
+use Rattle.std.proofs.Common.{◌≡◌, ◌∙◌, ap₂, map, sym}
+use Rattle.passtool_commands.{proofs.CommandLemmas.goes_on, specs.Answer.{IsOnly, WritesPass, narrowing, new_pass}}
 
 pub returns : goal.returns
 returns c =

@@ -1,9 +1,0 @@
--- Lemmas for the proof that `clap`'s contract covers the program's table of commands.
-use Rattle.std.proofs.Common.{refl}
-use Rattle.clap.proofs.OnLiterals.{clap_on_literals}
-use Rattle.command_line.specs.Table.{IsGood}
-use Rattle.passtool_commands.specs.Application.{passtool}
-
-pub is_good : IsGood passtool
-unfolding clap_on_literals passtool
-is_good = record { free = refl; rules = λ value. refl; takes = λ value. refl }
