@@ -1,12 +1,12 @@
 -- Lemmas for the proofs of `Zone::from_rule` and `Zone::moment_at`.
 use Rattle.std.proofs.{Common.{◌≡◌, ◌↔◌, ℕ, ◌+◌, ◌*◌, ◌<◌, ◌≤◌, Bool, cond, true, false, List, Option, Some, None, inl, inr, refl, arith}, lemmas.Bool.cases_lt}
 use Rattle.std.specs.Prelude.{IsSome, IfSome, is_some, ℤ, pos, negsuc, ◌+ℤ◌, ◌*ℤ◌}
-use borrow.Author.Differences.{ints}
+use Rattle.club_clock.specs.Zone.{IsInMinute, IsShown, IsZoneOf, zone_of}
+use Rattle.club_values.specs.Moment.{IsDay, IsMoment}
 use Rattle.jiff_core.specs.{Date.epoch_day, DateTime.civil_nanos, Time.time_nanos, Timestamp.nanos_of_seconds, declared.civil.datetime.DateTime.DateTime}
 use Rattle.jiff_core.specs.declared.civil.time.Time.{Time}
 use Rattle.jiff_tz.specs.{PosixReader.read_whole, PosixRule.offset_at, declared.posix.TimeZone.TimeZone}
-use Rattle.club_values.specs.{Day.IsDay, Moment.IsMoment}
-use Rattle.club_clock.specs.Zone.{IsInMinute, IsShown, IsZoneOf, zone_of}
+use borrow.Author.Differences.{ints}
 
 pub zone_read : (text : List ℕ) → IsSome (read_whole text) → Some text ≡ zone_of text
 unfolding zone_of

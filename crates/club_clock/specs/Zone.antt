@@ -1,8 +1,8 @@
 -- This file defines the civil time in the club's zone.
 use Rattle.std.specs.Prelude.{◌≡◌, ℕ, ◌+◌, ◌*◌, ℤ, pos, ◌+ℤ◌, ◌≤ℤ◌, ◌<ℤ◌, List, is_some, if◌then◌else◌, Option, Some, None, MatchOption}
+use Rattle.club_values.specs.{Moment.IsMoment, Number.Reads}
 use Rattle.jiff_core.specs.{Timestamp.nanos_of_seconds, declared.timestamp.Timestamp.Timestamp}
 use Rattle.jiff_tz.specs.{PosixReader.read_whole, PosixRule.offset_at, PosixText.tz_view, declared.posix.TimeZone.TimeZone}
-use Rattle.club_values.specs.{Moment.IsMoment, Reading.Reads}
 
 -- Returns the text if the text is a time zone rule of POSIX (IEEE Std 1003.1, 8.3). Otherwise
 -- returns `None`.

@@ -2,8 +2,8 @@
 use Rattle.std.proofs.Common.{ℕ, Option, Some, Ok, arith, ◌≡◌, ◌<◌, ◌≤◌, true, List, [], ◌∷◌, refl, sym, ◌∙◌, ◌⊎◌, inl, inr, zero, suc, Bool, length, get_or}
 use Rattle.std.{proofs.{Common.ap, lemmas.{Bool.and_parts, Slice.Eq.bytes_eq-Decides}}, specs.{List.list_any, Prelude.{Result, filter, fold, max, ◌&&◌, ◌==◌}}}
 use Rattle.std.specs.{Prelude.{find, sum_by, Contains}, Str.bytes_eq}
-use Rattle.club_core.specs.{Answer.answer_to, Basis.{Basis, view_of}, Club.{Club, is_key_of}, Laws.{KeepsWhereRefused, RefusalsChangeNothing, MostTaken}}
-use Rattle.club_core.specs.{Laws.OwnBookings, Pass.Pass, Sums.{is_at, taken_in, cost_of, is_under}, Verdict.verdict_of, declared.pass_fault.PassFault.PassFault}
+use Rattle.club_core.specs.{Answer.answer_to, Basis.{Basis, view_of}, Club.{Club, is_key_of, is_at, taken_in, cost_of, is_under}, Laws.KeepsWhereRefused}
+use Rattle.club_core.specs.{Laws.{RefusalsChangeNothing, MostTaken, OwnBookings}, Request.Pass, Verdict.verdict_of, declared.pass_fault.PassFault.PassFault}
 use Rattle.club_core.specs.declared.{request.Request.Request, view.View.View}
 use Rattle.club_rows.specs.declared.{booking.Booking.Booking, key.Key.Key}
 use Rattle.club_values.specs.declared.slot.Slot.{Slot}

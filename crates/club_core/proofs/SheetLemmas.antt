@@ -9,8 +9,8 @@ use Rattle.std.specs.{Fmt.{char_count, take_chars, padded, padded_integral, form
 use Rattle.std.specs.{List.repeat, Ordering.{nat_cmp, ordering_reverse}, Prelude.{All, AllPairs, Contains, IsPermutation, filter, replicate, codes, sum_by}}
 use Rattle.std.specs.declared.cmp.Ordering.{Ordering, TheVariants.{Equal, Greater, Less}}
 use Rattle.club_core.specs.{Club.{Club, IsSound}, Sheet.{AreRowsOf, IsBefore, Precedes, is_on, left_in, right_in, totals_text}}
-use Rattle.club_rows.specs.{Booking.persons_of, declared.booking.Booking.Booking}
-use Rattle.club_values.specs.{Digits.two_digits, Name.{is_name_byte, IsName}}
+use Rattle.club_rows.specs.{Rows.persons_of, declared.booking.Booking.Booking}
+use Rattle.club_values.specs.{Name.{is_name_byte, IsName}, Number.two_digits}
 use lib.Utf8.{encode}
 
 Contains-cons_cases : {X : Type 0} (y : X) (xs : List X) (x : X) → Contains (y ∷ xs) x → (y ≡ x) ⊎ Contains xs x

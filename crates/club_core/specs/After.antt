@@ -2,12 +2,12 @@
 -- member's part of the club, and whether it adds a row.
 use Rattle.std.specs.Prelude.{ℕ, ◌+◌, ◌-◌, ◌==◌, ◌&&◌, ◌||◌, not, Bool, List, [], ◌∷◌, ◌++◌, map, filter, Some, if◌then◌else◌, ◌≡◌, ◌≤◌, ◌<◌, ◌^◌, true, false}
 use Rattle.std.specs.{Prelude.None, Str.bytes_eq}
-use Rattle.club_values.specs.{declared.slot.Slot.Slot, Moment.IsMoment}
-use Rattle.club_rows.specs.{Booking.same_slot, declared.{booking.Booking.Booking, facility.Facility.Facility, key.{Key.Key, OlderRoot.OlderRoot}}}
-use Rattle.club_rows.specs.{declared.member.Member.Member, Limits.{IsRoot, quota_limit}, Rows.{IsMember, IsFacility, IsKey, IsSlot, IsBooking}}
-use Rattle.club_core.specs.{Club.{Club, is_key_of}, Sums.is_under, declared.change.Change.{Change, TheVariants.{InsertMember, AddCredit, TakeCredit}}}
-use Rattle.club_core.specs.declared.change.Change.TheVariants.{InsertFacility, ReplaceNumbers, InsertKey, MarkRevoked, ReplaceRoot, MarkClosed, MarkOpen}
-use Rattle.club_core.specs.{declared.change.Change.TheVariants.{ReplaceQuota, InsertBooking, MarkCancelled}, Office.are_limits}
+use Rattle.club_core.specs.{Club.{Club, is_key_of, is_under}, Office.are_limits, declared.change.Change.{Change, TheVariants.{InsertMember, AddCredit}}}
+use Rattle.club_core.specs.declared.change.Change.TheVariants.{TakeCredit, InsertFacility, ReplaceNumbers, InsertKey, MarkRevoked, ReplaceRoot, MarkClosed}
+use Rattle.club_core.specs.declared.change.Change.TheVariants.{MarkOpen, ReplaceQuota, InsertBooking, MarkCancelled}
+use Rattle.club_rows.specs.{Rows.{same_slot, IsRoot, quota_limit, IsMember, IsFacility, IsKey, IsSlot, IsBooking}, declared.booking.Booking.Booking}
+use Rattle.club_rows.specs.declared.{facility.Facility.Facility, key.{Key.Key, OlderRoot.OlderRoot}, member.Member.Member}
+use Rattle.club_values.specs.{Moment.IsMoment, declared.slot.Slot.Slot}
 
 -- A member's row after a credit. Only the row of the member with this name changes.
 abbrev pub credited_member : List ℕ → ℕ → Member → Member

@@ -1,16 +1,15 @@
 -- Defines the answer to a request. The rules first accept or refuse the pass, and then decide the
 -- request. The answer depends only on the request, the pass, the moment of the request and the
 -- basis.
-use Rattle.std.specs.Prelude.{ℕ, not, Bool, false, [], ◌∷◌, Option, Some, None, Result, Ok, Err, is_some, option_map}
-use Rattle.pass_caveats.specs.{Fault.first_fault_of, declared.{ask.Ask.Ask, fault.CaveatFault.{CaveatFault, TheVariants.{NotUnderstood, Denied}}}}
-use Rattle.club_rows.specs.{Facility.charge_of, declared.facility.Facility.Facility}
-use Rattle.club_core.specs.{Basis.{Basis, basis_of, view_of}, Club.Club, Lines.{line_if, first_of}, Pass.{Pass, Words, is_signed_under}}
-use Rattle.club_core.specs.{Request.{request_action, request_slot, request_guests}, Verdict.{refusal_verdict, verdict_of}}
-use Rattle.club_core.specs.declared.{pass_fault.PassFault.{PassFault, TheVariants.{TooLong, Malformed, ThirdParty, TooMany}}, refusal.Refusal.Refusal}
-use Rattle.club_core.specs.declared.refusal.Refusal.TheVariants.{PassTooLong, PassMalformed, ThirdPartyCaveat, TooManyCaveats, NotVerified, KeyRevoked}
-use Rattle.club_core.specs.declared.{refusal.Refusal.TheVariants.{CaveatNotUnderstood, CaveatDenies}, request.Request.Request, verdict.Verdict.Verdict}
-use Rattle.club_core.specs.declared.view.View.{View}
 use Rattle.club_core.specs.declared.request.Request.TheVariants as asked
+use Rattle.std.specs.Prelude.{ℕ, not, Bool, false, [], ◌∷◌, Option, Some, None, Result, Ok, Err, is_some, option_map}
+use Rattle.club_core.specs.{Basis.{Basis, basis_of, view_of}, Club.Club, Request.{Pass, Words, is_signed_under, request_action, request_slot, request_guests}}
+use Rattle.club_core.specs.{Verdict.{line_if, first_of, refusal_verdict, verdict_of}, declared.pass_fault.PassFault.{PassFault, TheVariants.TooLong}}
+use Rattle.club_core.specs.declared.{pass_fault.PassFault.TheVariants.{Malformed, ThirdParty, TooMany}, refusal.Refusal.{Refusal, TheVariants.PassTooLong}}
+use Rattle.club_core.specs.declared.refusal.Refusal.TheVariants.{PassMalformed, ThirdPartyCaveat, TooManyCaveats, NotVerified, KeyRevoked, CaveatNotUnderstood}
+use Rattle.club_core.specs.declared.{refusal.Refusal.TheVariants.CaveatDenies, request.Request.Request, verdict.Verdict.Verdict, view.View.View}
+use Rattle.club_rows.specs.{Rows.charge_of, declared.facility.Facility.Facility}
+use Rattle.pass_caveats.specs.{Fault.first_fault_of, declared.{ask.Ask.Ask, fault.CaveatFault.{CaveatFault, TheVariants.{NotUnderstood, Denied}}}}
 
 -- The points that the request would charge. Only a booking of a known facility, with an unused
 -- number, charges points.

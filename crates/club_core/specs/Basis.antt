@@ -2,12 +2,11 @@
 -- depend. The view contains the rows and sums that the rules need to decide the request. `view_of`
 -- computes the view from the basis.
 use Rattle.std.specs.Prelude.{ℕ, false, List, Option, Some, None, Result, Ok, Err, option_map, option_and_then}
+use Rattle.club_core.specs.Club.{Club, member_named, facility_named, key_named, bookings_of, is_closed, taken_in, spent_under, balance_of, count_to_come}
+use Rattle.club_core.specs.{Club.booking_under, Request.{Pass, Words, request_slot, request_number}, declared.account.MemberAccount.MemberAccount}
+use Rattle.club_core.specs.declared.{pass_fault.PassFault.PassFault, request.Request.Request, slot_use.SlotUse.SlotUse, view.{KeyView.KeyView, View.View}}
+use Rattle.club_rows.specs.{Rows.row_of_key, declared.{booking.Booking.Booking, facility.Facility.Facility, key.Key.Key, member.Member.Member}}
 use Rattle.club_values.specs.declared.slot.Slot.{Slot}
-use Rattle.club_rows.specs.{Key.row_of_key, declared.{booking.Booking.Booking, facility.Facility.Facility, key.Key.Key, member.Member.Member}}
-use Rattle.club_core.specs.{Club.{Club, member_named, facility_named, key_named, bookings_of, is_closed}, Pass.{Pass, Words}}
-use Rattle.club_core.specs.{Request.{request_slot, request_number}, Sums.{taken_in, spent_under, balance_of, count_to_come, booking_under}}
-use Rattle.club_core.specs.declared.{account.MemberAccount.MemberAccount, pass_fault.PassFault.PassFault, request.Request.Request, slot_use.SlotUse.SlotUse}
-use Rattle.club_core.specs.declared.view.{KeyView.KeyView, View.View}
 
 -- The number of persons in a slot, summed over these bookings, and whether the slot is closed.
 -- Without a slot, the number of persons is 0 and `closed` is false.

@@ -1,9 +1,56 @@
--- Defines a club: its rows and its invariants. A club stores no sums.
-use Rattle.std.specs.{List.list_any, Prelude.{◌≡◌, ◌≢◌, ℕ, ◌≤◌, Bool, List, [], map, filter, find, sum_by, Option, All, AllPairs, Contains}, Str.bytes_eq}
-use Rattle.club_values.specs.declared.slot.Slot.{Slot}
-use Rattle.club_rows.specs.{Booking.same_slot, Rows.{IsMember, IsFacility, IsKey, IsSlot, IsBooking}, declared.booking.Booking.Booking}
-use Rattle.club_rows.specs.declared.{facility.Facility.Facility, key.Key.Key, member.Member.Member}
-use Rattle.club_core.specs.Sums.{cost_of, taken_in}
+-- Defines a club: its rows, the sums over its bookings and its invariants. A club stores no sums. A
+-- store keeps a key's older root separately from the key's row.
+use Rattle.std.specs.{List.list_any, Prelude.{ℕ, ◌-◌, ◌==◌, ◌&&◌, not, Bool, List, length, nat_lt, filter, find, fold, max, sum_by, Option, ◌≡◌, ◌≢◌, ◌≤◌, []}}
+use Rattle.std.specs.{Prelude.{map, All, AllPairs, Contains, option_and_then}, Str.bytes_eq}
+use Rattle.club_rows.specs.{Rows.{same_slot, persons_of, IsMember, IsFacility, IsKey, IsSlot, IsBooking}, declared.booking.Booking.Booking}
+use Rattle.club_rows.specs.declared.{facility.Facility.Facility, key.{Key.Key, OlderRoot.OlderRoot}, member.Member.Member}
+use Rattle.club_values.specs.{Moment.start_of, declared.slot.Slot.Slot}
+
+-- Whether a booking occupies places in the slot. A cancelled booking occupies no places.
+abbrev pub is_in : Slot → Booking → Bool
+is_in slot booking = not booking.cancelled && same_slot booking.slot slot
+
+-- The number of persons in the slot, summed over these bookings.
+abbrev pub taken_in : Slot → List Booking → ℕ
+taken_in slot bookings = sum_by persons_of (filter (is_in slot) bookings)
+
+-- Whether a booking's slot is at the facility with this name.
+abbrev pub is_at : List ℕ → Booking → Bool
+is_at facility booking = bytes_eq booking.slot.facility facility
+
+-- The highest number of persons in any slot of the facility. The number is 0 if the facility has no
+-- bookings.
+abbrev pub most_taken_in : List ℕ → List Booking → ℕ
+most_taken_in facility bookings = fold (λ most booking. max most (taken_in booking.slot bookings)) 0 (filter (is_at facility) bookings)
+
+-- The points that a booking has cost: its charge minus its refund.
+abbrev pub cost_of : Booking → ℕ
+cost_of booking = booking.charge - booking.refund
+
+-- Whether the booking's key has this name.
+abbrev pub is_under : List ℕ → Booking → Bool
+is_under key booking = bytes_eq booking.key key
+
+-- The points that a key has spent, summed over the key's bookings in the list.
+abbrev pub spent_under : List ℕ → List Booking → ℕ
+spent_under key bookings = sum_by cost_of (filter (is_under key) bookings)
+
+-- A member's balance: the points credited to the member minus the cost of these bookings.
+abbrev pub balance_of : Member → List Booking → ℕ
+balance_of member bookings = member.credited - sum_by cost_of bookings
+
+-- Whether a booking is open. An open booking isn't cancelled, and its slot begins after the given
+-- moment.
+abbrev pub is_to_come : ℕ → Booking → Bool
+is_to_come moment booking = not booking.cancelled && nat_lt moment (start_of booking.slot)
+
+-- The number of these bookings that are open.
+abbrev pub count_to_come : ℕ → List Booking → ℕ
+count_to_come moment bookings = length (filter (is_to_come moment) bookings)
+
+-- The key's booking with this number.
+abbrev pub booking_under : List ℕ → ℕ → List Booking → Option Booking
+booking_under key number bookings = find (λ booking. is_under key booking && booking.number == number) bookings
 
 -- The rows of a club, and the closed slots. Each list begins with the oldest element.
 pub record Club : Type 0 where
@@ -74,3 +121,8 @@ pub record IsSound (club : Club) : Type 0 where
   pub balances : All (λ (member : Member). sum_by cost_of (bookings_of member.name club) ≤ member.credited) club.members
   -- No slot has more persons than its facility has places.
   pub places : All (λ (facility : Facility). (slot : Slot) → slot.facility ≡ facility.name → taken_in slot club.bookings ≤ facility.places) club.facilities
+
+-- The older root of the key with this name. The result is `None` if the office never rotated the
+-- key, or if no key has this name.
+abbrev pub older_root_of : List ℕ → Club → Option OlderRoot
+older_root_of name club = option_and_then (λ (key : Key). key.older) (key_named name club)

@@ -1,10 +1,110 @@
--- Laws about clubs, requests and day sheets.
-use Rattle.std.specs.Prelude.{◌≡◌, ◌↔◌, ◌⊎◌, ℕ, ◌≤◌, IsTrue, List, Contains, Option, Some, None, option_map}
+-- Defines when the desk accepts a pass, the fields of a view that the rules need for an answer, and
+-- laws about clubs, requests and day sheets. The caveats need only the recorded booking, the
+-- facility and the points that the key has spent. Each kind of request needs different fields of
+-- the view.
+use Rattle.club_core.specs.declared.request.Request.TheVariants as asked
+use Rattle.std.specs.Prelude.{◌≡◌, ℕ, ◌&&◌, not, Bool, false, None, is_some, if◌then◌else◌, ◌≢◌, All, Option, Some, Ok, ◌↔◌, ◌⊎◌, ◌≤◌, IsTrue, List, Contains}
+use Rattle.std.specs.Prelude.{option_map}
+use Rattle.club_core.specs.{Answer.{ask_of, answer_by_basis}, Basis.{Basis, basis_of, view_of, key_of, view_in}, Club.{Club, key_named, IsSound, bookings_of}}
+use Rattle.club_core.specs.{Club.{booking_under, most_taken_in, spent_under, taken_in}, Request.{Pass, IsSignedUnder, Words, is_signed_under}, Sheet.IsSheet}
+use Rattle.club_core.specs.{Verdict.verdict_of, declared.{refusal.Refusal.Refusal, reply.Reply.{Reply, TheVariants.Refused}, request.Request.Request}}
+use Rattle.club_core.specs.declared.{verdict.Verdict.Verdict, view.View.View}
+use Rattle.club_rows.specs.declared.{booking.Booking.Booking, key.{Key.Key, KeyRow.KeyRow}}
 use Rattle.club_values.specs.declared.slot.Slot.{Slot}
-use Rattle.club_rows.specs.declared.{booking.Booking.Booking, key.Key.Key}
-use Rattle.club_core.specs.{Answer.answer_by_basis, Basis.{Basis, basis_of, key_of, view_in, view_of}, Club.{Club, IsSound, bookings_of}}
-use Rattle.club_core.specs.{Pass.{Pass, IsSignedUnder, Words, is_signed_under}, Sheet.IsSheet, Sums.{booking_under, most_taken_in, spent_under, taken_in}}
-use Rattle.club_core.specs.declared.{refusal.Refusal.Refusal, reply.Reply.TheVariants.Refused, verdict.Verdict.Verdict}
+use Rattle.pass_caveats.specs.{Caveat.Permits, Spending.after_spending, declared.{ask.Ask.Ask, caveat.Caveat.Caveat}}
+
+-- A view that has only the key's row and the name of the key's member. The view has no booking and
+-- no facility, and all its numbers are 0.
+abbrev pub bare_view : KeyRow → View
+bare_view key = record {
+  key = key;
+  spent = 0;
+  member = record { name = key.member; credited = 0; quota = 0 };
+  balance = 0;
+  open_count = 0;
+  facility = None;
+  taken = 0;
+  closed = false;
+  booking = None;
+}
+
+-- A view that has only the key's row, the recorded booking and the facility. Caveats need nothing
+-- else from the view, except the points that the key has spent.
+abbrev pub seen_by_caveats : View → View
+seen_by_caveats view = record (bare_view view.key) { facility = view.facility; booking = view.booking }
+
+-- Whether the booking number is unused and the facility is known.
+abbrev pub books_anew : View → Bool
+books_anew view = not (is_some view.booking) && is_some view.facility
+
+-- The fields of a view that the rules need to decide a request after the desk has accepted the
+-- pass:
+--
+-- - A request to view a slot needs the slot's state.
+-- - A new booking needs everything except the points that the key has spent.
+-- - A repeated booking, a cancellation or a booking at an unknown facility needs no sums.
+-- - A request to view the account needs the member's row and sums, and the points that the key has
+--   spent.
+abbrev pub seen_by_decision : Request → View → View
+seen_by_decision (asked.View slot) view = record (seen_by_caveats view) { taken = view.taken; closed = view.closed }
+seen_by_decision (asked.Book slot number guests) view =
+    if books_anew view then record view { spent = 0 } else seen_by_caveats view
+seen_by_decision (asked.Cancel slot number) view = seen_by_caveats view
+seen_by_decision asked.Account view = record (seen_by_caveats view) {
+  spent = view.spent;
+  member = view.member;
+  balance = view.balance;
+  open_count = view.open_count;
+}
+
+-- With `seen_by_caveats`, the caveats test the same values as with the complete view, except that
+-- the points spent are 0. With `seen_by_decision`, the decision is the same as with the complete
+-- view.
+pub record RestsOnItsParts (view : View) (request : Request) (moment : ℕ) : Type 0 where
+  pub caveats : ask_of (seen_by_caveats view) request moment ≡ after_spending 0 (ask_of view request moment)
+  pub decision : verdict_of (seen_by_decision request view) request moment ≡ verdict_of view request moment
+
+abbrev pub LooksNoFurther : Type 0
+LooksNoFurther = (view : View) (request : Request) (moment : ℕ) → RestsOnItsParts view request moment
+
+-- The reply isn't a refusal.
+abbrev pub IsServed : Reply → Type 0
+IsServed reply = (refusal : Refusal) → reply ≢ Refused refusal
+
+-- The desk understands the caveat, and the caveat allows the request.
+abbrev pub IsAllowedBy : Ask → Option Caveat → Type 0
+IsAllowedBy ask None = ⊥
+IsAllowedBy ask (Some caveat) = Permits caveat ask
+
+-- The pass is accepted for the request. A root of the key signs the pass, and that root is valid
+-- when the request comes. The key isn't revoked, and each caveat of the pass allows the request.
+pub record IsAcceptedPass (pass : Pass) (request : Request) (moment : ℕ) (basis : Basis) : Type 0 where
+  pub signed : IsSignedUnder pass basis.key moment
+  pub not_revoked : basis.key.revoked ≡ false
+  pub permission : All (IsAllowedBy (ask_of (view_of basis request moment) request moment)) pass.caveats
+
+-- The request has a decoded pass that names a key of the club, and the desk accepts this pass for
+-- the request.
+pub record IsAcceptedIn (club : Club) (words : Words) (moment : ℕ) : Type 0 where
+  pub pass : Pass
+  pub basis : Basis
+  pub read : words.pass ≡ Ok pass
+  pub known : basis_of club words ≡ Some basis
+  pub acceptance : IsAcceptedPass pass words.request moment basis
+
+-- The request has a decoded pass that allows the request. The pass names a key of the club, and the
+-- key isn't revoked. A root of the key signs the pass, and that root is valid when the request
+-- comes. Each caveat of the pass allows the request.
+pub record IsEntitled (club : Club) (words : Words) (moment : ℕ) : Type 0 where
+  pub pass : Pass
+  pub basis : Basis
+  pub read : words.pass ≡ Ok pass
+  pub key_name : pass.key ≡ Some basis.key.name
+  pub row : key_named basis.key.name club ≡ Some basis.key
+  pub known : basis_of club words ≡ Some basis
+  pub not_revoked : basis.key.revoked ≡ false
+  pub signed : IsSignedUnder pass basis.key moment
+  pub permission : All (IsAllowedBy (ask_of (view_of basis words.request moment) words.request moment)) pass.caveats
 
 -- A refusal changes nothing.
 pub record KeepsWhereRefused (verdict : Verdict) : Type 0 where

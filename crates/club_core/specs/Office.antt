@@ -1,17 +1,17 @@
 -- Defines how the rules decide the office's commands. Each decision is a list of conditions with
 -- results. The first true condition determines the result.
 use Rattle.std.specs.{Prelude.{ℕ, ◌+◌, ◌&&◌, not, Bool, false, List, [], ◌∷◌, nat_lt, nat_le, is_some, Option, Some, None, Result, Ok, Err}, Str.bytes_eq}
-use Rattle.club_values.specs.{declared.slot.Slot.Slot, Moment.IsMoment, Name.IsName}
-use Rattle.club_rows.specs.{Facility.is_open_at, Limits.{credited_limit, quota_limit, places_limit, price_limit, shutting_limit, IsBookingNumber, IsRoot}}
-use Rattle.club_rows.specs.{declared.{booking.Booking.Booking, facility.Facility.Facility, key.Key.Key, member.Member.Member}, Rows.IsSlot}
-use Rattle.club_core.specs.{Basis.{account_named, slot_use}, Club.{Club, member_named, facility_named, key_named}, Lines.{line_if, first_of}}
-use Rattle.club_core.specs.{Sums.{booking_under, most_taken_in}, declared.{account.MemberAccount.MemberAccount, change.Change.Change}}
-use Rattle.club_core.specs.declared.change.Change.TheVariants.{InsertMember, AddCredit, TakeCredit, InsertFacility, ReplaceNumbers, InsertKey, MarkRevoked}
-use Rattle.club_core.specs.declared.{change.Change.TheVariants.{ReplaceRoot, MarkClosed, MarkOpen, MarkCancelled, ReplaceQuota}, command.Command.Command}
+use Rattle.club_core.specs.{Basis.{account_named, slot_use}, Club.{Club, member_named, facility_named, key_named, booking_under, most_taken_in}}
+use Rattle.club_core.specs.{Verdict.{line_if, first_of}, declared.{account.MemberAccount.MemberAccount, change.Change.{Change, TheVariants.InsertMember}}}
+use Rattle.club_core.specs.declared.change.Change.TheVariants.{AddCredit, TakeCredit, InsertFacility, ReplaceNumbers, InsertKey, MarkRevoked, ReplaceRoot}
+use Rattle.club_core.specs.declared.{change.Change.TheVariants.{MarkClosed, MarkOpen, MarkCancelled, ReplaceQuota}, command.Command.Command}
 use Rattle.club_core.specs.declared.command.Command.TheVariants.{AddMember, Credit, Debit, AddFacility, SetFacility, AddKey, RevokeKey, RotateKey}
-use Rattle.club_core.specs.declared.command.{Command.TheVariants.{CancelBooking, CloseSlot, OpenSlot, SetQuota}, OfficeFault.{OfficeFault, TheVariants.Exists}}
-use Rattle.club_core.specs.declared.{command.OfficeFault.TheVariants.{Unknown, OutOfRange, SlotInUse}, command.CommandView.CommandView}
-use Rattle.club_core.specs.declared.{slot_use.SlotUse.SlotUse, command.OfficeAnswer.{OfficeAnswer, TheVariants.{Done, NewKey}}}
+use Rattle.club_core.specs.declared.command.{Command.TheVariants.{CancelBooking, CloseSlot, OpenSlot, SetQuota}, CommandView.CommandView}
+use Rattle.club_core.specs.declared.command.{OfficeAnswer.{OfficeAnswer, TheVariants.{Done, NewKey}}, OfficeFault.{OfficeFault, TheVariants.{Exists, Unknown}}}
+use Rattle.club_core.specs.declared.{command.OfficeFault.TheVariants.{OutOfRange, SlotInUse}, slot_use.SlotUse.SlotUse}
+use Rattle.club_rows.specs.Rows.{is_open_at, credited_limit, quota_limit, places_limit, price_limit, shutting_limit, IsBookingNumber, IsRoot, IsSlot}
+use Rattle.club_rows.specs.declared.{booking.Booking.Booking, facility.Facility.Facility, key.Key.Key, member.Member.Member}
+use Rattle.club_values.specs.{Moment.IsMoment, Name.IsName, declared.slot.Slot.Slot}
 
 -- Each name, slot, booking number, root and moment of the command is within its limits.
 -- `command_verdict` checks the other numbers.

@@ -1,9 +1,21 @@
--- Defines the number and the text of each refusal.
+-- Defines the number and the text of each refusal, and the texts of the office's faults and of a
+-- store's faults.
 use Rattle.std.specs.Prelude.{ℕ, List, codes, Option, Some, None}
-use Rattle.club_core.specs.declared.refusal.Refusal.{Refusal, TheVariants.{BadRequest, NoSuchPath, MethodNotAllowed, NoPass, PassTooLong, PassMalformed}}
-use Rattle.club_core.specs.declared.refusal.Refusal.TheVariants.{ThirdPartyCaveat, TooManyCaveats, NotVerified, KeyRevoked, CaveatNotUnderstood, CaveatDenies}
-use Rattle.club_core.specs.declared.refusal.Refusal.TheVariants.{NumberUsed, NoSuchFacility, NoSuchBooking, NotBookable, SlotClosed, NoPlaces, QuotaReached}
-use Rattle.club_core.specs.declared.refusal.Refusal.TheVariants.{BalanceTooLow, SlotHasBegun, Unavailable}
+use Rattle.club_core.specs.declared.{command.OfficeFault.{OfficeFault, TheVariants.{Exists, Unknown, OutOfRange, SlotInUse}}, refusal.Refusal.Refusal}
+use Rattle.club_core.specs.declared.refusal.Refusal.TheVariants.{BadRequest, NoSuchPath, MethodNotAllowed, NoPass, PassTooLong, PassMalformed, ThirdPartyCaveat}
+use Rattle.club_core.specs.declared.refusal.Refusal.TheVariants.{TooManyCaveats, NotVerified, KeyRevoked, CaveatNotUnderstood, CaveatDenies, NumberUsed}
+use Rattle.club_core.specs.declared.refusal.Refusal.TheVariants.{NoSuchFacility, NoSuchBooking, NotBookable, SlotClosed, NoPlaces, QuotaReached, BalanceTooLow}
+use Rattle.club_core.specs.declared.{refusal.Refusal.TheVariants.{SlotHasBegun, Unavailable}, store.StoreFault.{StoreFault, TheVariants.{Memory, Storage}}}
+
+abbrev pub office_fault_text : OfficeFault → List ℕ
+office_fault_text Exists = codes "exists"
+office_fault_text Unknown = codes "unknown"
+office_fault_text OutOfRange = codes "out of range"
+office_fault_text SlotInUse = codes "slot in use"
+
+abbrev pub store_fault_text : StoreFault → List ℕ
+store_fault_text Memory = codes "out of memory"
+store_fault_text Storage = codes "storage failed"
 
 -- A refusal's number and text in the reply.
 pub record RefusalDetails : Type 0 where

@@ -1,8 +1,11 @@
--- Defines the club as a state machine, with its steps and its runs.
+-- Defines the club as a state machine, with its steps, its runs and the limits of an event's
+-- values.
+use Rattle.club_core.specs.declared.request.Request.TheVariants as asked
 use Rattle.std.specs.Prelude.{ℕ, List, [], ◌∷◌, Option, Some, None, Result, Ok, Err}
-use Rattle.club_core.specs.{After.after, Answer.verdict_in, Club.Club, Office.{office_verdict, done_answer}, Pass.Words, declared.change.Change.Change}
-use Rattle.club_core.specs.declared.{command.{Command.Command, OfficeAnswer.{OfficeAnswer, TheVariants.NotDone}, OfficeFault.OfficeFault}, reply.Reply.Reply}
-use Rattle.club_core.specs.declared.verdict.Verdict.{Verdict}
+use Rattle.club_core.specs.{After.after, Answer.verdict_in, Club.Club, Office.{office_verdict, done_answer, IsCommand}, Request.Words}
+use Rattle.club_core.specs.declared.{change.Change.Change, command.{Command.Command, OfficeAnswer.{OfficeAnswer, TheVariants.NotDone}, OfficeFault.OfficeFault}}
+use Rattle.club_core.specs.declared.{reply.Reply.Reply, request.Request.Request, verdict.Verdict.Verdict}
+use Rattle.club_rows.specs.Rows.{IsBookingNumber, IsGuests, IsSlot}
 
 -- A request and the moment when the request comes, or a command of the office.
 pub data Event : Type 0 where
@@ -50,3 +53,14 @@ replies_of club (event ∷ events) = (step club event).reply ∷ replies_of (ste
 abbrev pub club_after : Club → List Event → Club
 club_after club [] = club
 club_after club (event ∷ events) = club_after (step club event).club events
+
+abbrev pub IsRequest : Request → Type 0
+IsRequest (asked.View slot) = IsSlot slot
+IsRequest (asked.Book slot number guests) = IsSlot slot × IsBookingNumber number × IsGuests guests
+IsRequest (asked.Cancel slot number) = IsSlot slot × IsBookingNumber number
+IsRequest asked.Account = Unit {0}
+
+-- Each value of the event is within its limits. The moment of a request may be any number.
+abbrev pub IsEvent : Event → Type 0
+IsEvent (Asked words moment) = IsRequest words.request
+IsEvent (Commanded command) = IsCommand command

@@ -1,9 +1,9 @@
 -- Defines the rows and the text of the day sheet.
 use Rattle.std.specs.{Cmp.Lexicographic.slice_cmp, Fmt.decimal, Ordering.nat_cmp, Prelude.{◌≡◌, ◌⊎◌, ℕ, ◌-◌, ◌<◌, ◌==◌, ◌&&◌, not, Bool, List, [], ◌∷◌, ◌++◌}}
 use Rattle.std.specs.{Prelude.{length, replicate, filter, sum_by, flat_map, AllPairs, IsPermutation, codes}, declared.cmp.Ordering.TheVariants.Less}
-use Rattle.club_values.specs.{Day.day_text, Digits.two_digits}
-use Rattle.club_rows.specs.{Booking.persons_of, declared.booking.Booking.Booking}
 use Rattle.club_core.specs.Club.{Club}
+use Rattle.club_rows.specs.{Rows.persons_of, declared.booking.Booking.Booking}
+use Rattle.club_values.specs.{Moment.day_text, Number.two_digits}
 
 -- Whether the booking is on this day and isn't cancelled.
 abbrev pub is_on : ℕ → Booking → Bool

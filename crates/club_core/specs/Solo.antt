@@ -3,12 +3,11 @@
 -- changes to these rows. For each request, the event also states the number of persons in the slot,
 -- not counting the member's bookings, and whether the slot is closed.
 use Rattle.std.specs.{Prelude.{ℕ, ◌+◌, not, List, [], ◌∷◌, ◌++◌, filter, Option, Some, None, Result, Ok, Err, option_map, if◌then◌else◌}, Str.bytes_eq}
-use Rattle.club_values.specs.declared.slot.Slot.{Slot}
+use Rattle.club_core.specs.{Club.{Club, keys_of, is_key_of, bookings_of}, Run.{Event, Asked, Commanded, step, after_change}, declared.slot_use.SlotUse.SlotUse}
+use Rattle.club_core.specs.{Basis.{Basis, basis_of, slot_use_by}, declared.{change.Change.Change, command.OfficeFault.OfficeFault, verdict.Verdict.Verdict}}
+use Rattle.club_core.specs.{After.{after, is_own}, Answer.answer_by_basis, Office.office_verdict, Request.{Words, request_slot}, declared.reply.Reply.Reply}
 use Rattle.club_rows.specs.declared.{booking.Booking.Booking, member.Member.Member}
-use Rattle.club_core.specs.{After.{after, is_own}, Answer.answer_by_basis, Basis.{Basis, basis_of, slot_use_by}, Club.{Club, keys_of, is_key_of, bookings_of}}
-use Rattle.club_core.specs.{Office.office_verdict, Pass.Words, Request.request_slot, Run.{Event, Asked, Commanded, step, after_change}}
-use Rattle.club_core.specs.declared.{change.Change.Change, command.OfficeFault.OfficeFault, reply.Reply.Reply, slot_use.SlotUse.SlotUse}
-use Rattle.club_core.specs.declared.verdict.Verdict.{Verdict}
+use Rattle.club_values.specs.declared.slot.Slot.{Slot}
 
 abbrev pub bookings_of_others : List ℕ → Club → List Booking
 bookings_of_others member club = filter (λ (booking : Booking). not (is_key_of member club booking.key)) club.bookings

@@ -1,10 +1,10 @@
 -- Defines the promises of a store that keeps a club's rows. A crash state is a club that the store
 -- may contain after a crash instead of the current club.
 use Rattle.std.specs.Prelude.{◌≡◌, ℕ, ◌≤◌, false, List, [], ◌∷◌, Option, Some, None, Result, IfOk, MatchResult}
-use Rattle.club_rows.specs.declared.{booking.Booking.Booking, facility.Facility.Facility, key.Key.Key, member.Member.Member}
-use Rattle.club_core.specs.{After.after, Club.{Club, IsSound, key_named, member_named, facility_named}, Sums.booking_under, declared.change.Change.Change}
+use Rattle.club_core.specs.{After.after, Club.{Club, IsSound, key_named, member_named, facility_named, booking_under}, declared.change.Change.Change}
 use Rattle.club_core.specs.declared.change.Change.TheVariants.{AddCredit, TakeCredit, ReplaceNumbers, InsertKey, MarkRevoked, ReplaceRoot, MarkOpen}
 use Rattle.club_core.specs.declared.{change.Change.TheVariants.{ReplaceQuota, InsertBooking, MarkCancelled}, store.StoreFault.StoreFault}
+use Rattle.club_rows.specs.declared.{booking.Booking.Booking, facility.Facility.Facility, key.Key.Key, member.Member.Member}
 
 -- The club has a member with this name.
 abbrev pub HasMember : List ℕ → Club → Type 0

@@ -1,13 +1,27 @@
--- Defines the answer to a request after the desk has accepted the pass. The first true condition in
--- a list determines the answer.
-use Rattle.std.specs.Prelude.{ℕ, ◌+◌, ◌-◌, ◌==◌, ◌&&◌, not, false, List, [], ◌∷◌, nat_lt, nat_le, if◌then◌else◌, Option, Some, None}
-use Rattle.club_core.specs.{Lines.{Line, line_if, first_of}, declared.{change.Change.TheVariants.{InsertBooking, MarkCancelled}, refusal.Refusal.Refusal}}
-use Rattle.club_core.specs.declared.refusal.Refusal.TheVariants.{NumberUsed, NoSuchFacility, NoSuchBooking, NotBookable, SlotClosed, NoPlaces, QuotaReached}
-use Rattle.club_core.specs.declared.{refusal.Refusal.TheVariants.{BalanceTooLow, SlotHasBegun}, reply.Reply.{Reply, TheVariants.{SlotShown, Booked, Cancelled}}}
-use Rattle.club_core.specs.declared.{reply.Reply.TheVariants.{AccountShown, Refused}, request.Request.Request, verdict.Verdict.Verdict, view.View.View}
-use Rattle.club_rows.specs.{Booking.{same_slot, refund_at}, Facility.{charge_of, is_bookable}, declared.{booking.Booking.Booking, facility.Facility.Facility}}
-use Rattle.club_values.specs.{Slot.start_of, declared.slot.Slot.Slot}
+-- Defines a decision as a list of lines, and the answer to a request after the desk has accepted
+-- the pass. Each line has a condition and an answer. The first line whose condition is true
+-- determines the answer.
 use Rattle.club_core.specs.declared.request.Request.TheVariants as asked
+use Rattle.std.specs.Prelude.{Bool, if◌then◌else◌, List, [], ◌∷◌, ℕ, ◌+◌, ◌-◌, ◌==◌, ◌&&◌, not, false, nat_lt, nat_le, Option, Some, None}
+use Rattle.club_core.specs.declared.{change.Change.TheVariants.{InsertBooking, MarkCancelled}, refusal.Refusal.{Refusal, TheVariants.NumberUsed}}
+use Rattle.club_core.specs.declared.refusal.Refusal.TheVariants.{NoSuchFacility, NoSuchBooking, NotBookable, SlotClosed, NoPlaces, QuotaReached, BalanceTooLow}
+use Rattle.club_core.specs.declared.{refusal.Refusal.TheVariants.SlotHasBegun, reply.Reply.{Reply, TheVariants.{SlotShown, Booked, Cancelled, AccountShown}}}
+use Rattle.club_core.specs.declared.{reply.Reply.TheVariants.Refused, request.Request.Request, verdict.Verdict.Verdict, view.View.View}
+use Rattle.club_rows.specs.{Rows.{same_slot, refund_at, charge_of, is_bookable}, declared.{booking.Booking.Booking, facility.Facility.Facility}}
+use Rattle.club_values.specs.{Moment.start_of, declared.slot.Slot.Slot}
+
+-- A condition, and the answer if the condition is true.
+pub record Line (A : Type 0) : Type 0 where
+  pub fits : Bool
+  pub answer : A
+
+abbrev pub line_if : {A : Type 0} → Bool → A → Line A
+line_if fits answer = record { fits = fits; answer = answer }
+
+-- The answer of the first line whose condition is true, or `last` if no condition is true.
+abbrev pub first_of : {A : Type 0} → List (Line A) → A → A
+first_of [] last = last
+first_of (l ∷ lines) last = if l.fits then l.answer else first_of lines last
 
 -- A verdict with this reply and without a change.
 abbrev pub reply_only : Reply → Verdict

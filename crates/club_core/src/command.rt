@@ -113,7 +113,7 @@ pub enum OfficeFault {
 
 impl fmt::Display for OfficeFault {
     ghost use Rattle.std.specs.Prelude.{Some};
-    ghost use Rattle.club_core.specs.Faults.{office_fault_text};
+    ghost use Rattle.club_core.specs.Refusal.{office_fault_text};
 
     ghost output = { λ fault. Some (office_fault_text fault) };
 

@@ -2,10 +2,10 @@
 //! order, and refuses the command at the first condition that fails.
 
 ghost use Rattle.std.specs.Prelude.{◌≡◌, not, nat_lt};
-ghost use Rattle.club_rows.specs.Limits.{quota_limit};
-ghost use Rattle.club_core.specs.declared.command.Command.TheVariants as commands;
 ghost use Rattle.club_core.specs.Office.{are_limits, are_points, command_verdict};
 ghost use Rattle.club_core.specs.Office.{office_cancel_verdict};
+ghost use Rattle.club_rows.specs.Rows.{quota_limit};
+ghost use Rattle.club_core.specs.declared.command.Command.TheVariants as commands;
 
 use crate::change::Change;
 use crate::command::{Command, CommandView, MAX_POINTS, OfficeFault};

@@ -2,10 +2,10 @@
 //! list of conditions in order. The first condition that is true determines the reply.
 
 ghost use Rattle.std.specs.Prelude.{◌≡◌, Some};
-ghost use Rattle.club_rows.specs.Facility as facilities;
 ghost use Rattle.club_core.specs.Verdict.{shown_at, book_verdict, cancel_verdict, account_verdict};
 ghost use Rattle.club_core.specs.Verdict.{verdict_of, repeat_booking_verdict, new_verdict};
 ghost use Rattle.club_core.specs.Verdict.{cancel_recorded_verdict};
+ghost use Rattle.club_rows.specs.Rows as facilities;
 
 use crate::change::Change;
 use crate::refusal::Refusal;

@@ -5,7 +5,7 @@ ghost use Rattle.club_core.specs.Examples.{OpensASlot, DebitsAMember, SetsAQuota
 ghost use Rattle.club_core.specs.Examples.{KeepsASpendLimit, CancelsForAMember, KeepsARefund};
 ghost use Rattle.club_core.specs.{Examples.CancelsUnderARevokedKey, Laws.RefusalsChangeNothing};
 ghost use Rattle.club_core.specs.Laws.{ViewsDecide, TestsTheSignature, OwnBookings, MostTaken};
-ghost use Rattle.club_core.specs.{Laws.{OneSheet, SomeSheet}, Looks.LooksNoFurther};
+ghost use Rattle.club_core.specs.Laws.{OneSheet, SomeSheet, LooksNoFurther};
 
 /// A member can book a slot, view the account, and cancel the booking.
 pub fn books_and_cancels()
@@ -62,7 +62,7 @@ pub fn cancels_under_a_revoked_key()
 {}
 
 /// Under a spend limit, a key can spend refunded points again.
-#[tactic(auto, unfolding(pass_caveats::specs::Tests::permits))]
+#[tactic(auto, unfolding(pass_caveats::specs::Caveat::permits))]
 pub fn keeps_a_spend_limit()
     ensures { KeepsASpendLimit }
 {}

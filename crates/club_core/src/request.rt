@@ -38,8 +38,8 @@ pub(crate) fn slot_within(slot: &Slot)
 }
 
 impl Request {
-    ghost use Rattle.club_core.specs.{Events.IsRequest, Request.{request_action, request_slot}};
-    ghost use Rattle.club_core.specs.Request.{request_number, request_guests};
+    ghost use Rattle.club_core.specs.Request.{request_action, request_slot, request_number};
+    ghost use Rattle.club_core.specs.{Request.request_guests, Run.IsRequest};
 
     /// Exists only for its contract, which states that the slot, number and guests of a request are
     /// within their limits.

@@ -1,8 +1,7 @@
 //! Writes the text of the day sheet.
 
 ghost use Rattle.std.specs.{Prelude.{◌≡◌, ◌++◌, IfOk, OnOk, flat_map, sum_by}, String.string_bytes};
-ghost use Rattle.club_rows.specs.Booking.{persons_of};
-ghost use Rattle.club_rows.specs.declared.booking.Booking.{Booking as BookingRow};
+ghost use Rattle.club_rows.specs.{Rows.persons_of, declared.booking.Booking.Booking as BookingRow};
 ghost use Rattle.club_core.specs.Sheet as spec;
 
 use club_rows::Booking;

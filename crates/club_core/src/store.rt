@@ -19,7 +19,7 @@ pub enum StoreFault {
 
 impl fmt::Display for StoreFault {
     ghost use Rattle.std.specs.Prelude.{Some};
-    ghost use Rattle.club_core.specs.Faults.{store_fault_text};
+    ghost use Rattle.club_core.specs.Refusal.{store_fault_text};
 
     ghost output = { λ fault. Some (store_fault_text fault) };
 
@@ -38,13 +38,13 @@ impl Error for StoreFault {}
 /// the disk.
 pub trait ClubStore {
     ghost use Rattle.std.specs.Prelude.{◌≡◌, ◌∷◌, All, IfErr, List, Some, option_map};
-    ghost use Rattle.club_core.specs.Basis.{account_named, slot_use};
-    ghost use Rattle.club_core.specs.Club.{Club, IsSound, bookings_of, facility_named, key_named};
-    ghost use Rattle.club_core.specs.{KeyParts.older_root_of, Sheet.AreRowsOf};
-    ghost use Rattle.club_core.specs.{Store.{Changes, ReadsStore, StoreGhosts}, Sums.booking_under};
-    ghost use Rattle.club_core.specs.Sums.{count_to_come, most_taken_in, spent_under};
+    ghost use Rattle.club_core.specs.{Basis.{account_named, slot_use}, Club.{Club, IsSound}};
+    ghost use Rattle.club_core.specs.Club.{bookings_of, facility_named, key_named, older_root_of};
+    ghost use Rattle.club_core.specs.Club.{booking_under, count_to_come, most_taken_in};
+    ghost use Rattle.club_core.specs.{Club.spent_under, Sheet.AreRowsOf, Store.Changes};
+    ghost use Rattle.club_core.specs.Store.{ReadsStore, StoreGhosts};
     ghost use Rattle.club_core.specs.declared.{change.Change.Change, store.StoreFault.StoreFault};
-    ghost use Rattle.club_rows.specs.Key.{row_of_key};
+    ghost use Rattle.club_rows.specs.Rows.{row_of_key};
 
     // Relates a store to its club, to its failures and to the state of its disk.
     ghost ghosts: { StoreGhosts Self };

@@ -1,7 +1,7 @@
 //! Defines the view of a request: the rows and sums that the rules need to decide the request.
 
 ghost use Rattle.std.specs.Prelude.{◌≡◌, is_some};
-ghost use Rattle.club_core.specs.Looks.{bare_view, books_anew as is_new};
+ghost use Rattle.club_core.specs.Laws.{bare_view, books_anew as is_new};
 
 use crate::request::Request;
 use club_rows::{Booking, Facility, Key, KeyRow, Member};

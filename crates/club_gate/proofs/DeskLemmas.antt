@@ -1,23 +1,27 @@
 -- Lemmas on decoded passes, on the desk's law for each reply, and on the state of the store after
 -- an event.
 use Rattle.club_core.specs.Run as machine
-use Rattle.std.{proofs.Math.Path.fun_ext, specs.List.AllZip}
-use Rattle.club_core.specs.{Acceptance.{IsAllowedBy, IsServed}, declared.{command.{Command.Command, OfficeAnswer.OfficeAnswer}, pass_fault.PassFault.PassFault}}
-use Rattle.club_gate.proofs.Common.{List, ◌∷◌, None, Result, IfOk, All, MatchResult, All-head, StoreFault, Club, IsSound, IsRead, KeepsClub, ReadsStore}
-use Rattle.club_gate.proofs.Common.{StoreGhosts, Err, Ok, Option, Some, [], ap, arith, map, refl, sym, ℕ, ◌↔◌, ◌≡◌, All-tail, Caveat, Form, FormFault, IsBytes}
-use Rattle.club_gate.proofs.Common.{Plain, ReadsWhatIsUnderstood, caveat_of, subst, ◌∙◌, AreWordsOf, DecidesSigned, IsAnyReading, IsDecoded, IsSeenAs, Pass}
-use Rattle.club_gate.proofs.Common.{ReadsAnyFormExactly, Request, Words, is_signed, reading, AreEventsOf, Decodes, FindsNames, IsEventOf, IsEventOfBytes}
-use Rattle.club_gate.proofs.Common.{SeenAlike, SeesEvents, identifier_of, key_name_in, decoded_or_fault, decoded_pass, decoded_words, machine_event}
-use Rattle.club_gate.proofs.Common.{machine_events, machine_pass, without_form, ◌++◌, ◌≢◌, ◌⊎◌, All-cons, All-nil, Allowed, Allows, Ask, map-append}
-use Rattle.club_gate.proofs.Common.{Unavailable, Reply, Verdict, ask_of, key_of, verdict_in, view_of, DependsOnTheBasisAlone, IsSignedUnder}
-use Rattle.club_gate.proofs.Common.{MoreCaveatsNeverOpenMore, RefusesWithoutABasis, ServesOnlyTheEntitled, words_with, HasFailed, IsDecidedBy, NamesItsRows}
-use Rattle.club_gate.proofs.Common.{unavailable, IsErr, inr, Change, IsEvent, office_verdict, Asked, Commanded, NeverUnavailable, ToMember, ToOffice}
-use Rattle.club_gate.proofs.Common.{after_change, done_answer, DecidesOrFails, FailsAt, FitsIfAny, IsAnsweredBy, IsRefusedBy, Steps, answer_or_fault}
-use Rattle.club_gate.{proofs.Common.{office_reply_of, others_after, reply_or_unavailable}, specs.Served.{EntitlesTo, IsLawful, IsNarrowedText}}
-use Rattle.club_gate.specs.declared.event.Event.{Event}
-use Rattle.club_laws.specs.SoundRuns.{ChangesFit}
+use Rattle.std.proofs.{Common.{MatchResult, ◌↔◌, ◌≢◌, ◌⊎◌, IsErr}, Math.Path.fun_ext, lemmas.List.{map-append, Elements.{All-tail, All-cons}}}
+use Rattle.std.specs.List.{AllZip}
+use Rattle.base64.specs.GeneralPurpose.{IsBytes}
+use Rattle.club_core.specs.{Answer.ask_of, Basis.{key_of, view_of}, Laws.{IsAllowedBy, IsServed}, Office.{office_verdict, done_answer}, Request.{Pass, Words}}
+use Rattle.club_core.specs.{Request.IsSignedUnder, Run.{Asked, Commanded, ToMember, ToOffice, after_change}, Store.{IsRead, KeepsClub, ReadsStore, StoreGhosts}}
+use Rattle.club_core.specs.declared.{change.Change.Change, command.{Command.Command, OfficeAnswer.OfficeAnswer}, pass_fault.PassFault.PassFault}
+use Rattle.club_core.specs.declared.{refusal.Refusal.TheVariants.Unavailable, reply.Reply.Reply, request.Request.Request, verdict.Verdict.Verdict}
+use Rattle.club_gate.proofs.Common.{List, ◌∷◌, None, Result, IfOk, All, All-head, StoreFault, Club, IsSound, Err, Ok, Option, Some, [], ap, arith, map, refl}
+use Rattle.club_gate.proofs.Common.{sym, ℕ, ◌≡◌, Form, Plain, subst, ◌∙◌, reading, IsEventOfBytes, decoded_words, machine_events, ◌++◌, All-nil, verdict_in}
+use Rattle.club_gate.{proofs.Common.{inr, IsEvent, FitsIfAny, Steps}, specs.DecodedPass.{AreWordsOf, IsDecoded, IsSeenAs, FindsNames, identifier_of}}
+use Rattle.club_gate.specs.{DecodedPass.key_name_in, Desk.{HasFailed, IsDecidedBy, DecidesOrFails, FailsAt, IsAnsweredBy, IsRefusedBy, others_after}}
+use Rattle.club_gate.specs.{Laws.{Decodes, SeenAlike, SeesEvents, NamesItsRows}, Response.{unavailable, answer_or_fault, office_reply_of, reply_or_unavailable}}
+use Rattle.club_gate.specs.{Runs.{AreEventsOf, IsEventOf}, Served.{EntitlesTo, IsLawful, IsNarrowedText}, computed.DecodedPass.{decoded_or_fault, decoded_pass}}
+use Rattle.club_gate.specs.{computed.DecodedPass.{machine_event, machine_pass, without_form}, declared.event.Event.Event}
+use Rattle.club_laws.specs.{Failed.NeverUnavailable, SingleRequest.{DependsOnTheBasisAlone, MoreCaveatsNeverOpenMore, RefusesWithoutABasis}}
+use Rattle.club_laws.specs.{SingleRequest.{ServesOnlyTheEntitled, words_with}, SoundRuns.ChangesFit}
 use Rattle.club_values.specs.Name.{IsName}
-use Rattle.pass_caveats.specs.Caveat.{Understood}
+use Rattle.pass_caveats.specs.{Caveat.Understood, Fault.{Allowed, Allows}, Laws.ReadsWhatIsUnderstood, computed.CaveatOf.caveat_of, declared.ask.Ask.Ask}
+use Rattle.pass_caveats.specs.declared.caveat.Caveat.{Caveat}
+use Rattle.pass_forms.specs.{Laws.DecidesSigned, computed.Reading.is_signed, declared.fault.FormFault.FormFault}
+use Rattle.pass_json.specs.{AnyForm.IsAnyReading, Laws.ReadsAnyFormExactly}
 
 pub reads : {S A : Type 0} {ghosts : StoreGhosts S} {old new : S} {result : Result A StoreFault} {IsReturned : Club → A → Type 0}
     → ((store : S) (club : Club) (others : List Club) → ghosts.represents store club others → All IsSound (club ∷ others))

@@ -1,14 +1,14 @@
 -- Lemmas for the proof of the laws of runs, which add one event after another.
-use Rattle.club_gate.proofs.Common.{All, List, None, Option, Some, [], arith, false, inl, inr, length, refl, subst, sym, ◌++◌, ◌∷◌, ◌≡◌, All-append, All-cons}
-use Rattle.club_gate.proofs.Common.{All-contains_itself, All-nil, All-weaker, Change, Club, Event, append_assoc, length-append, step, FailedLast, IsAnsweredBy}
-use Rattle.club_gate.proofs.Common.{IsFollowed, IsRefusedBy, IsRun, IsStep, MakesNoChange, Steps, change_of, has_failed, others_after, DeskResponse, MayBeLeft}
-use Rattle.club_gate.proofs.Common.{desk_presentation, events_answered, StoreGhosts, Result, Ok, Err, IfOk, OnOk, empty_club, member_named, IsSound, IsEvent}
-use Rattle.club_gate.proofs.Common.{replies_of, LeavesOutFailed, AreEventsOf, IsEventOfBytes, SeesEvents, machine_events, Conserves, IsAnsweredRun, IsLawfulRun}
-use Rattle.club_gate.{proofs.Common.{IsOnce, LeavesClub, club_left}, specs.{Runs.ReturnsTheRecord, declared.event.Event.Event as DeskEvent}}
-use Rattle.club_gate.specs.declared.event.OfficeReply.{OfficeReply}
-use Rattle.club_laws.specs.{Conservation.{IsConserved, SoundClubsHavePlaces}, RunsWithFailures.{ConservesWithFailures, SoloLawWithFailures}}
-use Rattle.club_laws.specs.RunsWithFailures.{SoloLawOfTwoWithFailures, SoundWithFailures, RepeatsServedReplies, RepeatsAfterOneMore, RepeatsWithFailures}
-use Rattle.club_laws.specs.RunsWithFailures.{CancellationsWithFailures}
+use Rattle.std.proofs.{Common.{append_assoc, OnOk}, lemmas.List.{length-append, Elements.{All-append, All-cons, All-contains_itself, All-weaker}}}
+use Rattle.club_core.specs.{Club.{empty_club, member_named}, Run.{Event, step, replies_of}, Store.StoreGhosts, declared.change.Change.Change}
+use Rattle.club_gate.proofs.Common.{All, List, None, Option, Some, [], arith, false, inl, inr, length, refl, subst, sym, ◌++◌, ◌∷◌, ◌≡◌, All-nil, Club, Steps}
+use Rattle.club_gate.{proofs.Common.{Result, Ok, Err, IfOk, IsSound, IsEvent, IsEventOfBytes, machine_events}, specs.Desk.{IsAnsweredBy, IsRefusedBy}}
+use Rattle.club_gate.specs.{Desk.{change_of, others_after}, Laws.SeesEvents, Response.desk_presentation, Runs.{FailedLast, IsFollowed, MakesNoChange}}
+use Rattle.club_gate.specs.Runs.{DeskResponse, MayBeLeft, events_answered, AreEventsOf, Conserves, IsAnsweredRun, IsLawfulRun, IsOnce, LeavesClub, club_left}
+use Rattle.club_gate.specs.{Runs.ReturnsTheRecord, declared.event.{Event.Event as DeskEvent, OfficeReply.OfficeReply}}
+use Rattle.club_laws.specs.{Conservation.{IsConserved, SoundClubsHavePlaces}, Failed.{IsRun, IsStep, has_failed, LeavesOutFailed}}
+use Rattle.club_laws.specs.RunsWithFailures.{ConservesWithFailures, SoloLawWithFailures, SoloLawOfTwoWithFailures, SoundWithFailures, RepeatsServedReplies}
+use Rattle.club_laws.specs.RunsWithFailures.{RepeatsAfterOneMore, RepeatsWithFailures, CancellationsWithFailures}
 
 ran_more : (club last next : Club) (events : List Event) (responses : List DeskResponse) (event : Event) (one : DeskResponse)
     → IsRun desk_presentation club events responses last

@@ -2,25 +2,28 @@
 -- They are about the key under which a pass is signed, and about the caveats in its fields.
 use Rattle.club_core.specs.declared.request.Request.TheVariants as asked
 use Rattle.pass_forms.specs.declared.field_source.Field.TheVariants as fields
-use Rattle.std.{proofs.lemmas.Slice.Eq.bytes_eq-Decides, specs.Option.option_or}
-use Rattle.club_core.specs.{Laws.OwnBookings, Lines.{first_of, line_if}, Looks.{bare_view, books_anew}, Request.{request_number, request_slot}}
-use Rattle.club_core.specs.declared.account.MemberAccount.{MemberAccount}
-use Rattle.club_gate.proofs.Common.{All-contains, Bool, List, Option, Some, [], ap, arith, cond, false, map, not, refl, suc, sym, true, zero, ℕ, ◌∙◌, ◌∷◌, ◌≡◌}
-use Rattle.club_gate.proofs.Common.{Club, Contains, Err, IsSound, Key, KeyRow, Ok, Plain, Request, bytes_eq, find, option_map, booking_under, bookings_of}
-use Rattle.club_gate.proofs.Common.{is_signed_under, key_in, key_named, machine_pass, member_named, row_of_key, verdict_in, IsOnRecord, account_named, cost_of}
-use Rattle.club_gate.proofs.Common.{signer_of, spent_under, subst, sum_by, words_with, ◌-◌, ◌≤◌, Form, FormFault, IfOk, IsBytes, IsReadingInForm, Result}
-use Rattle.club_gate.proofs.Common.{length, ◌≢◌, PassField, ReadsAnyFormExactly, ReadsExactly, ReadsWhatIsWrapped, SpellsForm, StoreFault, pass_fields, Verdict}
-use Rattle.club_gate.proofs.Common.{reading, reading_in_form, None, inl, inr, is_some, option_and_then, View, after_spending, caveat_of, first_fault_of}
-use Rattle.club_gate.proofs.Common.{if◌then◌else◌, Basis, answer_by_view, ask_of, owed_at, slot_use, state_of, view_in, view_of, AgreesOnRecord, count_to_come}
-use Rattle.club_gate.proofs.Common.{Bor, min, ◌++◌, ◌+◌, ◌<◌, ◌^◌, Ask, Caveat, FindsTheFaultAt, IsFaultAt, first_fault_from, ◌↔◌, IsBlindPass}
-use Rattle.club_gate.{proofs.Common.{ReadsWhatIsUnderstood, as_field, caveat_field, signature_field}, specs.Served.IsJson}
-use Rattle.club_laws.specs.Spending.{AccountsShowWhatIsUsed, SpendsWithinItsMember}
-use Rattle.club_rows.specs.declared.member.Member.{Member}
-use Rattle.club_values.specs.{Reading.Reads, declared.{kind.Kind.Kind, slot.Slot.Slot}}
-use Rattle.pass_caveats.specs.{Caveat.Understood, Kinds.{IsBlindToKind, at_kind}, declared.fault.CaveatFault.CaveatFault}
-use Rattle.pass_forms.specs.{Envelope.IsUnwrapped, Reading.{IsReadAs, max_text_len}, V1.SpellsV1, V2.SpellsV2, computed.{Text.in_form, V1Reading.reading_v1}}
-use Rattle.pass_forms.specs.{computed.V2Reading.reading_v2, declared.{field_source.Field.Field, form.Form.TheVariants.{V1, V2, Json}}}
-use Rattle.pass_json.specs.{Json.SpellsJson, computed.JsonReading.reading_json}
+use Rattle.std.proofs.Common.{cond, not, suc, zero, Contains, find, option_map, sum_by, ◌-◌, ◌≢◌, is_some, option_and_then, if◌then◌else◌, Bor, min, ◌+◌, ◌<◌}
+use Rattle.std.{proofs.{Common.{◌^◌, ◌↔◌}, lemmas.{List.Elements.All-contains, Slice.Eq.bytes_eq-Decides}}, specs.Option.option_or}
+use Rattle.base64.specs.GeneralPurpose.{IsBytes}
+use Rattle.club_core.specs.{Answer.{answer_by_view, ask_of, owed_at}, Basis.{account_named, Basis, slot_use, state_of, view_in, view_of}, Club.booking_under}
+use Rattle.club_core.specs.{Club.{bookings_of, key_named, member_named, cost_of, spent_under, count_to_come}, Laws.{OwnBookings, bare_view, books_anew}}
+use Rattle.club_core.specs.{Request.{request_number, request_slot, is_signed_under}, Verdict.{first_of, line_if}, declared.account.MemberAccount.MemberAccount}
+use Rattle.club_core.specs.declared.{request.Request.Request, verdict.Verdict.Verdict, view.View.View}
+use Rattle.club_gate.proofs.Common.{Bool, List, Option, Some, [], ap, arith, false, map, refl, sym, true, ℕ, ◌∙◌, ◌∷◌, ◌≡◌, Club, Err, IsSound, Ok, Plain}
+use Rattle.club_gate.proofs.Common.{bytes_eq, verdict_in, subst, ◌≤◌, Form, IfOk, Result, length, StoreFault, pass_fields, reading, reading_in_form, None, inl}
+use Rattle.club_gate.{proofs.Common.{inr, ◌++◌}, specs.{DecodedPass.key_in, Served.IsJson, Verify.{IsOnRecord, signer_of, AgreesOnRecord, IsBlindPass}}}
+use Rattle.club_gate.specs.computed.DecodedPass.{machine_pass}
+use Rattle.club_laws.specs.{Conservation.{AccountsShowWhatIsUsed, SpendsWithinItsMember}, SingleRequest.words_with}
+use Rattle.club_rows.specs.{Rows.row_of_key, declared.{key.{Key.Key, KeyRow.KeyRow}, member.Member.Member}}
+use Rattle.club_values.specs.{Number.Reads, declared.{kind.Kind.Kind, slot.Slot.Slot}}
+use Rattle.pass_caveats.specs.{Caveat.Understood, Fault.{first_fault_of, IsFaultAt, first_fault_from, IsBlindToKind, at_kind}, Laws.FindsTheFaultAt}
+use Rattle.pass_caveats.specs.{Laws.ReadsWhatIsUnderstood, Spending.after_spending, computed.CaveatOf.caveat_of, declared.{ask.Ask.Ask, caveat.Caveat.Caveat}}
+use Rattle.pass_caveats.specs.declared.fault.CaveatFault.{CaveatFault}
+use Rattle.pass_forms.specs.{Envelope.IsUnwrapped, FieldSource.{PassField, as_field, caveat_field, signature_field}, Laws.ReadsExactly, Reading.IsReadAs}
+use Rattle.pass_forms.specs.{Reading.max_text_len, V1.SpellsV1, V2.SpellsV2, computed.{Reading.in_form, V1Reading.reading_v1, V2Reading.reading_v2}}
+use Rattle.pass_forms.specs.declared.{fault.FormFault.FormFault, field_source.Field.Field, form.Form.TheVariants.{V1, V2, Json}}
+use Rattle.pass_json.specs.{AnyForm.{IsReadingInForm, SpellsForm}, Json.SpellsJson, Laws.{ReadsAnyFormExactly, ReadsWhatIsWrapped}}
+use Rattle.pass_json.specs.computed.JsonReading.{reading_json}
 
 pub found : {X : Type 0} (p : X → Bool) (xs : List X) (x : X) → find p xs ≡ Some x → Contains xs x × (p x ≡ true)
 found p [] x h = absurd (cc)

@@ -1,14 +1,14 @@
 -- The state of the desk's store after an event.
-use Rattle.std.specs.Prelude.{◌≡◌, ◌≢◌, ◌⊎◌, ℕ, IsTrue, IsFalse, List, [], ◌∷◌, MatchResult, Option, Some, None, Result, Ok, Err}
-use Rattle.club_core.specs.{Answer.verdict_in, Club.Club, Office.office_verdict, Pass.Words, Run.{Event, Asked, Commanded, after_change, step, Response}}
-use Rattle.club_core.specs.{Store.{FitsClub, IsRead, StoreGhosts}, declared.{change.Change.Change, command.OfficeFault.OfficeFault}}
-use Rattle.club_core.specs.declared.refusal.Refusal.TheVariants.{Unavailable}
-use Rattle.club_core.specs.declared.{reply.Reply.Reply, request.Request.Request, store.StoreFault.{StoreFault, TheVariants.Memory}, verdict.Verdict.Verdict}
 use Rattle.club_core.specs.declared.reply.Reply.TheVariants as member_replies
-use Rattle.club_laws.specs.Failed.{present_reply, has_failed}
+use Rattle.club_gate.specs.declared.fault.Fault.TheVariants as faults
+use Rattle.std.specs.Prelude.{◌≡◌, ◌≢◌, ◌⊎◌, ℕ, IsTrue, IsFalse, List, [], ◌∷◌, MatchResult, Option, Some, None, Result, Ok, Err}
+use Rattle.club_core.specs.{Answer.verdict_in, Club.Club, Office.office_verdict, Request.Words, Run.{Event, Asked, Commanded, after_change, step, Response}}
+use Rattle.club_core.specs.{Store.{FitsClub, IsRead, StoreGhosts}, declared.{change.Change.Change, command.OfficeFault.OfficeFault}}
+use Rattle.club_core.specs.declared.{refusal.Refusal.TheVariants.Unavailable, reply.Reply.Reply, request.Request.Request, store.StoreFault.StoreFault}
+use Rattle.club_core.specs.declared.{store.StoreFault.TheVariants.Memory, verdict.Verdict.Verdict}
 use Rattle.club_gate.specs.{DecodedPass.AreWordsOf, Response.desk_presentation, Served.IsJson, declared.event.OfficeReply.{OfficeReply, TheVariants.Refused}}
 use Rattle.club_gate.specs.declared.fault.Fault.{Fault}
-use Rattle.club_gate.specs.declared.fault.Fault.TheVariants as faults
+use Rattle.club_laws.specs.Failed.{present_reply, has_failed}
 
 -- If the store's disk is clean after a call, the property `IsSo` is true for every club that the
 -- store represented before the call.

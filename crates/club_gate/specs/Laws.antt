@@ -1,14 +1,14 @@
 -- Laws about decoded passes and about events at the desk.
+use Rattle.club_core.specs.Run as machine
 use Rattle.std.specs.Prelude.{◌≡◌, ◌↔◌, ℕ, List, All, Result, Ok, Err, Some}
 use Rattle.base64.specs.GeneralPurpose.{IsBytes}
+use Rattle.club_core.specs.{Basis.{basis_of, basis_under}, Club.{Club, key_named}, Request.{Pass, Words}, declared.pass_fault.PassFault.PassFault}
+use Rattle.club_gate.specs.{DecodedPass.{IsDecoded, IsSeenAs, identifier_of}, Runs.{AreEventsOf, IsEventOfBytes}, computed.DecodedPass.decoded_pass}
+use Rattle.club_gate.specs.{computed.DecodedPass.{machine_events, machine_pass}, declared.event.Event.Event}
+use Rattle.club_rows.specs.declared.key.Key.{Key}
+use Rattle.club_values.specs.Name.{IsName}
 use Rattle.pass_forms.specs.{Pass.Plain, declared.{fault.FormFault.TheVariants.Memory, form.Form.Form}}
 use Rattle.pass_json.specs.AnyForm.{IsAnyReading}
-use Rattle.club_values.specs.Name.{IsName}
-use Rattle.club_rows.specs.declared.key.Key.{Key}
-use Rattle.club_core.specs.{Basis.{basis_of, basis_under}, Club.{Club, key_named}, Pass.{Pass, Words}, declared.pass_fault.PassFault.PassFault}
-use Rattle.club_core.specs.Run as machine
-use Rattle.club_gate.specs.{DecodedPass.{IsDecoded, IsSeenAs}, Events.{AreEventsOf, IsEventOfBytes}, Minted.identifier_of}
-use Rattle.club_gate.specs.{computed.DecodedPass.{decoded_pass, machine_events, machine_pass}, declared.event.Event.Event}
 
 -- `IsSeenAs` relates each pass to exactly one value, which `machine_pass` computes.
 abbrev pub SeenAlike : Type 0

@@ -1,13 +1,9 @@
-pub mod Minted
-pub mod Identifier
 pub mod DecodedPass
 pub mod Verify
-pub mod Reading
 pub mod Response
-pub mod Events
+pub mod Runs
 pub mod Desk
 pub mod Served
-pub mod Runs
 pub mod Listing
 pub mod Laws
 pub mod computed

@@ -1,15 +1,15 @@
 -- Account and slot listings for the office. Each line of a listing is the name of a value, a space,
 -- and the value.
+use Rattle.club_core.specs.declared.reply.Reply.TheVariants as replies
+use Rattle.club_core.specs.declared.request.Request.TheVariants as asked
 use Rattle.std.specs.{Fmt.decimal, Prelude.{◌≡◌, ◌⊎◌, ℕ, Bool, true, false, List, [], ◌∷◌, ◌++◌, codes, IfErr, Option, Some, None, option_and_then, option_map}}
 use Rattle.std.specs.{Prelude.{Result, Ok, Err, String}, String.string_bytes}
 use Rattle.club_core.specs.{Basis.{slot_use, view_in}, Club.{Club, facility_named, key_named}, Store.{IsRead, KeepsClub, StoreGhosts}, Verdict.account_verdict}
 use Rattle.club_core.specs.{Verdict.verdict_of, declared.{command.OfficeFault.TheVariants.Unknown, reply.Reply.{Reply, TheVariants.{AccountShown, SlotShown}}}}
 use Rattle.club_core.specs.declared.{store.StoreFault.{StoreFault, TheVariants.Memory}, view.View.View}
-use Rattle.club_rows.specs.declared.key.{Key.Key, OlderRoot.OlderRoot}
-use Rattle.club_values.specs.{Day.day_text, Kind.kind_text, Moment.moment_text, declared.{kind.Kind.Kind, slot.Slot.Slot}}
-use Rattle.club_core.specs.declared.reply.Reply.TheVariants as replies
-use Rattle.club_core.specs.declared.request.Request.TheVariants as asked
 use Rattle.club_gate.specs.{Desk.OfItsClub, declared.fault.Fault.{Fault, TheVariants.{Refused, Store}}}
+use Rattle.club_rows.specs.declared.key.{Key.Key, OlderRoot.OlderRoot}
+use Rattle.club_values.specs.{Kind.kind_text, Moment.{day_text, moment_text}, declared.{kind.Kind.Kind, slot.Slot.Slot}}
 
 -- One line for each pair of a name and a value.
 abbrev pub lines : List (List ℕ × List ℕ) → List ℕ

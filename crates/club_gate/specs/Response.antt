@@ -1,14 +1,14 @@
 -- The desk's responses to events, computed from the machine's replies.
-use Rattle.std.specs.Prelude.{ℕ, Bool, true, false, List, ◌++◌, codes, Result, Ok, Err}
-use Rattle.club_core.specs.{Faults.{office_fault_text, store_fault_text}, Run.{Response, ToMember, ToOffice}, declared.command.OfficeAnswer.OfficeAnswer}
-use Rattle.club_core.specs.declared.{refusal.Refusal.TheVariants.Unavailable, reply.Reply.Reply, store.StoreFault.StoreFault}
 use Rattle.club_core.specs.declared.command.OfficeAnswer.TheVariants as answers
 use Rattle.club_core.specs.declared.reply.Reply.TheVariants as member_replies
-use Rattle.club_laws.specs.Failed.{Presentation}
-use Rattle.club_gate.specs.{Minted.minted_signature, declared.event.{EventReply.{EventReply, TheVariants.{Replied, Answered}}, OfficeReply.OfficeReply}}
-use Rattle.club_gate.specs.declared.fault.Fault.{Fault}
 use Rattle.club_gate.specs.declared.event.OfficeReply.TheVariants as replies
 use Rattle.club_gate.specs.declared.fault.Fault.TheVariants as faults
+use Rattle.std.specs.Prelude.{ℕ, Bool, true, false, List, ◌++◌, codes, Result, Ok, Err}
+use Rattle.club_core.specs.{Refusal.{office_fault_text, store_fault_text}, Run.{Response, ToMember, ToOffice}, declared.command.OfficeAnswer.OfficeAnswer}
+use Rattle.club_core.specs.declared.{refusal.Refusal.TheVariants.Unavailable, reply.Reply.Reply, store.StoreFault.StoreFault}
+use Rattle.club_gate.specs.{DecodedPass.minted_signature, declared.event.{EventReply.{EventReply, TheVariants.{Replied, Answered}}, OfficeReply.OfficeReply}}
+use Rattle.club_gate.specs.declared.fault.Fault.{Fault}
+use Rattle.club_laws.specs.Failed.{Presentation}
 
 abbrev pub desk_fault_text : Fault → List ℕ
 desk_fault_text (faults.Refused fault) = office_fault_text fault

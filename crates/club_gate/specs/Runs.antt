@@ -1,18 +1,36 @@
--- The responses to a list of events, and the state of the store after the events. An event failed
--- if its response is a fault of memory or storage.
-use Rattle.std.specs.Prelude.{◌≡◌, ◌⊎◌, ℕ, ◌≤◌, IsTrue, IsFalse, List, [], ◌∷◌, ◌++◌, length, map, sum_by, All, Contains, Some, None}
-use Rattle.club_values.specs.declared.slot.Slot.{Slot}
-use Rattle.club_rows.specs.declared.{booking.Booking.Booking, member.Member.Member}
-use Rattle.club_core.specs.{Acceptance.IsAcceptedIn, Basis.key_of, Club.{Club, empty_club, bookings_of, member_named, IsSound}, Pass.Words, Store.StoreGhosts}
-use Rattle.club_core.specs.{Run.{Asked, step, replies_of, club_after, Response, ToMember}, Solo.{own_events, part_of, solo_replies}, Sums.cost_of}
-use Rattle.club_core.specs.declared.{reply.Reply.{Reply, TheVariants.Cancelled}}
-use Rattle.club_core.specs.declared.request.Request.TheVariants as asked
+-- The events at the desk and the corresponding events of the machine, the responses to a list of
+-- events, and the state of the store afterwards. The machine is a function that computes the reply
+-- to an event and the next club. An event failed if its response is a fault of memory or storage.
 use Rattle.club_core.specs.Run as machine
-use Rattle.club_laws.specs.{Conservation.{IsConserved, HasPlaces}, Failed.{has_failed, IsRun, answered_events, answers}}
-use Rattle.club_laws.specs.{Repeats.{WasCancelled, refund_by_office}, RunsWithFailures.{RepeatsServedReplies, WasReturned}, SoloLaw.replies_to}
-use Rattle.club_gate.specs.{Desk.{FailsForCause, NamesItsFault, OfItsClub, Steps, change_of}, Events.IsEventOf, Response.{desk_presentation, response_of}}
-use Rattle.club_gate.specs.declared.event.{Event.Event, EventReply.{EventReply, TheVariants.{Replied, Answered}}, OfficeReply.OfficeReply}
 use Rattle.club_gate.specs.declared.event.Event.TheVariants as events
+use Rattle.club_core.specs.declared.request.Request.TheVariants as asked
+use Rattle.std.specs.{List.AllZip, Prelude.{◌≡◌, List, ◌⊎◌, ℕ, ◌≤◌, IsTrue, IsFalse, [], ◌∷◌, ◌++◌, length, map, sum_by, All, Contains, Some, None}}
+use Rattle.base64.specs.GeneralPurpose.{IsBytes}
+use Rattle.club_core.specs.{Basis.key_of, Club.{Club, empty_club, bookings_of, member_named, IsSound, cost_of}, Laws.IsAcceptedIn, Request.Words, Run.Asked}
+use Rattle.club_core.specs.{Run.{step, replies_of, club_after, Response, ToMember}, Solo.{own_events, part_of, solo_replies}, Store.StoreGhosts}
+use Rattle.club_core.specs.declared.reply.Reply.{Reply, TheVariants.Cancelled}
+use Rattle.club_gate.specs.{DecodedPass.AreWordsOf, Desk.{FailsForCause, NamesItsFault, OfItsClub, Steps, change_of}, Response.{desk_presentation, response_of}}
+use Rattle.club_gate.specs.declared.event.{Event.Event, EventReply.{EventReply, TheVariants.{Replied, Answered}}, OfficeReply.OfficeReply}
+use Rattle.club_laws.specs.{Conservation.{IsConserved, HasPlaces}, Failed.{has_failed, IsRun, answered_events, answers}, Repeats.WasCancelled}
+use Rattle.club_laws.specs.{Repeats.refund_by_office, RunsWithFailures.{RepeatsServedReplies, WasReturned}, SoloLaw.replies_to}
+use Rattle.club_rows.specs.declared.{booking.Booking.Booking, member.Member.Member}
+use Rattle.club_values.specs.declared.slot.Slot.{Slot}
+
+-- `seen` is the machine's event for this event at the desk. For a request, the machine's event has
+-- the decoded pass instead of the text. For a command, the machine's event is the same command.
+abbrev pub IsEventOf : Event → machine.Event → Type 0
+IsEventOf (events.Asked words moment) seen =
+    (decoded : Words) × AreWordsOf words.pass.now words.request decoded × (seen ≡ machine.Asked decoded moment)
+IsEventOf (events.Commanded command) seen = seen ≡ machine.Commanded command
+
+-- `seen` lists the machine's events for these events at the desk, in the same order.
+abbrev pub AreEventsOf : List Event → List machine.Event → Type 0
+AreEventsOf events seen = AllZip IsEventOf events seen
+
+-- If the event is a request, the text of its pass is a list of bytes.
+abbrev pub IsEventOfBytes : Event → Type 0
+IsEventOfBytes (events.Asked words moment) = IsBytes words.pass.now
+IsEventOfBytes (events.Commanded command) = Unit {0}
 
 -- A response of the desk to an event.
 abbrev pub DeskResponse : Type 0

@@ -1,16 +1,16 @@
 -- The law of the desk: the properties that each reply to a request has.
 use Rattle.std.specs.Prelude.{◌≡◌, ◌≢◌, ℕ, false, List, ◌++◌, Some, None, Ok, Err}
 use Rattle.base64.specs.GeneralPurpose.{IsBytes}
+use Rattle.club_core.specs.{Answer.{ask_of, form_refusal, verdict_in}, Basis.{Basis, basis_of, basis_under, view_of}, Club.{Club, key_named}, Laws.IsServed}
+use Rattle.club_core.specs.{Request.{IsGoodRoot, Words}, declared.{refusal.Refusal.TheVariants.Unavailable, reply.Reply.{Reply, TheVariants.Refused}}}
+use Rattle.club_core.specs.declared.request.Request.{Request}
+use Rattle.club_gate.specs.DecodedPass.{AreWordsOf, fault_of, identifier_of}
+use Rattle.club_laws.specs.SingleRequest.{blind_refusal}
+use Rattle.club_rows.specs.declared.key.Key.{Key}
+use Rattle.club_values.specs.Name.{IsName}
 use Rattle.pass_caveats.specs.Fault.{Allowed}
 use Rattle.pass_forms.specs.{Envelope.IsUnwrapped, Pass.{Plain, IsSigned}, declared.{fault.FormFault.FormFault, form.Form.{Form, TheVariants.Json}}}
 use Rattle.pass_json.specs.AnyForm.{IsAnyReading}
-use Rattle.club_values.specs.Name.{IsName}
-use Rattle.club_rows.specs.declared.key.Key.{Key}
-use Rattle.club_core.specs.{Acceptance.IsServed, Answer.{ask_of, form_refusal, verdict_in}, Basis.{Basis, basis_of, basis_under, view_of}}
-use Rattle.club_core.specs.{Club.{Club, key_named}, Pass.{IsGoodRoot, Words}, declared.{refusal.Refusal.TheVariants.Unavailable, reply.Reply.Reply}}
-use Rattle.club_core.specs.declared.{reply.Reply.TheVariants.Refused, request.Request.Request}
-use Rattle.club_laws.specs.SingleRequest.{blind_refusal}
-use Rattle.club_gate.specs.{DecodedPass.{AreWordsOf, fault_of}, Minted.identifier_of}
 
 -- The pass is signed under the key's root, or under the key's older root before the older root
 -- expires.

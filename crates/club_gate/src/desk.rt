@@ -3,19 +3,19 @@
 
 ghost use Rattle.std.specs.{Prelude.{◌≡◌, List, Err, IfErr, None, Ok}, String.string_bytes};
 ghost use Rattle.base64.specs.GeneralPurpose.{IsBytes};
-ghost use Rattle.pass_forms.specs.declared.fault.FormFault.{FormFault};
-ghost use Rattle.pass_json.specs.{AnyForm.IsAnyReading, computed.AnyForm.reading};
 ghost use Rattle.club_core.specs.{Answer.form_refusal, Club.{Club, key_named, member_named}};
-ghost use Rattle.club_core.specs.{Office.{command_view, rows_seen}, Pass.Words, Run.ToOffice};
+ghost use Rattle.club_core.specs.{Office.{command_view, rows_seen}, Request.Words, Run.ToOffice};
 ghost use Rattle.club_core.specs.{Sheet.IsSheet, Store.{KeepsClub, ReadsStore, Returns}};
 ghost use Rattle.club_core.specs.declared.reply.Reply.TheVariants.{Refused};
-ghost use Rattle.club_core.specs.Run as machine;
 ghost use Rattle.club_gate.specs.{DecodedPass.{AreWordsOf, fault_of}, Desk.DecidesOrFails};
 ghost use Rattle.club_gate.specs.Desk.{FailsAt, FailsForCause, FitsIfAny, IsSheetFault};
 ghost use Rattle.club_gate.specs.Desk.{IsStoreFault, NamesItsFault, OfItsClub, Settles, Steps};
 ghost use Rattle.club_gate.specs.{Desk.change_of, Response.{answer_or_fault, reply_or_unavailable}};
 ghost use Rattle.club_gate.specs.{Runs.IsHandled, Served.{IsJson, IsLawful, RefusesByFormFault}};
 ghost use Rattle.club_gate.specs.computed.DecodedPass.{decoded_words};
+ghost use Rattle.pass_forms.specs.declared.fault.FormFault.{FormFault};
+ghost use Rattle.pass_json.specs.{AnyForm.IsAnyReading, computed.AnyForm.reading};
+ghost use Rattle.club_core.specs.Run as machine;
 
 use crate::event::{Event, EventReply, OfficeReply};
 use crate::fault::Fault;

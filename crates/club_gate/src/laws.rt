@@ -1,7 +1,7 @@
 //! Laws about decoded passes and about events at the desk. Each law is the contract of a function
 //! with an empty body.
 
-ghost use Rattle.club_gate.specs.{Identifier.FindsNames, Laws.{Decodes, NamesItsRows}};
+ghost use Rattle.club_gate.specs.{DecodedPass.FindsNames, Laws.{Decodes, NamesItsRows}};
 ghost use Rattle.club_gate.specs.Laws.{ReadsNoLackOfMemory, SeenAlike, SeesEvents};
 ghost use Rattle.club_gate.specs.Listing.{ShowsSlotsToKeys};
 

@@ -1,8 +1,8 @@
 //! The passes that the office issues.
 
 ghost use Rattle.std.specs.Prelude.{◌≡◌, ℕ, List, IfOk};
+ghost use Rattle.club_gate.specs.DecodedPass.{key_pass, minted_signature};
 ghost use Rattle.pass_forms.specs.Pass.{IsSigned};
-ghost use Rattle.club_gate.specs.Minted.{key_pass, minted_signature};
 
 use crate::identifier::KEY_PREFIX;
 use club_rows::Root;

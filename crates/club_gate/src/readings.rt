@@ -2,14 +2,13 @@
 //! sums that the caveats and the decision depend on.
 
 ghost use Rattle.std.specs.Prelude.{◌≡◌, ◌≤◌, None, true, map, option_map};
+ghost use Rattle.club_core.specs.{Answer.answer_by_view, Basis.{account_named, slot_use, view_in}};
+ghost use Rattle.club_core.specs.{Club.{bookings_of, count_to_come, spent_under}, Store.ReadsStore};
+ghost use Rattle.club_gate.specs.Verify.{AgreesOnRecord, IsOnRecord, OfItsPass};
+ghost use Rattle.club_rows.specs.declared.key.KeyRow.{KeyRow as RowOfKey};
 ghost use Rattle.pass_caveats.specs.{Fault.first_fault_of, Spending.after_spending};
 ghost use Rattle.pass_caveats.specs.computed.CaveatOf.{caveat_of};
 ghost use Rattle.pass_forms.specs.Pass.{Plain};
-ghost use Rattle.club_rows.specs.declared.key.KeyRow.{KeyRow as RowOfKey};
-ghost use Rattle.club_core.specs.{Answer.answer_by_view, Basis.{account_named, slot_use, view_in}};
-ghost use Rattle.club_core.specs.{Club.bookings_of, Store.ReadsStore};
-ghost use Rattle.club_core.specs.Sums.{count_to_come, spent_under};
-ghost use Rattle.club_gate.specs.{Reading.{AgreesOnRecord, IsOnRecord}, Verify.OfItsPass};
 
 use crate::desk::Desk;
 use crate::walk::{fault_after, has_kind, unspent_fault};

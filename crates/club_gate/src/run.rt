@@ -1,11 +1,11 @@
 //! Runs: lists of events that the desk answers in order.
 
 ghost use Rattle.std.specs.Prelude.{◌≡◌, All, List, IfOk, OnOk, OnErr};
-ghost use Rattle.club_core.specs.{Club.Club, Events.IsEvent, Store.Returns};
-ghost use Rattle.club_core.specs.Run as machine;
-ghost use Rattle.club_gate.specs.{Events.{AreEventsOf, IsEventOfBytes}, Runs.AreHandled};
-ghost use Rattle.club_gate.specs.Runs.{IsFollowed, IsLawfulRun, LeavesClub, responses_of};
+ghost use Rattle.club_core.specs.{Club.Club, Run.IsEvent, Store.Returns};
+ghost use Rattle.club_gate.specs.Runs.{AreEventsOf, IsEventOfBytes, AreHandled, IsFollowed};
+ghost use Rattle.club_gate.specs.Runs.{IsLawfulRun, LeavesClub, responses_of};
 ghost use Rattle.club_gate.specs.computed.DecodedPass.{machine_events, machine_event};
+ghost use Rattle.club_core.specs.Run as machine;
 
 use crate::desk::{Desk, are_bytes};
 use crate::event::{Event, EventReply, OfficeReply};

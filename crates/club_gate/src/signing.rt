@@ -2,10 +2,10 @@
 //! the key's older root before the older root expires.
 
 ghost use Rattle.std.specs.Prelude.{◌≡◌, Some, drop};
-ghost use Rattle.pass_forms.specs.{FieldSource.pass_fields, Pass.Plain};
-ghost use Rattle.club_rows.specs.{Key.row_of_key, declared.key.Key.Key as KeyOfClub};
-ghost use Rattle.club_core.specs.{Club.key_named, Pass.is_signed_under, Store.ReadsStore};
+ghost use Rattle.club_core.specs.{Club.key_named, Request.is_signed_under, Store.ReadsStore};
 ghost use Rattle.club_gate.specs.computed.DecodedPass.{machine_pass};
+ghost use Rattle.club_rows.specs.{Rows.row_of_key, declared.key.Key.Key as KeyOfClub};
+ghost use Rattle.pass_forms.specs.{FieldSource.pass_fields, Pass.Plain};
 
 use crate::desk::Desk;
 use club_core::{ClubStore, StoreFault};

@@ -8,20 +8,20 @@
 
 ghost use Rattle.std.specs.Prelude.{◌≡◌, ◌≢◌, ◌≤◌, ℕ, List, length, IfOk, IsSomeAnd, None, Some};
 ghost use Rattle.std.specs.Prelude.{Ok, Err, drop, option_map};
+ghost use Rattle.club_core.specs.{Answer.{form_refusal, verdict_in}, Store.{KeepsClub, ReadsStore}};
+ghost use Rattle.club_core.specs.{Store.Returns, Verdict.refusal_verdict};
+ghost use Rattle.club_gate.specs.{DecodedPass.{fault_of, key_in}, Served.IsJson, Verify.OfItsPass};
+ghost use Rattle.club_gate.specs.Verify.{ReadsOrLacksMemory, RefusesText, signer_of};
+ghost use Rattle.club_gate.specs.computed.DecodedPass.{machine_pass, decoded_words, words_in_form};
+ghost use Rattle.club_laws.specs.SingleRequest.{words_with};
+ghost use Rattle.club_rows.specs.Rows.{row_of_key};
 ghost use Rattle.pass_forms.specs.{Envelope.IsUnwrapped, FieldSource.pass_fields, Pass.Plain};
-ghost use Rattle.pass_forms.specs.{Reading.max_text_len, computed.Text.in_form};
+ghost use Rattle.pass_forms.specs.{Reading.max_text_len, computed.Reading.in_form};
 ghost use Rattle.pass_forms.specs.declared.fault.FormFault.{FormFault as FaultOfForm};
 ghost use Rattle.pass_forms.specs.declared.fault.FormFault.TheVariants.{Memory};
 ghost use Rattle.pass_forms.specs.declared.form.Form.{Form as FormOfBytes, TheVariants.Json};
 ghost use Rattle.pass_json.specs.computed.AnyForm.{reading, reading_in_form};
-ghost use Rattle.club_rows.specs.Key.{row_of_key};
 ghost use Rattle.club_core.specs.declared.store.StoreFault.TheVariants as store;
-ghost use Rattle.club_core.specs.Answer.{form_refusal, verdict_in};
-ghost use Rattle.club_core.specs.{Store.{KeepsClub, ReadsStore, Returns}, Verdict.refusal_verdict};
-ghost use Rattle.club_laws.specs.SingleRequest.{words_with};
-ghost use Rattle.club_gate.specs.{DecodedPass.fault_of, Identifier.key_in, Served.IsJson};
-ghost use Rattle.club_gate.specs.Verify.{OfItsPass, ReadsOrLacksMemory, RefusesText, signer_of};
-ghost use Rattle.club_gate.specs.computed.DecodedPass.{machine_pass, decoded_words, words_in_form};
 
 use crate::desk::{Desk, are_bytes};
 use crate::identifier::key_name_in;

@@ -1,9 +1,9 @@
 //! Functions that scan the fields of a pass for caveats.
 
 ghost use Rattle.std.specs.Prelude.{◌≡◌, ℕ, false, map};
+ghost use Rattle.club_gate.specs.Verify.{IsBlindPass, OfItsPass};
 ghost use Rattle.pass_caveats.specs.{Fault.first_fault_of, Spending.{IsWithin, after_spending}};
 ghost use Rattle.pass_caveats.specs.computed.CaveatOf.{caveat_of};
-ghost use Rattle.club_gate.specs.{Reading.IsBlindPass, Verify.OfItsPass};
 
 use pass_caveats::laws::{finds_the_fault_at, reads_what_is_understood};
 use pass_caveats::{Ask, CaveatFault, Unspent, fault_at, looks_at_kind, unspent_at};

@@ -4,8 +4,8 @@ use Rattle.std.proofs.Common.{◌≡◌, ◌⊎◌, ℕ, ◌+◌, ◌≤◌, ◌
 use Rattle.std.proofs.{Common.{Err, append-nil, IfSome}, Math.Seq.take-append-add, lemmas.List.{take-append-le, length-take, length-take-le}}
 use Rattle.std.specs.Prelude.{IsTrue}
 use Rattle.club_core.specs.declared.reply.Reply.{Reply}
-use Rattle.club_http.specs.{Calls.{Call, Gives, ReadsNoFurther}, Exchange.{Exchanges, Replies}, Received.Receives, Replied.{AnswerRelation, IsReplied}}
-use Rattle.club_http.specs.{Replied.{parser_refusal, desk_reply, out_of_memory}, declared.fault.AnswerFault.{AnswerFault, TheVariants.{Read, Write}}}
+use Rattle.club_http.specs.{Calls.{Call, Gives, ReadsNoFurther}, Exchange.{Exchanges, Replies, Receives, AnswerRelation, IsReplied, parser_refusal, desk_reply}}
+use Rattle.club_http.specs.{Exchange.out_of_memory, declared.fault.AnswerFault.{AnswerFault, TheVariants.{Read, Write}}}
 use Rattle.http_request.specs.{Frame.IsWhole, Laws.{WholeKeepsItsReading, BodyStays}}
 use borrow.Rule.Slice.PartMut.{put_mid}
 

@@ -9,7 +9,7 @@ use http_request::Words;
 /// Answers requests by calling `Desk::ask`. The contract of `Desk::ask` implies the contract of a
 /// responder.
 impl<S: ClubStore> Responder for Desk<S> {
-    ghost use Rattle.club_http.specs.Desk.{AnswersBy};
+    ghost use Rattle.club_http.specs.Calls.{AnswersBy};
 
     ghost answers = { AnswersBy S.ghosts };
 

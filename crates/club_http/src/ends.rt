@@ -5,7 +5,7 @@ use std::io::{Read, Write};
 /// The reader from which an exchange receives a request.
 pub trait Inlet {
     ghost use Rattle.std.specs.Prelude.{◌≡◌, ◌≤◌, ℕ, List, length, Option, IfSome};
-    ghost use Rattle.club_http.specs.{Calls.Call, Ends.{Fills, read_failures}};
+    ghost use Rattle.club_http.specs.{Calls.Call, Exchange.{Fills, read_failures}};
 
     // The bytes that the reader hasn't returned yet, if these bytes are known.
     ghost to_come: { Self → Option (List ℕ) };
@@ -29,7 +29,7 @@ pub trait Inlet {
 /// A writer that takes the bytes of a reply.
 pub trait Outlet {
     ghost use Rattle.std.specs.Prelude.{◌≡◌, ◌≤◌, ℕ, List, length, Option, IfSome};
-    ghost use Rattle.club_http.specs.{Calls.Call, Ends.{Takes, put_failures}};
+    ghost use Rattle.club_http.specs.{Calls.Call, Exchange.{Takes, put_failures}};
 
     // The bytes that the writer has taken, if these bytes are known.
     ghost taken: { Self → Option (List ℕ) };
@@ -71,7 +71,7 @@ impl<R: Read> ReadInlet<R> {
 }
 
 impl<R: Read> Inlet for ReadInlet<R> {
-    ghost use Rattle.club_http.specs.Ends.{Fills};
+    ghost use Rattle.club_http.specs.Exchange.{Fills};
 
     ghost to_come = { λ inlet. R.remaining inlet.reader };
 
@@ -113,7 +113,7 @@ impl<W: Write> WriteOutlet<W> {
 }
 
 impl<W: Write> Outlet for WriteOutlet<W> {
-    ghost use Rattle.club_http.specs.Ends.{Takes};
+    ghost use Rattle.club_http.specs.Exchange.{Takes};
 
     ghost taken = { λ outlet. W.contents outlet.writer };
 

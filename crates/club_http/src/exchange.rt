@@ -1,9 +1,8 @@
 //! One exchange with a client: reads a request, asks the desk, and writes the reply.
 
 ghost use Rattle.std.specs.{Io.KnownBytes.Appends, Prelude.{◌≡◌, Err}};
-ghost use Rattle.club_http.specs.Calls.{ReadsNoFurther};
-ghost use Rattle.club_http.specs.Exchange.{Replies, Exchanges, reader_failures, writer_failures};
-ghost use Rattle.club_http.specs.Received.{IsCutOff};
+ghost use Rattle.club_http.specs.{Calls.ReadsNoFurther, Exchange.{Replies, Exchanges}};
+ghost use Rattle.club_http.specs.Exchange.{reader_failures, writer_failures, IsCutOff};
 
 use crate::ends::{Inlet, Outlet};
 use crate::face::Face;

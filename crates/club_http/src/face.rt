@@ -1,11 +1,10 @@
 //! Defines `Face`: the routes and the buffer that all exchanges of a server share.
 
-ghost use Rattle.std.specs.Io.KnownBytes.{Appends};
-ghost use Rattle.std.specs.Prelude.{◌≡◌, ◌↔◌, [], IfNone, IfOk, IfSome, IsTrue};
-ghost use Rattle.http_request.specs.{Frame.IsOneRequest, HeadResult.Covers};
-ghost use Rattle.club_http.specs.{Calls.{ArePut, ReadsNoFurther}, Ends.read_failures};
-ghost use Rattle.club_http.specs.Exchange.{Exchanges, writer_failures};
-ghost use Rattle.club_http.specs.{Received.{IsCutOff, Receives}, Replied.IsReplied};
+ghost use Rattle.std.specs.{Io.KnownBytes.Appends, Prelude.{◌≡◌, ◌↔◌, [], IfNone, IfOk, IfSome}};
+ghost use Rattle.std.specs.Prelude.{IsTrue};
+ghost use Rattle.club_http.specs.Exchange.{read_failures, Exchanges, writer_failures, IsCutOff};
+ghost use Rattle.club_http.specs.{Exchange.{Receives, IsReplied}, Calls.{ArePut, ReadsNoFurther}};
+ghost use Rattle.http_request.specs.Frame.{IsOneRequest, Covers};
 
 use crate::ends::{Inlet, Outlet};
 use crate::fault::AnswerFault;
@@ -30,7 +29,7 @@ pub struct Face {
 
 impl Model for Face {
     ghost use Rattle.std.specs.Prelude.{◌≡◌, ℕ, ◌≤◌, List, take, vec_len};
-    ghost use Rattle.http_request.specs.Limits.{max_request_len};
+    ghost use Rattle.http_request.specs.Length.{max_request_len};
 
     ghost Value = { List ℕ };
 

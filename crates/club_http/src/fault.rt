@@ -16,7 +16,7 @@ pub enum AnswerFault {
 
 impl fmt::Display for AnswerFault {
     ghost use Rattle.std.specs.Prelude.{Some};
-    ghost use Rattle.club_http.specs.Fault.{answer_fault_text};
+    ghost use Rattle.club_http.specs.Exchange.{answer_fault_text};
 
     ghost output = { λ fault. Some (answer_fault_text fault) };
 

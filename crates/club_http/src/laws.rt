@@ -1,6 +1,6 @@
 //! A law about exchanges. The law is the contract of a function that does nothing when it runs.
 
-ghost use Rattle.club_http.specs.Laws.{RepliesToAll};
+ghost use Rattle.club_http.specs.Exchange.{RepliesToAll};
 
 use crate::responder::Responder;
 use http_request::laws::{body_stays, whole_keeps_its_reading};

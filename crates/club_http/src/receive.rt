@@ -1,9 +1,8 @@
 //! Reads a request from an inlet.
 
 ghost use Rattle.std.specs.Prelude.{◌≡◌, ◌≤◌, [], length, take, IfErr, IfOk, MatchResult};
-ghost use Rattle.http_request.specs.{HeadResult.Covers, Limits.max_request_len};
-ghost use Rattle.club_http.specs.{Calls.ReadsNoFurther, Ends.one_more};
-ghost use Rattle.club_http.specs.Received.{Receives, IsCutOff};
+ghost use Rattle.club_http.specs.{Calls.ReadsNoFurther, Exchange.{one_more, Receives, IsCutOff}};
+ghost use Rattle.http_request.specs.{Frame.Covers, Length.max_request_len};
 
 use crate::ends::Inlet;
 use http_request::HeadScan;

@@ -7,7 +7,7 @@ use http_request::Words;
 /// A type that answers requests, such as a desk or a wrapper around a desk.
 pub trait Responder {
     ghost use Rattle.std.specs.Prelude.{ℕ};
-    ghost use Rattle.club_http.specs.Replied.{AnswerRelation};
+    ghost use Rattle.club_http.specs.Exchange.{AnswerRelation};
 
     // The replies that a responder may give at a moment, with the state of the responder before and
     // after each reply.

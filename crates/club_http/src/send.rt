@@ -1,6 +1,6 @@
 //! Writes a reply to an outlet.
 
-ghost use Rattle.club_http.specs.{Calls.ArePut, Ends.TakesAll};
+ghost use Rattle.club_http.specs.{Calls.ArePut, Exchange.TakesAll};
 ghost use Rattle.http_response.specs.Text.{reply_text};
 
 use crate::ends::Outlet;

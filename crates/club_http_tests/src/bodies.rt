@@ -1,6 +1,6 @@
 //! Tests of requests for a booking: complete, cut short, and in two pieces.
 
-ghost use Rattle.http_request.specs.HeadResult.{Covers};
+ghost use Rattle.http_request.specs.Frame.{Covers};
 
 use crate::expect::{Runtime, expect_row, join};
 use club_core::{Refusal, Request};

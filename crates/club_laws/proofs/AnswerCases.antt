@@ -3,18 +3,22 @@
 use Rattle.club_core.specs.declared.refusal.Refusal.TheVariants as refusals
 use Rattle.club_core.specs.declared.request.Request.TheVariants as asked
 use Rattle.club_core.specs.Verdict as verdicts
-use Rattle.std.proofs.lemmas.List.{length-map, get_or-map, map-append, Filters.sum_by-filter_both, Kept.AllPairs-cons, Sums.{sum_by-cons, sum_by-append}}
-use Rattle.club_core.specs.{Office.office_cancel_verdict, declared.{command.OfficeFault.TheVariants.Unknown, pass_fault.PassFault.PassFault}}
-use Rattle.club_laws.proofs.Common.{◌≡◌, ℕ, suc, Bool, true, false, ◌&&◌, ◌||◌, List, [], ◌∷◌, ◌++◌, get_or, map, Some, None, refl, ap, ◌∙◌, arith, option_map}
-use Rattle.club_laws.proofs.Common.{◌≢◌, sym, subst, All, AllPairs, Contains, find, filter, ◌==◌, list_any, All-cons, All-nil, All-contains}
-use Rattle.club_laws.proofs.Common.{Contains-append_left, Contains-append_right, Contains-push, All-map, All-weaker, bytes_eq, list_any_at, find-append}
-use Rattle.club_laws.proofs.Common.{bytes_eq-Decides, false_from_ne_true, both_ways, Slot, Booking, same_slot, is_under, ◌+◌, ◌≤◌, cond, filter_agree, All-head}
-use Rattle.club_laws.proofs.Common.{All-tail, filter-append, not, sum_by, Outcome, command_outcome, step, Commanded, CancelBooking, MarkCancelled, ◌-◌, Option}
-use Rattle.club_laws.proofs.Common.{Ok, Err, Result, nat_lt, Member, Facility, Key, Verdict, Reply, Booked, Cancelled, Refused, Request, refund_at, Pass, Words}
-use Rattle.club_laws.proofs.Common.{Club, facility_named, is_key_of, bookings_of, is_closed, key_named, member_named, taken_in, balance_of, booking_under}
-use Rattle.club_laws.proofs.Common.{Basis, basis_of, view_of, state_of, key_of, answer_to, verdict_in, request_slot, OfficeFault, office_verdict, Change, after}
-use Rattle.club_laws.proofs.Common.{Event, Asked, after_change, replies_of, club_after, EventReply}
-use Rattle.club_rows.specs.Facility.{charge_of}
+use Rattle.std.proofs.Common.{◌≡◌, ℕ, suc, Bool, true, false, ◌&&◌, ◌||◌, List, [], ◌∷◌, ◌++◌, get_or, map, Some, None, refl, ap, ◌∙◌, arith, option_map, ◌≢◌}
+use Rattle.std.proofs.Common.{sym, subst, All, AllPairs, Contains, find, filter, ◌==◌, ◌+◌, ◌≤◌, cond, not, sum_by, ◌-◌, Option, Ok, Err, Result, nat_lt}
+use Rattle.std.proofs.lemmas.{Bool.{false_from_ne_true, both_ways}, List.{length-map, get_or-map, map-append, Elements.{All-cons, All-nil, All-contains}}}
+use Rattle.std.proofs.lemmas.List.Elements.{Contains-append_left, Contains-append_right, Contains-push, All-map, All-weaker, filter_agree, All-head, All-tail}
+use Rattle.std.proofs.lemmas.List.{Elements.filter-append, Filters.sum_by-filter_both, Folds.{list_any_at, find-append}, Kept.AllPairs-cons, Sums.sum_by-cons}
+use Rattle.std.{proofs.lemmas.{List.Sums.sum_by-append, Slice.Eq.bytes_eq-Decides}, specs.{List.list_any, Str.bytes_eq}}
+use Rattle.club_core.specs.{After.after, Answer.{answer_to, verdict_in}, Basis.{Basis, basis_of, view_of, state_of, key_of}, Club.{is_under, Club}}
+use Rattle.club_core.specs.Club.{facility_named, is_key_of, bookings_of, is_closed, key_named, member_named, taken_in, balance_of, booking_under}
+use Rattle.club_core.specs.{Office.{office_cancel_verdict, office_verdict}, Request.{Pass, Words, request_slot}, Run.{Outcome, command_outcome, step}}
+use Rattle.club_core.specs.{Run.{Commanded, Event, Asked, after_change, replies_of, club_after, EventReply}, declared.change.Change.Change}
+use Rattle.club_core.specs.declared.{change.Change.TheVariants.MarkCancelled, command.{Command.TheVariants.CancelBooking, OfficeFault.OfficeFault}}
+use Rattle.club_core.specs.declared.{command.OfficeFault.TheVariants.Unknown, pass_fault.PassFault.PassFault, reply.Reply.{Reply, TheVariants.Booked}}
+use Rattle.club_core.specs.declared.{reply.Reply.TheVariants.{Cancelled, Refused}, request.Request.Request, verdict.Verdict.Verdict}
+use Rattle.club_rows.specs.{Rows.{same_slot, refund_at, charge_of}, declared.{booking.Booking.Booking, facility.Facility.Facility, key.Key.Key}}
+use Rattle.club_rows.specs.declared.member.Member.{Member}
+use Rattle.club_values.specs.declared.slot.Slot.{Slot}
 
 pub found_passes : {X : Type 0} (p : X → Bool) (xs : List X) (x : X) → find p xs ≡ Some x → p x ≡ true
 found_passes p [] x e = absurd (cc)

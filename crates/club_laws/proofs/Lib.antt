@@ -1,4 +1,3 @@
-pub mod Common
 pub mod AnswerCases
 pub mod SoundSteps
 pub mod ServedPasses

@@ -1,19 +1,20 @@
 -- Lemmas about the effect of each kind of change on a member's part of the club, and about a
 -- member's keys and credit after a run.
-use Rattle.std.proofs.{Common.bytes_eq, lemmas.List.{Folds.map_fixed, Quantifiers.all_pairs_push}}
-use Rattle.club_core.specs.Solo.{part_of}
+use Rattle.std.proofs.Common.{bytes_eq, Result, Ok, ◌≡◌, ◌≢◌, ℕ, Bool, true, List, [], ◌∷◌, ◌++◌, get_or, map, Option, Some, sym, ◌∙◌, arith, false, cond}
+use Rattle.std.proofs.lemmas.List.{Elements.{Contains-push, All-contains, filter-append, All-push, All-map, filter_agree}, Quantifiers.all_pairs_push}
+use Rattle.std.proofs.{Common.{filter, None, All, Contains, append-nil, refl, find, AllPairs, ◌&&◌, ◌||◌, ◌+◌}, lemmas.Slice.Eq.bytes_eq-Decides}
+use Rattle.std.{proofs.lemmas.{List.Folds.{map_fixed, list_any-append, Any-from_list_any, find-append}, Simd.map-map}, specs.{List.list_any, Str.bytes_eq}}
+use Rattle.club_core.specs.declared.change.Change.TheVariants.{TakeCredit, InsertMember, AddCredit, InsertKey, MarkRevoked, ReplaceRoot, ReplaceQuota}
+use Rattle.club_core.specs.{After.{debited_member, after, credited_member, revoked_key, rotated_key, cancelled_booking, member_with_quota}, Answer.verdict_in}
+use Rattle.club_core.specs.declared.command.{Command.TheVariants.{Debit, AddMember, Credit, SetQuota, AddKey, RevokeKey, RotateKey}, OfficeFault.OfficeFault}
+use Rattle.club_core.specs.{Run.{command_outcome, Event, Asked, Commanded, step, after_change, Outcome, replies_of, club_after}, declared.change.Change.Change}
+use Rattle.club_core.specs.{Club.{Club, key_named, is_key_of, bookings_of, keys_of, IsSound, member_named}, Request.Words, declared.command.Command.Command}
+use Rattle.club_core.specs.{Office.office_verdict, Solo.part_of, declared.{change.Change.TheVariants.{InsertBooking, MarkCancelled}, verdict.Verdict.Verdict}}
 use Rattle.club_laws.proofs.AnswerCases.{answer_cases, filter_same, filter_fixed, filter-map, none_passes, AllPairs-head, AllPairs-tail, any-filter, any-map}
 use Rattle.club_laws.proofs.AnswerCases.{fresh_differs, only_named, none_named, other_bytes, AllPairs-map, still_there, named_there, found_passes, find-map}
-use Rattle.club_laws.proofs.Common.{office_verdict, Result, Ok, command_outcome, OfficeFault, debited_member, TakeCredit, ◌≡◌, ◌≢◌, ℕ, Bool, true, List, []}
-use Rattle.club_laws.proofs.Common.{◌∷◌, ◌++◌, get_or, map, Option, Some, sym, ◌∙◌, arith, false, cond, filter, None, All, Contains, append-nil, refl, find}
-use Rattle.club_laws.proofs.Common.{AllPairs, bytes_eq-Decides, ◌&&◌, ◌||◌, bytes_eq, list_any, list_any-append, Any-from_list_any, Key, Booking, Club}
-use Rattle.club_laws.proofs.Common.{key_named, is_key_of, bookings_of, keys_of, IsSound, Contains-push, All-contains, filter-append, All-push, All-map, Member}
-use Rattle.club_laws.proofs.Common.{Change, InsertMember, AddCredit, InsertKey, MarkRevoked, ReplaceRoot, ReplaceQuota, InsertBooking, MarkCancelled, after}
-use Rattle.club_laws.proofs.Common.{credited_member, revoked_key, rotated_key, cancelled_booking, map-map, Verdict, Command, Event, Asked, Commanded, step}
-use Rattle.club_laws.proofs.Common.{after_change, member_with_quota, Outcome, Debit, ◌+◌, find-append, AddMember, Credit, SetQuota, AddKey, RevokeKey}
-use Rattle.club_laws.{proofs.Common.{RotateKey, Words, member_named, verdict_in, replies_of, club_after, filter_agree}, specs.Frame.ChangesThePartAlike}
-use Rattle.club_laws.specs.{Frame.part_after, Points.{key_given, keys_given, credit_accepted, credits_accepted, debit_accepted, debits_accepted}}
-use Rattle.club_rows.specs.declared.key.OlderRoot.{OlderRoot}
+use Rattle.club_laws.specs.{Conservation.{key_given, keys_given, credit_accepted, credits_accepted, debit_accepted, debits_accepted}, Frame.ChangesThePartAlike}
+use Rattle.club_laws.specs.Frame.{part_after}
+use Rattle.club_rows.specs.declared.{booking.Booking.Booking, key.{Key.Key, OlderRoot.OlderRoot}, member.Member.Member}
 
 -- Whether a key has this name and belongs to this member.
 abbrev pub is_own : List ℕ → List ℕ → Key → Bool

@@ -1,19 +1,21 @@
 -- Lemmas about the points and the places of a club after each reply and after a run.
-use Rattle.std.proofs.lemmas.List.{Filters.sum_by-filter_both, Folds.map_fixed, Sums.sum_by-cons}
+use Rattle.std.proofs.Common.{◌≡◌, ℕ, true, List, [], ◌∷◌, ◌++◌, map, Option, Some, None, refl, ap, ◌∙◌, arith, find, get_or, ◌+◌, Bool, false, cond, not, ◌&&◌}
+use Rattle.std.proofs.{Common.{◌||◌, ◌==◌, filter, sum_by, AllPairs, ◌≤◌, sym, ◌-◌, All, MatchOption, option_map}, lemmas.List.Elements.All-weaker}
+use Rattle.std.proofs.lemmas.List.{Elements.{filter_agree, All-head, All-tail, All-filter}, Filters.sum_by-filter_both, Folds.{map_fixed, find-append}}
+use Rattle.std.{proofs.lemmas.List.{Folds.{list_any-append, list_any_none}, Sums.sum_by-cons}, specs.{List.list_any, Str.bytes_eq}}
+use Rattle.club_core.specs.{After.cancelled_booking, Basis.club_account, Club.{Club, booking_under, IsSound, empty_club, member_named, facility_named}}
+use Rattle.club_core.specs.{Club.{is_key_of, bookings_of, cost_of, taken_in, is_under}, Laws.OwnBookings, Run.{after_change, Event, Asked, Commanded, step}}
+use Rattle.club_core.specs.{Run.{ToMember, EventReply, replies_of, club_after, Outcome, IsEvent}, declared.command.Command.TheVariants.CancelBooking}
+use Rattle.club_core.specs.declared.{reply.Reply.TheVariants.Booked, verdict.Verdict.Verdict}
 use Rattle.club_laws.proofs.AnswerCases.{answer_cases, written, is_numbered, numbered, found_by_own, find-map, filter-filter, filter-map, sum-map, sum_one_more}
 use Rattle.club_laws.proofs.AnswerCases.{found_passes, AreApart, found_is_there, none_found, any_passes, any-map, AllPairs-head, AllPairs-tail, numbered_back}
-use Rattle.club_laws.proofs.{AnswerCases.{only_numbered, cancel_cases, at_found, named, none_named}, Common.{CancelBooking, ◌≡◌, ℕ, true, List, [], ◌∷◌, ◌++◌}}
-use Rattle.club_laws.proofs.Common.{map, Option, Some, None, refl, ap, ◌∙◌, arith, find, find-append, Booking, Verdict, Club, booking_under, cancelled_booking}
-use Rattle.club_laws.proofs.Common.{after_change, Booked, Event, Asked, Commanded, step, ToMember, refund_at, All-weaker, get_or, ◌+◌, Bool, false, cond, not}
-use Rattle.club_laws.proofs.Common.{◌&&◌, ◌||◌, ◌==◌, filter, sum_by, AllPairs, bytes_eq, filter_agree, list_any, list_any-append, list_any_none, ◌≤◌, sym, ◌-◌}
-use Rattle.club_laws.proofs.Common.{All, MatchOption, option_map, All-head, All-tail, All-filter, IsSound, empty_club, member_named, facility_named, is_key_of}
-use Rattle.club_laws.proofs.Common.{bookings_of, EventReply, replies_of, club_after, Outcome, Slot, Member, Facility, cost_of, taken_in, is_under, IsEvent}
-use Rattle.club_laws.proofs.{Common.{club_account, OwnBookings}, MemberParts.{is_among, keys_of_run, credit_of, credit_of_run}, SoundSteps.sound_step}
-use Rattle.club_laws.{proofs.SoundSteps.{sound_run, nobody_in, covered}, specs.Conservation.{ConservesPoints, ConservesWithoutCorrections, IsNoCorrection}}
-use Rattle.club_laws.specs.{Conservation.{SoundClubsHavePlaces, NeverOverbooks}, Points.{Entry, charge_told, charge_of_reply, is_entry_of, firsts}}
-use Rattle.club_laws.specs.Points.{refund_given, refunds_by, refunds_given, refund_of_reply, charges_of_replies, refunds_of_replies, keys_given}
-use Rattle.club_laws.specs.{Points.{debits_accepted, total_under}, Spending.{AccountsShowWhatIsUsed, SpendsWithinItsMember}}
-use Rattle.club_rows.specs.Rows.{IsBooking}
+use Rattle.club_laws.proofs.{AnswerCases.{only_numbered, cancel_cases, at_found, named, none_named}, MemberParts.{is_among, keys_of_run, credit_of}}
+use Rattle.club_laws.{proofs.{MemberParts.credit_of_run, SoundSteps.{sound_step, sound_run, nobody_in, covered}}, specs.Conservation.ConservesPoints}
+use Rattle.club_laws.specs.Conservation.{ConservesWithoutCorrections, IsNoCorrection, SoundClubsHavePlaces, NeverOverbooks, Entry, charge_told, charge_of_reply}
+use Rattle.club_laws.specs.Conservation.{is_entry_of, firsts, refund_given, refunds_by, refunds_given, refund_of_reply, charges_of_replies, refunds_of_replies}
+use Rattle.club_laws.specs.Conservation.{keys_given, debits_accepted, total_under, AccountsShowWhatIsUsed, SpendsWithinItsMember}
+use Rattle.club_rows.specs.{Rows.{refund_at, IsBooking}, declared.{booking.Booking.Booking, facility.Facility.Facility, member.Member.Member}}
+use Rattle.club_values.specs.declared.slot.Slot.{Slot}
 
 -- The charge of the booking, or the default `other` if there is no booking.
 abbrev pub charge_or : Option Booking → ℕ → ℕ

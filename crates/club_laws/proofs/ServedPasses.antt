@@ -1,21 +1,23 @@
 -- Lemmas about the passes of served requests, about revoked keys, and about repeated requests.
 use Rattle.club_core.specs.declared.request.Request.TheVariants as asked
 use Rattle.club_core.specs.Verdict as verdicts
+use Rattle.std.proofs.Common.{◌≡◌, ℕ, ◌+◌, true, false, List, [], ◌∷◌, ◌++◌, Option, Some, None, Result, Ok, Err, arith, All, refl, sym, ap, ◌∙◌, option_map}
+use Rattle.std.proofs.{Common.{find, ◌&&◌, ◌==◌}, lemmas.{Bool.false_from_ne_true, List.{Elements.{All-nil, All-cons, All-head, All-tail}, Folds.find-append}}}
 use Rattle.std.proofs.lemmas.Option.{same_Some}
-use Rattle.club_core.specs.{Verdict.{refusal_verdict, verdict_of}, declared.{command.OfficeAnswer.TheVariants.Done, pass_fault.PassFault.PassFault}}
-use Rattle.club_core.specs.declared.{refusal.Refusal.TheVariants.{NotVerified, KeyRevoked, CaveatNotUnderstood, CaveatDenies}, view.View.View}
+use Rattle.club_core.specs.Run.{Event, Commanded, step, club_after, ToOffice, after_change, Asked, Outcome, verdict_outcome, replies_of, ToMember}
+use Rattle.club_core.specs.declared.{change.Change.TheVariants.{InsertKey, MarkRevoked, ReplaceRoot, InsertBooking, MarkCancelled}, request.Request.Request}
+use Rattle.club_core.specs.declared.{pass_fault.PassFault.PassFault, refusal.Refusal.TheVariants.{NotVerified, KeyRevoked, CaveatNotUnderstood, CaveatDenies}}
+use Rattle.club_core.specs.{Basis.{Basis, basis_of, key_of, view_of}, Laws.{TestsTheSignature, IsServed, IsAllowedBy, IsAcceptedPass, IsEntitled, IsAcceptedIn}}
+use Rattle.club_core.specs.{After.{after, revoked_key, rotated_key, cancelled_booking}, declared.command.Command.TheVariants.{RevokeKey, CancelBooking}}
+use Rattle.club_core.specs.{Answer.{answer_to, ask_of, form_refusal, verdict_in}, Request.{Pass, Words, is_signed_under, request_number}}
+use Rattle.club_core.specs.declared.{command.OfficeAnswer.TheVariants.Done, reply.Reply.{Reply, TheVariants.{Booked, Cancelled}}, verdict.Verdict.Verdict}
+use Rattle.club_core.specs.{Club.{Club, key_named, booking_under}, Verdict.{refusal_verdict, verdict_of}, declared.{change.Change.Change, view.View.View}}
 use Rattle.club_laws.proofs.AnswerCases.{known_rows, kept_by_run, club_after-append, cancel_cases, written, answer_cases, own_booking, replies_of-append}
-use Rattle.club_laws.proofs.{AnswerCases.{find-map, found_passes, numbered, found_before, is_numbered, same_slots, self_numbered}, Common.{◌≡◌, ℕ, ◌+◌, true}}
-use Rattle.club_laws.proofs.Common.{false, List, [], ◌∷◌, ◌++◌, Option, Some, None, Result, Ok, Err, arith, All, refl, sym, ap, ◌∙◌, option_map}
-use Rattle.club_laws.proofs.Common.{false_from_ne_true, All-nil, All-cons, All-head, All-tail, TestsTheSet, TestsTheSignature, Key, Request, Pass, Words}
-use Rattle.club_laws.proofs.Common.{is_signed_under, Club, key_named, Basis, basis_of, key_of, view_of, answer_to, ask_of, form_refusal, IsServed, IsAllowedBy}
-use Rattle.club_laws.proofs.Common.{IsAcceptedPass, IsEntitled, Change, InsertKey, MarkRevoked, ReplaceRoot, RevokeKey, after, revoked_key, rotated_key, Event}
-use Rattle.club_laws.proofs.Common.{Commanded, step, club_after, ToOffice, find-append, CancelBooking, find, ◌&&◌, ◌==◌, Booking, Verdict, InsertBooking}
-use Rattle.club_laws.proofs.Common.{MarkCancelled, Reply, Booked, Cancelled, same_slot, refund_at, booking_under, verdict_in, cancelled_booking, after_change}
-use Rattle.club_laws.proofs.{Common.{Asked, Outcome, verdict_outcome, replies_of, ToMember, request_number, IsAcceptedIn}, MemberParts.has_name}
+use Rattle.club_laws.proofs.{AnswerCases.{find-map, found_passes, numbered, found_before, is_numbered, same_slots, self_numbered}, MemberParts.has_name}
 use Rattle.club_laws.specs.Repeats.{CancellationsReturnTheRecord, refund_by_office, IsBookedOrCancelled, RepeatsReturnTheSame, RepeatsMayBeLeftOut, WasServed}
-use Rattle.club_laws.specs.{Revoked.{ServesNoRevokedKey, WasRevoked}, SingleRequest.{RefusesTheUnsigned, MoreCaveatsNeverOpenMore, blind_refusal, words_with}}
-use Rattle.pass_caveats.specs.{Fault.{first_fault_from, first_fault_of}, declared.{ask.Ask.Ask, caveat.Caveat.Caveat}}
+use Rattle.club_laws.specs.{Rotation.{ServesNoRevokedKey, WasRevoked}, SingleRequest.{RefusesTheUnsigned, MoreCaveatsNeverOpenMore, blind_refusal, words_with}}
+use Rattle.club_rows.specs.{Rows.{same_slot, refund_at}, declared.{booking.Booking.Booking, key.Key.Key}}
+use Rattle.pass_caveats.specs.{Fault.{first_fault_from, first_fault_of}, Laws.TestsTheSet, declared.{ask.Ask.Ask, caveat.Caveat.Caveat}}
 
 -- The pass meets the conditions that the rules check before they decide the request.
 pub record PassesTests (pass : Pass) (request : Request) (moment : ℕ) (basis : Basis) : Type 0 where

@@ -1,23 +1,27 @@
 -- Lemmas for the proof that a member's part of the club determines the replies to the member's
 -- requests. Where events failed, the proofs remove them from the run.
-use Rattle.std.proofs.Common.{bytes_eq}
+use Rattle.std.proofs.Common.{bytes_eq, ◌≡◌, ◌≢◌, ℕ, false, arith, inl, [], ◌∷◌, refl, List, ◌++◌, length, append_assoc, Ok, subst, ◌+◌, Bool, Option, Some}
+use Rattle.std.proofs.{Common.{None, option_map, sym, ap, true, cond, Result, ◌∙◌, map}, lemmas.List.Elements.{All-nil, All-cons, All-head, All-tail}}
+use Rattle.std.proofs.lemmas.{Simd.map-map, Slice.Eq.bytes_eq-Decides}
 use Rattle.club_core.specs.Solo.{outside, part_of, with_others, OwnEvent, OwnAsk, OwnChange, own_ask, own_change, own_part, solo_verdict, own_events}
-use Rattle.club_core.specs.{Solo.solo_replies, declared.{command.OfficeAnswer.OfficeAnswer, refusal.Refusal.TheVariants.Unavailable, slot_use.SlotUse.SlotUse}}
+use Rattle.club_core.specs.Run.{Event, Asked, Commanded, step, ToMember, Response, IsEvent, after_change, command_outcome, EventReply, replies_of, club_after}
+use Rattle.club_core.specs.{Club.{Club, empty_club, is_in, key_named, member_named, keys_of, is_key_of, bookings_of}, declared.command.OfficeFault.OfficeFault}
+use Rattle.club_core.specs.declared.{change.Change.{Change, TheVariants.{InsertBooking, MarkCancelled}}, reply.Reply.{Reply, TheVariants.{Cancelled, Refused}}}
+use Rattle.club_core.specs.{Basis.{Basis, SlotState, basis_of, state_of, key_of}, declared.{refusal.Refusal.TheVariants.Unavailable, slot_use.SlotUse.SlotUse}}
+use Rattle.club_core.specs.{Answer.{verdict_in, answer_by_basis}, declared.{command.{Command.Command, OfficeAnswer.OfficeAnswer}, verdict.Verdict.Verdict}}
+use Rattle.club_core.specs.{After.after, Laws.TestsTheSignature, Office.office_verdict, Request.{Words, request_slot}, Solo.solo_replies}
 use Rattle.club_laws.proofs.AnswerCases.{answer_cases, club_after-append, known_rows, whole_basis, is_own_key, written, filter_twice, sum_in_parts}
-use Rattle.club_laws.proofs.{AnswerCases.{found_passes, find_filtered, bytes_same, same_bytes_of, numbered, is_numbered}, Common.{Cancelled, ◌≡◌, ◌≢◌, ℕ}}
-use Rattle.club_laws.proofs.Common.{false, arith, inl, [], ◌∷◌, refl, List, ◌++◌, length, append_assoc, Refused, Verdict, verdict_in, Club, empty_club, Words}
-use Rattle.club_laws.proofs.Common.{Event, Asked, Commanded, step, ToMember, Response, All-nil, All-cons, All-head, All-tail, IsEvent, TestsTheSet, Reply}
-use Rattle.club_laws.proofs.Common.{TestsTheSignature, Ok, subst, ◌+◌, Bool, Option, Some, None, option_map, sym, ap, true, cond, Result, ◌∙◌, map, Slot}
-use Rattle.club_laws.proofs.Common.{Facility, Booking, persons_of, refund_at, is_in, request_slot, key_named, member_named, keys_of, is_key_of, bookings_of}
-use Rattle.club_laws.proofs.Common.{Basis, SlotState, basis_of, state_of, key_of, bytes_eq-Decides, Change, InsertBooking, MarkCancelled, Command, OfficeFault}
-use Rattle.club_laws.proofs.Common.{after, answer_by_basis, office_verdict, after_change, command_outcome, EventReply, replies_of, club_after, map-map}
-use Rattle.club_laws.proofs.MemberParts.{fresh_by_command, is_named, is_owned, has_name, is_under_one, part_changed, owner, IsKeyed, keyed_step}
-use Rattle.club_laws.proofs.{MemberParts.keyed_from_sound, PointRuns.{conserved, has_room}, ServedPasses.{cancelled_by_record, step_of_repeat}}
-use Rattle.club_laws.{proofs.SoundSteps.sound_run, specs.Failed.{is_unavailable, CutsRuns, JoinsRuns, LeavesEvents, LeavesOutFailed, RunsWithoutFailures}}
-use Rattle.club_laws.specs.{Failed.{Presentation, present_reply, has_failed, answered_events, IsStep, IsRun}, Frame.LeavesThePart, Repeats.refund_by_office}
-use Rattle.club_laws.specs.{Repeats.{IsBookedOrCancelled, WasServed}, RunsWithFailures.{CancellationsWithFailures, ConservesWithFailures, PlacesWithFailures}}
-use Rattle.club_laws.specs.{RunsWithFailures.{SoundWithFailures, RepeatsWithFailures, RepeatsAfterOneMore, WasReturned, SoloLawWithFailures}, SoloLaw.SoloLaw}
-use Rattle.club_laws.specs.SoloLaw.{EndsWithThePart, is_ask, replies_to, solo_part}
+use Rattle.club_laws.proofs.{AnswerCases.{found_passes, find_filtered, bytes_same, same_bytes_of, numbered, is_numbered}, MemberParts.fresh_by_command}
+use Rattle.club_laws.proofs.MemberParts.{is_named, is_owned, has_name, is_under_one, part_changed, owner, IsKeyed, keyed_step, keyed_from_sound}
+use Rattle.club_laws.proofs.{PointRuns.{conserved, has_room}, ServedPasses.{cancelled_by_record, step_of_repeat}, SoundSteps.sound_run}
+use Rattle.club_laws.specs.Failed.{is_unavailable, CutsRuns, JoinsRuns, LeavesEvents, LeavesOutFailed, RunsWithoutFailures, Presentation, present_reply}
+use Rattle.club_laws.specs.{Failed.{has_failed, answered_events, IsStep, IsRun}, Frame.LeavesThePart, Repeats.{refund_by_office, IsBookedOrCancelled}}
+use Rattle.club_laws.specs.{Repeats.WasServed, RunsWithFailures.{CancellationsWithFailures, ConservesWithFailures, PlacesWithFailures, SoundWithFailures}}
+use Rattle.club_laws.specs.{RunsWithFailures.{RepeatsWithFailures, RepeatsAfterOneMore, WasReturned, SoloLawWithFailures}, SoloLaw.{SoloLaw, EndsWithThePart}}
+use Rattle.club_laws.specs.SoloLaw.{is_ask, replies_to, solo_part}
+use Rattle.club_rows.specs.{Rows.{persons_of, refund_at}, declared.{booking.Booking.Booking, facility.Facility.Facility}}
+use Rattle.club_values.specs.declared.slot.Slot.{Slot}
+use Rattle.pass_caveats.specs.Laws.{TestsTheSet}
 
 pub answers_requests : (club : Club) (words : Words) (moment : ℕ) → is_unavailable (verdict_in club words moment).reply ≡ false
 answers_requests club words moment = answer_cases (λ (v : Verdict). is_unavailable v.reply ≡ false) club words moment (grind arith)

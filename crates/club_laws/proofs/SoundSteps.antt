@@ -1,22 +1,25 @@
 -- Lemmas for the proofs that suitable changes and the steps of a run keep a club sound.
 use Rattle.club_core.specs.declared.request.Request.TheVariants as asked
-use Rattle.std.{proofs.lemmas.{Bool.Decides.nat_tests, List.{Kept.AllPairs-filter, Quantifiers.all_pairs_push}}, specs.{List.fold, Prelude.max}}
-use Rattle.club_core.specs.{Store.IsTrueOf, Sums.{is_at, most_taken_in}, declared.{change.Change.TheVariants.MarkClosed, command.Command.TheVariants.CloseSlot}}
+use Rattle.std.proofs.Common.{◌≡◌, ℕ, ◌≤◌, Bool, false, List, [], ◌∷◌, All, filter, find, sum_by, ap, arith, Option, Some, None, refl, ◌∙◌, subst, ◌≢◌, ◌++◌}
+use Rattle.std.proofs.{Common.{get_or, map, Contains, sym, Ok, Result}, lemmas.{Bool.Decides.nat_tests, List.Elements.{All-weaker, All-nil, All-cons}}}
+use Rattle.std.proofs.lemmas.List.{Elements.{All-contains, All-push, All-map, All-filter, All-head, All-tail}, Kept.AllPairs-filter, Quantifiers.all_pairs_push}
+use Rattle.std.{proofs.lemmas.{Simd.map-map, Slice.Eq.bytes_eq-Decides}, specs.{List.fold, Prelude.max, Str.bytes_eq}}
+use Rattle.club_core.specs.After.{facility_with_numbers, debited_member, credited_member, revoked_key, rotated_key, after, cancelled_booking, member_with_quota}
+use Rattle.club_core.specs.{Answer.verdict_in, Club.{is_at, most_taken_in, is_in, taken_in, member_named, cost_of, Club, keys_of, is_key_of, bookings_of}}
+use Rattle.club_core.specs.{Club.{IsSound, HasReferences, key_named}, Office.{IsCommand, office_verdict}, Request.Words, Run.{command_outcome, IsRequest}}
+use Rattle.club_core.specs.{Run.{IsEvent, after_change, Asked, Commanded, step}, Store.IsTrueOf, declared.change.Change.{Change, TheVariants.MarkClosed}}
+use Rattle.club_core.specs.declared.change.Change.TheVariants.{MarkCancelled, ReplaceNumbers, AddCredit, TakeCredit, MarkOpen, ReplaceQuota, InsertMember}
+use Rattle.club_core.specs.declared.{change.Change.TheVariants.{InsertFacility, InsertKey, MarkRevoked, ReplaceRoot, InsertBooking}, command.Command.Command}
+use Rattle.club_core.specs.declared.command.Command.TheVariants.{CloseSlot, CancelBooking, SetFacility, Debit, AddMember, Credit, AddFacility, AddKey}
+use Rattle.club_core.specs.declared.{command.{Command.TheVariants.{RevokeKey, RotateKey, OpenSlot, SetQuota}, OfficeFault.OfficeFault}, verdict.Verdict.Verdict}
 use Rattle.club_laws.proofs.AnswerCases.{Knows, Books, written, answer_cases, filter_none, found_passes, none_found, found_is_there, find_filtered, slots_same}
 use Rattle.club_laws.proofs.AnswerCases.{same_bytes_of, sum_one_more, sum_no_more, AreApart, AllPairs-map, fresh_differs, still_there, named_there, only_named}
 use Rattle.club_laws.proofs.AnswerCases.{none_passes, same_slots, at_found, only_numbered, named, none_named, is_numbered, found_by_own, numbered}
-use Rattle.club_laws.proofs.Common.{All-weaker, ◌≡◌, ℕ, ◌≤◌, Bool, false, List, [], ◌∷◌, All, All-nil, All-cons, All-contains, filter, find, sum_by, ap, arith}
-use Rattle.club_laws.proofs.Common.{Option, Some, None, refl, ◌∙◌, Slot, Booking, same_slot, persons_of, is_in, taken_in, subst, command_outcome, MarkCancelled}
-use Rattle.club_laws.proofs.Common.{ReplaceNumbers, facility_with_numbers, AddCredit, TakeCredit, debited_member, member_named, ◌≢◌, ◌++◌, get_or, map}
-use Rattle.club_laws.proofs.Common.{Contains, bytes_eq, All-push, All-map, map-map, Member, Facility, Key, cost_of, credited_member, revoked_key, rotated_key}
-use Rattle.club_laws.proofs.Common.{after, cancelled_booking, Club, keys_of, is_key_of, bookings_of, IsSound, HasReferences, bytes_eq-Decides, MarkOpen}
-use Rattle.club_laws.proofs.Common.{ReplaceQuota, member_with_quota, All-filter, InsertMember, InsertFacility, InsertKey, MarkRevoked, ReplaceRoot}
-use Rattle.club_laws.proofs.Common.{InsertBooking, sym, key_named, CancelBooking, SetFacility, Debit, Ok, Result, All-head, All-tail, refund_at, Command}
-use Rattle.club_laws.proofs.Common.{AddMember, Credit, AddFacility, AddKey, RevokeKey, RotateKey, OpenSlot, SetQuota, IsCommand, IsRequest, IsEvent, Verdict}
-use Rattle.club_laws.proofs.{Common.{Words, verdict_in, after_change, Asked, Commanded, step, Change, OfficeFault, office_verdict}, MemberParts.edited_member}
-use Rattle.club_laws.proofs.MemberParts.{edited, bookings_of-added, bookings_of-edited, owner, HasKnownKeys, with_edited}
+use Rattle.club_laws.proofs.MemberParts.{edited_member, edited, bookings_of-added, bookings_of-edited, owner, HasKnownKeys, with_edited}
 use Rattle.club_laws.specs.SoundRuns.{SuitingChangesKeepSound, ChangesFit, RunsKeepSound, StepsKeepSound, Suits, SuitsBooking}
-use Rattle.club_rows.specs.{Rows.{IsMember, IsFacility, IsKey, IsBooking}, declared.key.OlderRoot.OlderRoot}
+use Rattle.club_rows.specs.{Rows.{same_slot, persons_of, refund_at, IsMember, IsFacility, IsKey, IsBooking}, declared.booking.Booking.Booking}
+use Rattle.club_rows.specs.declared.{facility.Facility.Facility, key.{Key.Key, OlderRoot.OlderRoot}, member.Member.Member}
+use Rattle.club_values.specs.declared.slot.Slot.{Slot}
 
 -- The maximum of `first` and of the values of `f` for all elements.
 abbrev most_of : {X : Type 0} → (X → ℕ) → ℕ → List X → ℕ

@@ -1,6 +1,6 @@
 -- Defines runs in which some events failed because an allocation or the storage failed.
 use Rattle.std.specs.Prelude.{◌≡◌, ◌≢◌, ◌⊎◌, Bool, true, false, IsTrue, IsFalse, List, [], ◌∷◌, ◌++◌, length, map, All, if◌then◌else◌}
-use Rattle.club_core.specs.{Club.Club, Events.IsEvent, Run.{Event, Asked, Commanded, step, replies_of, club_after, EventReply, Response, ToMember, ToOffice}}
+use Rattle.club_core.specs.{Club.Club, Run.{IsEvent, Event, Asked, Commanded, step, replies_of, club_after, EventReply, Response, ToMember, ToOffice}}
 use Rattle.club_core.specs.declared.{command.OfficeAnswer.OfficeAnswer, refusal.Refusal.TheVariants.Unavailable, reply.Reply.{Reply, TheVariants.Refused}}
 
 -- Describes how a desk shows the machine's answers to the office. `is_fault` tests whether a shown

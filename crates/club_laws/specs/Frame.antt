@@ -1,6 +1,6 @@
 -- Laws about the effect of changes and events on a member's part of the club.
 use Rattle.std.specs.Prelude.{◌≡◌, ℕ, ◌+◌, Bool, List, [], if◌then◌else◌, Some}
-use Rattle.club_core.specs.{After.{after, is_own}, Club.{Club, IsSound, is_key_of}, Run.{Event, step}, Solo.{outside, own_part, part_of}, Sums.taken_in}
+use Rattle.club_core.specs.{After.{after, is_own}, Club.{Club, IsSound, is_key_of, taken_in}, Run.{Event, step}, Solo.{outside, own_part, part_of}}
 use Rattle.club_core.specs.declared.change.Change.{Change, TheVariants.InsertBooking}
 use Rattle.club_values.specs.declared.slot.Slot.{Slot}
 

@@ -1,11 +1,11 @@
 -- Laws about repeated requests. An accepted repeat of a served booking or cancellation changes
 -- nothing.
-use Rattle.std.specs.Prelude.{Some, if◌then◌else◌, ◌≡◌, ℕ, List, ◌∷◌, ◌++◌}
-use Rattle.club_rows.specs.declared.booking.Booking.{Booking}
-use Rattle.club_core.specs.{Acceptance.IsAcceptedIn, Basis.key_of, Club.Club, Pass.Words, Run.{Commanded, ToOffice, Event, Asked, step, replies_of, club_after}}
-use Rattle.club_core.specs.{Run.{EventReply, ToMember}, Sums.booking_under, declared.command.{Command.TheVariants.CancelBooking, OfficeAnswer.TheVariants.Done}}
-use Rattle.club_core.specs.declared.reply.Reply.{Reply, TheVariants.{Booked, Cancelled}}
 use Rattle.club_core.specs.declared.request.Request.TheVariants as asked
+use Rattle.std.specs.Prelude.{Some, if◌then◌else◌, ◌≡◌, ℕ, List, ◌∷◌, ◌++◌}
+use Rattle.club_core.specs.{Basis.key_of, Club.{Club, booking_under}, Laws.IsAcceptedIn, Request.Words, Run.{Commanded, ToOffice, Event, Asked, step}}
+use Rattle.club_core.specs.{Run.{replies_of, club_after, EventReply, ToMember}, declared.command.Command.TheVariants.CancelBooking}
+use Rattle.club_core.specs.declared.{command.OfficeAnswer.TheVariants.Done, reply.Reply.{Reply, TheVariants.{Booked, Cancelled}}}
+use Rattle.club_rows.specs.declared.booking.Booking.{Booking}
 
 -- The reply confirms a booking or a cancellation.
 abbrev pub IsBookedOrCancelled : Reply → Type 0

@@ -1,10 +1,27 @@
--- Example runs in which the office replaces a key's root.
-use Rattle.std.specs.{Prelude.{ℕ, List, [], ◌∷◌, Some, Ok, replicate, codes}, Str.bytes_eq}
-use Rattle.club_core.specs.Examples.{RunsAs, root, slot_at, noon, late, served_booking, account}
-use Rattle.club_core.specs.{Run.{Event, Asked, Commanded, ToMember, ToOffice}, declared.command.Command.TheVariants.{RevokeKey, RotateKey}}
-use Rattle.club_core.specs.declared.{command.OfficeAnswer.TheVariants.{Done, NewKey}, reply.Reply.TheVariants.Refused, request.Request.Request}
+-- Defines when a key was revoked in a run, with example runs in which the office replaces a key's
+-- root.
 use Rattle.club_core.specs.declared.refusal.Refusal.TheVariants as refusals
 use Rattle.club_core.specs.declared.request.Request.TheVariants as asked
+use Rattle.std.specs.{Prelude.{◌≡◌, ℕ, List, ◌∷◌, ◌++◌, Some, [], Ok, replicate, codes}, Str.bytes_eq}
+use Rattle.club_core.specs.{Answer.verdict_in, Basis.key_of, Club.Club, Examples.{RunsAs, root, slot_at, noon, late, served_booking, account}, Laws.IsServed}
+use Rattle.club_core.specs.{Request.Words, Run.{Event, Commanded, step, club_after, ToOffice, Asked, ToMember}, declared.command.Command.TheVariants.RevokeKey}
+use Rattle.club_core.specs.declared.{command.{Command.TheVariants.RotateKey, OfficeAnswer.TheVariants.{Done, NewKey}}, reply.Reply.TheVariants.Refused}
+use Rattle.club_core.specs.declared.request.Request.{Request}
+
+-- The office revoked the key within the history.
+pub record WasRevoked (club : Club) (history : List Event) (name : List ℕ) : Type 0 where
+  pub front : List Event
+  pub rest : List Event
+  pub place : history ≡ front ++ Commanded (RevokeKey name) ∷ rest
+  pub reply_is : (step (club_after club front) (Commanded (RevokeKey name))).reply ≡ ToOffice Done
+
+-- After the office revoked a key, the desk serves no request under that key.
+abbrev pub ServesNoRevokedKey : Type 0
+ServesNoRevokedKey =
+    (club : Club) (history : List Event) (name : List ℕ) (words : Words) (moment : ℕ)
+    → WasRevoked club history name
+    → key_of words.pass ≡ Some name
+    → ¬ IsServed (verdict_in (club_after club history) words moment).reply
 
 -- A request with a pass of the key amy-1. The pass is signed under this root only.
 abbrev pub ask_under : List ℕ → Request → ℕ → Event

@@ -1,13 +1,13 @@
 -- Laws about runs in which some events failed.
+use Rattle.club_core.specs.declared.request.Request.TheVariants as asked
 use Rattle.std.specs.Prelude.{◌≡◌, ℕ, IsFalse, List, ◌∷◌, ◌++◌, length, map, All, Some}
-use Rattle.club_values.specs.declared.slot.Slot.{Slot}
-use Rattle.club_rows.specs.declared.{booking.Booking.Booking, member.Member.Member}
-use Rattle.club_core.specs.{Acceptance.IsAcceptedIn, Basis.key_of, Club.Club}
-use Rattle.club_core.specs.{Club.{empty_club, member_named, IsSound}, Events.IsEvent, Pass.Words, Run.{Event, Asked, step, replies_of, club_after, ToMember}}
-use Rattle.club_core.specs.{Run.Response, Solo.{own_events, part_of, solo_replies}, declared.reply.Reply.{Reply, TheVariants.Cancelled}}
+use Rattle.club_core.specs.{Basis.key_of, Club.{Club, empty_club, member_named, IsSound}, Laws.IsAcceptedIn, Request.Words, Run.{IsEvent, Event, Asked, step}}
+use Rattle.club_core.specs.{Run.{replies_of, club_after, ToMember, Response}, Solo.{own_events, part_of, solo_replies}, declared.reply.Reply.Reply}
+use Rattle.club_core.specs.declared.reply.Reply.TheVariants.{Cancelled}
 use Rattle.club_laws.specs.{Conservation.{IsConserved, HasPlaces}, Failed.{Presentation, has_failed, IsRun, answered_events, answers}, Repeats.WasCancelled}
 use Rattle.club_laws.specs.{Repeats.{refund_by_office, IsBookedOrCancelled}, SoloLaw.replies_to}
-use Rattle.club_core.specs.declared.request.Request.TheVariants as asked
+use Rattle.club_rows.specs.declared.{booking.Booking.Booking, member.Member.Member}
+use Rattle.club_values.specs.declared.slot.Slot.{Slot}
 
 -- A run from a sound club ends in a sound club, even if some events failed. The values of all
 -- events must be within their limits.

@@ -1,10 +1,10 @@
 -- Laws about the answer to a single request.
 use Rattle.std.specs.Prelude.{◌≡◌, ℕ, List, ◌++◌, Option, Some, None, Result, Ok, Err}
+use Rattle.club_core.specs.{Answer.{form_refusal, verdict_in}, Basis.basis_of, Club.{Club, key_named}, Laws.{IsServed, IsEntitled}, Request.{Pass, Words}}
+use Rattle.club_core.specs.{Request.IsSignedUnder, Run.{Asked, step}, Verdict.refusal_verdict, declared.pass_fault.PassFault.PassFault}
+use Rattle.club_core.specs.declared.{refusal.Refusal.{Refusal, TheVariants.NotVerified}, request.Request.Request}
 use Rattle.club_rows.specs.declared.key.Key.{Key}
 use Rattle.pass_caveats.specs.declared.caveat.Caveat.{Caveat}
-use Rattle.club_core.specs.{Acceptance.{IsServed, IsEntitled}, Answer.{form_refusal, verdict_in}}
-use Rattle.club_core.specs.{Basis.basis_of, Club.{Club, key_named}, Pass.{Pass, Words, IsSignedUnder}, Run.{Asked, step}, Verdict.refusal_verdict}
-use Rattle.club_core.specs.declared.{pass_fault.PassFault.PassFault, refusal.Refusal.{Refusal, TheVariants.NotVerified}, request.Request.Request}
 
 -- Two clubs with the same basis for a request give the same answer at the same moment. A basis is
 -- the set of rows that an answer may depend on.

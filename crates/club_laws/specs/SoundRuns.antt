@@ -1,12 +1,12 @@
 -- Laws about sound clubs, and about the changes that events make to them.
 use Rattle.std.specs.Prelude.{◌≡◌, ◌≢◌, ◌+◌, ◌≤◌, true, false, List, [], ◌∷◌, ◌++◌, map, sum_by, All, Contains, Some, Ok}
 use Rattle.club_core.specs.{After.after, Answer.verdict_in, Club.{Club, empty_club, IsSound, bookings_of, is_closed, member_named, facility_named, key_named}}
-use Rattle.club_core.specs.{Events.IsEvent, Office.{are_limits, office_verdict}, Run.{Event, Asked, Commanded, step, club_after}, Store.FitsClub}
-use Rattle.club_core.specs.{Sums.{booking_under, cost_of, taken_in}, declared.change.Change.{Change, TheVariants.{InsertMember, AddCredit, InsertFacility}}}
-use Rattle.club_core.specs.declared.change.Change.TheVariants.{InsertKey, MarkRevoked, ReplaceRoot, MarkClosed, MarkOpen, ReplaceQuota, TakeCredit}
-use Rattle.club_core.specs.declared.change.Change.TheVariants.{ReplaceNumbers, InsertBooking, MarkCancelled}
-use Rattle.club_rows.specs.{Limits.{credited_limit, quota_limit, IsRoot}, Rows.{IsMember, IsFacility, IsKey, IsSlot, IsBooking}}
-use Rattle.club_rows.specs.declared.{booking.Booking.Booking, facility.Facility.Facility, key.Key.Key, member.Member.Member}
+use Rattle.club_core.specs.{Club.{booking_under, cost_of, taken_in}, Office.{are_limits, office_verdict}, Run.{IsEvent, Event, Asked, Commanded, step}}
+use Rattle.club_core.specs.{Run.club_after, Store.FitsClub, declared.change.Change.{Change, TheVariants.{InsertMember, AddCredit, InsertFacility, InsertKey}}}
+use Rattle.club_core.specs.declared.change.Change.TheVariants.{MarkRevoked, ReplaceRoot, MarkClosed, MarkOpen, ReplaceQuota, TakeCredit, ReplaceNumbers}
+use Rattle.club_core.specs.declared.change.Change.TheVariants.{InsertBooking, MarkCancelled}
+use Rattle.club_rows.specs.{Rows.{credited_limit, quota_limit, IsRoot, IsMember, IsFacility, IsKey, IsSlot, IsBooking}, declared.booking.Booking.Booking}
+use Rattle.club_rows.specs.declared.{facility.Facility.Facility, key.Key.Key, member.Member.Member}
 use Rattle.club_values.specs.{Moment.IsMoment, declared.slot.Slot.Slot}
 
 -- The empty club is sound.

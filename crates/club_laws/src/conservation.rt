@@ -2,8 +2,7 @@
 
 ghost use Rattle.club_laws.specs.Conservation.{ConservesPoints, ConservesWithoutCorrections};
 ghost use Rattle.club_laws.specs.Conservation.{NeverOverbooks, SoundClubsHavePlaces};
-ghost use Rattle.club_laws.specs.ExampleRuns.{CountsACancellationOnce, CountsADebit};
-ghost use Rattle.club_laws.specs.ExampleRuns.{CountsEachOnce};
+ghost use Rattle.club_laws.specs.Examples.{CountsACancellationOnce, CountsADebit, CountsEachOnce};
 
 /// An example: each charge and each refund counts once, even if later replies repeat the charge or
 /// the refund.

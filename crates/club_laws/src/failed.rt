@@ -1,9 +1,9 @@
 //! Laws about runs in which some events failed because an allocation or the storage failed. `O` is
 //! the type of a desk's answers to the office.
 
-ghost use Rattle.club_laws.specs.Failed.{CutsRuns, JoinsRuns, LeavesEvents, LeavesOutFailed};
-ghost use Rattle.club_laws.specs.Failed.{NeverUnavailable, RunsWithoutFailures};
-ghost use Rattle.club_laws.specs.FailedExample.{LeavesOutFailedEvents};
+ghost use Rattle.club_laws.specs.{Examples.LeavesOutFailedEvents, Failed.{CutsRuns, JoinsRuns}};
+ghost use Rattle.club_laws.specs.Failed.{LeavesEvents, LeavesOutFailed, NeverUnavailable};
+ghost use Rattle.club_laws.specs.Failed.{RunsWithoutFailures};
 
 /// Removing the failed events from a run changes neither the responses to the other events nor the
 /// last club.

@@ -1,7 +1,7 @@
 //! Laws about repeated requests. An accepted repeat of a served booking or cancellation changes
 //! nothing.
 
-ghost use Rattle.club_laws.specs.ExampleRuns.{AcceptsARepeat, RepeatsAfterTheOffice};
+ghost use Rattle.club_laws.specs.Examples.{AcceptsARepeat, RepeatsAfterTheOffice};
 ghost use Rattle.club_laws.specs.Repeats.{CancellationsReturnTheRecord, RepeatsMayBeLeftOut};
 ghost use Rattle.club_laws.specs.Repeats.{RepeatsReturnTheSame};
 

@@ -1,6 +1,6 @@
 //! Laws about the solo machine, which has only one member's part of the club.
 
-ghost use Rattle.club_laws.specs.Outside.{SeesNothingOfOthers, SeesTheSlotAlone};
+ghost use Rattle.club_laws.specs.Examples.{SeesNothingOfOthers, SeesTheSlotAlone};
 
 /// Outside the member's part of the club, the solo machine sees only the requested slot. The
 /// machine sees how many persons other members have in the slot, and whether the slot is closed.

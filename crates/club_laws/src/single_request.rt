@@ -1,6 +1,6 @@
 //! Laws about the answer to a single request.
 
-ghost use Rattle.club_laws.specs.{Revoked.ServesNoRevokedKey, SingleRequest.AnswersFormsAlike};
+ghost use Rattle.club_laws.specs.{Rotation.ServesNoRevokedKey, SingleRequest.AnswersFormsAlike};
 ghost use Rattle.club_laws.specs.SingleRequest.{DependsOnTheBasisAlone, MoreCaveatsNeverOpenMore};
 ghost use Rattle.club_laws.specs.SingleRequest.{RefusesTheUnsigned, RefusesWithoutABasis};
 ghost use Rattle.club_laws.specs.SingleRequest.{ServesOnlyTheEntitled};

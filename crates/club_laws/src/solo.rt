@@ -1,10 +1,10 @@
 //! Laws about the replies to a member's requests. A machine that has only the member's part of the
 //! club gives the same replies.
 
-ghost use Rattle.club_laws.specs.SoloExamples.{AnswersAmyAlone, AnswersAmyAmongOthers};
-ghost use Rattle.club_laws.specs.SoloExamples.{ShowsAmyATakenPlace, ShowsAmyHerCancellation};
-ghost use Rattle.club_laws.specs.SoloExamples.{ShowsAmyNewNumbers};
-ghost use Rattle.club_laws.specs.SoloLaw.{EndsWithThePart, SoloLaw, SoloLawOfTwo};
+ghost use Rattle.club_laws.specs.Examples.{AnswersAmyAlone, AnswersAmyAmongOthers};
+ghost use Rattle.club_laws.specs.Examples.{ShowsAmyATakenPlace, ShowsAmyHerCancellation};
+ghost use Rattle.club_laws.specs.{Examples.ShowsAmyNewNumbers, SoloLaw.{EndsWithThePart, SoloLaw}};
+ghost use Rattle.club_laws.specs.SoloLaw.{SoloLawOfTwo};
 
 /// In a run from a sound club, a member's part of the club and the member's own events determine
 /// the replies to the member's requests.

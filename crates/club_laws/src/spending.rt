@@ -1,6 +1,6 @@
 //! Laws about the points that a key has spent and the points that its member has used.
 
-ghost use Rattle.club_laws.specs.Spending.{AccountsShowWhatIsUsed, SpendsWithinItsMember};
+ghost use Rattle.club_laws.specs.Conservation.{AccountsShowWhatIsUsed, SpendsWithinItsMember};
 
 use club_core::laws::own_bookings_suffice;
 

@@ -8,16 +8,17 @@ use Rattle.std.{proofs.lemmas.List.Sums.sum_by-cons, specs.{List.list_any, Prelu
 use Rattle.std.{proofs.{Common.{Bool, true, ◌-◌, ◌≤◌, cond, false, Option, Some, None, Decides}, Math.Path.fun_ext}, specs.{Str.bytes_eq, Vec.vec_items}}
 use Rattle.club_core.specs.{After.{after, credited_member, debited_member, member_with_quota, facility_with_numbers, cancelled_booking}, Answer.answer_to}
 use Rattle.club_core.specs.{Answer.answer_by_basis, Basis.{Basis, view_of, basis_of, seen_of}, Club.{Club, member_named, is_key_of, facility_named, key_named}}
-use Rattle.club_core.specs.{Club.bookings_of, Office.office_verdict, Pass.{Pass, Words}, Request.request_slot, Solo.{part_of, with_others, solo_verdict}}
-use Rattle.club_core.specs.{Sums.{is_in, taken_in, cost_of, is_under, spent_under, balance_of}, Verdict.{new_booking, verdict_of}}
-use Rattle.club_core.specs.declared.change.Change.{Change, TheVariants.{InsertMember, AddCredit, InsertFacility, InsertBooking, MarkCancelled, TakeCredit}}
+use Rattle.club_core.specs.{Club.{bookings_of, is_in, taken_in, cost_of, is_under, spent_under, balance_of}, Office.office_verdict, Request.{Pass, Words}}
+use Rattle.club_core.specs.{Request.request_slot, Solo.{part_of, with_others, solo_verdict}, Verdict.{new_booking, verdict_of}, declared.change.Change.Change}
+use Rattle.club_core.specs.declared.change.Change.TheVariants.{InsertMember, AddCredit, InsertFacility, InsertBooking, MarkCancelled, TakeCredit}
 use Rattle.club_core.specs.declared.{change.Change.TheVariants.{ReplaceNumbers, ReplaceQuota}, command.Command.Command, pass_fault.PassFault.PassFault}
 use Rattle.club_core.specs.declared.{request.Request.Request, slot_use.SlotUse.SlotUse, view.View.View}
-use Rattle.club_reference.specs.{Words.{IsModelOf, IsPassModel, IsResultModel, answer_seen}, computed.Words.{pass_model, pass_result_model, words_model}}
-use Rattle.club_reference.specs.{Solo.with_outside, Laws.ModelsWords, Widths.FitsWidths, declared.words.{Words.Words as WordsInCode, Pass.Pass as PassInCode}}
-use Rattle.club_rows.specs.{Booking.{same_slot, persons_of}, Facility.charge_of, declared.{booking.Booking.Booking, facility.Facility.Facility, key.Key.Key}}
+use Rattle.club_reference.specs.{Laws.ModelsWords, Widths.FitsWidths, Words.{IsModelOf, IsPassModel, IsResultModel, answer_seen, with_outside}}
+use Rattle.club_reference.specs.{computed.Words.{pass_model, pass_result_model, words_model}, declared.words.Pass.Pass as PassInCode}
+use Rattle.club_reference.specs.declared.words.Words.{Words as WordsInCode}
+use Rattle.club_rows.specs.{Rows.{same_slot, persons_of, charge_of}, declared.{booking.Booking.Booking, facility.Facility.Facility, key.Key.Key}}
 use Rattle.club_rows.specs.declared.member.Member.{Member}
-use Rattle.club_values.specs.{Reading.Reads, declared.slot.Slot.Slot}
+use Rattle.club_values.specs.{Number.Reads, declared.slot.Slot.Slot}
 use Rattle.pass_caveats.specs.{Caveat.Understood, Fault.AreUnderstoodAs, Laws.ReadsWhatIsUnderstood, computed.CaveatOf.caveat_of, declared.caveat.Caveat.Caveat}
 
 -- The list after `f` has edited the elements before index `i`.

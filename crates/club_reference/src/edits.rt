@@ -1,8 +1,7 @@
 //! Edits existing rows. Each call searches all rows, and edits the rows that the arguments name.
 
 ghost use Rattle.std.specs.Prelude.{◌≡◌, ◌≤◌, map, All};
-ghost use Rattle.club_rows.specs.Limits.{credited_limit};
-ghost use Rattle.club_rows.specs.declared.member.Member.{Member as MemberRow};
+ghost use Rattle.club_rows.specs.{Rows.credited_limit, declared.member.Member.Member as MemberRow};
 ghost use Rattle.club_core.specs.After as after;
 
 use club_rows::{Booking, BookingNumber, Facility, Key, Member, OlderRoot, Root};

@@ -2,8 +2,8 @@
 //! other machines.
 
 ghost use Rattle.std.specs.Prelude.{◌≡◌};
-ghost use Rattle.club_core.specs.Sums as sums;
-ghost use Rattle.club_reference.specs.Ownership.{own_bookings};
+ghost use Rattle.club_reference.specs.Widths.{own_bookings};
+ghost use Rattle.club_core.specs.Club as sums;
 
 use crate::club::Club;
 use crate::sums::balance;

@@ -4,13 +4,12 @@
 
 ghost use Rattle.std.specs.Prelude.{◌≡◌, ◌≤◌, ◌<◌, ◌^◌, IfOk, IfSome, OnOk, OnErr, filter};
 ghost use Rattle.std.specs.{Prelude.option_map, Str.bytes_eq};
+ghost use Rattle.club_reference.specs.Widths.{Grows, own_bookings, others_bookings};
+ghost use Rattle.club_reference.specs.{Words.{with_outside, IsModelOf}, computed.Words.words_model};
 ghost use Rattle.club_rows.specs.declared.key.Key.{Key as KeyRow};
 ghost use Rattle.club_rows.specs.declared.member.Member.{Member as MemberRow};
-ghost use Rattle.club_core.specs.Pass as rules;
-ghost use Rattle.club_core.specs.Sums as sums;
-ghost use Rattle.club_reference.specs.{Growth.Grows, Ownership.{own_bookings, others_bookings}};
-ghost use Rattle.club_reference.specs.{Solo.with_outside, Words.IsModelOf};
-ghost use Rattle.club_reference.specs.computed.Words.{words_model};
+ghost use Rattle.club_core.specs.Request as rules;
+ghost use Rattle.club_core.specs.Club as sums;
 
 use crate::club::{Club, copy_rows};
 use crate::laws::models_words;

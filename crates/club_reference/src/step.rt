@@ -4,10 +4,10 @@
 
 ghost use Rattle.std.specs.Prelude.{◌≡◌, ◌≤◌, IfOk, IfSome, IsTrue, OnErr, OnOk, option_map};
 ghost use Rattle.club_core.specs.{Answer.verdict_in, Office.{office_verdict, rows_seen}};
-ghost use Rattle.club_core.specs.Pass as rules;
-ghost use Rattle.club_core.specs.Run as machine;
-ghost use Rattle.club_reference.specs.{Growth.AddsRow, Rows.outcome, Words.IsModelOf};
+ghost use Rattle.club_reference.specs.{Rows.outcome, Widths.AddsRow, Words.IsModelOf};
 ghost use Rattle.club_reference.specs.computed.Words.{words_model};
+ghost use Rattle.club_core.specs.Request as rules;
+ghost use Rattle.club_core.specs.Run as machine;
 
 use crate::club::Club;
 use crate::edits::{cancel, credit, debit, open, revoke, rotate, set_numbers, set_quota};

@@ -1,10 +1,10 @@
 //! Sums over bookings. Each call computes a sum from all bookings.
 
 ghost use Rattle.std.specs.Prelude.{◌≡◌, ◌-◌, ◌<◌, ◌^◌, fold};
+ghost use Rattle.club_reference.specs.Widths.{is_key_of, own_bookings};
+ghost use Rattle.club_rows.specs.Rows.{persons_of};
 ghost use Rattle.club_values.specs.declared.slot.Slot.{Slot as SlotRow};
-ghost use Rattle.club_rows.specs.Booking.{persons_of};
-ghost use Rattle.club_core.specs.Sums as sums;
-ghost use Rattle.club_reference.specs.Ownership.{is_key_of, own_bookings};
+ghost use Rattle.club_core.specs.Club as sums;
 
 use club_rows::{Booking, BookingNumber, Key, Member};
 use club_values::{Moment, Name, Slot};

@@ -1,7 +1,7 @@
 //! Defines a parsed pass, and a request with a parsed pass.
 
-ghost use Rattle.std.specs.{Option.option_copied, Prelude.{◌≡◌}};
-ghost use Rattle.club_core.specs.Pass as rules;
+ghost use Rattle.std.specs.{Option.option_copied, Prelude.◌≡◌};
+ghost use Rattle.club_core.specs.Request as rules;
 
 use crate::laws::models_words;
 use club_core::{KeyView, PassFault, Request, Verdict, answer};
@@ -29,9 +29,9 @@ pub struct Words {
 }
 
 impl Pass {
-    ghost use Rattle.pass_caveats.specs.Fault.{first_fault_of};
-    ghost use Rattle.club_core.specs.Pass.{is_signed_under};
+    ghost use Rattle.club_core.specs.Request.{is_signed_under};
     ghost use Rattle.club_reference.specs.computed.Words.{pass_model};
+    ghost use Rattle.pass_caveats.specs.Fault.{first_fault_of};
 
     /// Returns true if this root signs the pass.
     fn is_signed(&self, root: &Root) -> bool

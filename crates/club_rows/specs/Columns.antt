@@ -1,9 +1,9 @@
 -- Defines which column values represent a row.
 use Rattle.std.specs.Prelude.{◌≡◌, ℕ, ◌≤◌, ℤ, pos, Bool, true, false, List}
-use Rattle.club_values.specs.{Kind.kind_text, declared.slot.Slot.Slot}
-use Rattle.club_rows.specs.{Limits.charge_limit, Rows.{IsMember, IsFacility, IsKeyRow, IsSlot, IsBooking}, declared.booking.Booking.Booking}
+use Rattle.club_rows.specs.{Rows.{charge_limit, IsMember, IsFacility, IsKeyRow, IsSlot, IsBooking}, declared.booking.Booking.Booking}
 use Rattle.club_rows.specs.declared.{booking.BookingColumns.BookingColumns, facility.{Facility.Facility, FacilityColumns.FacilityColumns}, key.KeyRow.KeyRow}
 use Rattle.club_rows.specs.declared.member.Member.{Member}
+use Rattle.club_values.specs.{Kind.kind_text, declared.slot.Slot.Slot}
 
 abbrev pub truth : Bool → ℕ
 truth false = 0

@@ -1,7 +1,7 @@
 //! Bookings, their refunds and their columns.
 
 ghost use Rattle.std.specs.Prelude.{◌≡◌};
-ghost use Rattle.club_values.specs.Reading.{Reads};
+ghost use Rattle.club_values.specs.Number.{Reads};
 
 use crate::booking_number::BookingNumber;
 use crate::columns::{booking_number_of, guests_of, number_within, paid_of, slot_from_columns};
@@ -54,7 +54,7 @@ pub struct BookingColumns<'a> {
 }
 
 impl Booking {
-    ghost use Rattle.club_rows.specs.{Booking.refund_at, Columns.IsBookingOf};
+    ghost use Rattle.club_rows.specs.{Columns.IsBookingOf, Rows.refund_at};
 
     /// Returns the refund in points for a cancellation at this moment. If at least one day remains
     /// before the slot starts, the refund is the whole charge. Otherwise, the refund is half of the

@@ -1,7 +1,7 @@
 //! Booking numbers.
 
 ghost use Rattle.std.specs.Prelude.{◌≡◌, ◌↔◌, IsSome, IfSome};
-ghost use Rattle.club_rows.specs.Limits.{IsBookingNumber};
+ghost use Rattle.club_rows.specs.Rows.{IsBookingNumber};
 
 use club_values::digits::MAX_NUMBER;
 use std::marker::Model;
@@ -21,7 +21,7 @@ impl Model for BookingNumber {
 
     ghost Value = { ℕ };
 
-    ghost use Rattle.club_rows.specs.Limits.{IsBookingNumber};
+    ghost use Rattle.club_rows.specs.Rows.{IsBookingNumber};
 
     ghost view = { λ booking. booking.number };
 

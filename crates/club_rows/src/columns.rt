@@ -1,9 +1,9 @@
 //! Parses column values. A database returns column values as integers, texts and bytes.
 
 ghost use Rattle.std.specs.Prelude.{◌≡◌, ◌≤◌, pos};
-ghost use Rattle.club_values.specs.Reading.{Reads};
-ghost use Rattle.club_rows.specs.Columns.{IsTruth, IsSlotOf, IsPaid};
-ghost use Rattle.club_rows.specs.Limits.{IsBookingNumber, IsGuests};
+ghost use Rattle.club_rows.specs.{Columns.{IsTruth, IsSlotOf, IsPaid}, Rows.IsBookingNumber};
+ghost use Rattle.club_rows.specs.Rows.{IsGuests};
+ghost use Rattle.club_values.specs.Number.{Reads};
 
 use crate::booking::MAX_CHARGE;
 use crate::booking_number::BookingNumber;

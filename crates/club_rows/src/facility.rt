@@ -1,7 +1,7 @@
 //! Facilities, their charges, opening hours and columns.
 
 ghost use Rattle.std.specs.Prelude.{◌≡◌};
-ghost use Rattle.club_values.specs.Reading.{Reads};
+ghost use Rattle.club_values.specs.Number.{Reads};
 
 use crate::columns::number_within;
 use crate::guests::Guests;
@@ -43,7 +43,7 @@ pub struct FacilityColumns<'a> {
 }
 
 impl Facility {
-    ghost use Rattle.club_rows.specs.{Columns.IsFacilityOf, Facility.{charge_of, is_open_at}};
+    ghost use Rattle.club_rows.specs.{Columns.IsFacilityOf, Rows.{charge_of, is_open_at}};
 
     /// Returns the charge in points for a booking with this number of guests.
     pub fn charge(&self, guests: Guests) -> u32

@@ -1,7 +1,7 @@
 //! The guests of a booking.
 
 ghost use Rattle.std.specs.Prelude.{◌≡◌, ◌+◌, ◌↔◌, IsSome, IfSome};
-ghost use Rattle.club_rows.specs.Limits.{IsGuests};
+ghost use Rattle.club_rows.specs.Rows.{IsGuests};
 
 use club_values::MAX_GUESTS;
 use std::marker::Model;
@@ -18,7 +18,7 @@ impl Model for Guests {
 
     ghost Value = { ℕ };
 
-    ghost use Rattle.club_rows.specs.Limits.{IsGuests};
+    ghost use Rattle.club_rows.specs.Rows.{IsGuests};
 
     ghost view = { λ guests. guests.count };
 

@@ -1,7 +1,7 @@
 //! Keys, their roots and their columns.
 
-ghost use Rattle.std.specs.{Option.option_copied, Prelude.{◌≡◌}};
-ghost use Rattle.club_values.specs.Reading.{Reads};
+ghost use Rattle.std.specs.{Option.option_copied, Prelude.◌≡◌};
+ghost use Rattle.club_values.specs.Number.{Reads};
 
 use crate::columns::truth_of;
 use crate::root::Root;
@@ -58,7 +58,7 @@ pub struct Key {
 }
 
 impl Key {
-    ghost use Rattle.club_rows.specs.Key.{key_of_row, older_root_at, row_of_key};
+    ghost use Rattle.club_rows.specs.Rows.{key_of_row, older_root_at, row_of_key};
 
     /// Returns the key with this row and this older root.
     pub fn new(row: KeyRow, older: Option<OlderRoot>) -> Key

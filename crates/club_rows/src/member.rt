@@ -1,6 +1,6 @@
 //! Members and their columns.
 
-ghost use Rattle.club_values.specs.Reading.{Reads};
+ghost use Rattle.club_values.specs.Number.{Reads};
 
 use crate::columns::number_within;
 use club_values::Name;

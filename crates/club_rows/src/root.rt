@@ -1,9 +1,9 @@
 //! The roots of keys. A root is the secret that signs a key's passes.
 
-ghost use Rattle.std.specs.Cmp.{partial_equiv_from_equiv};
-ghost use Rattle.std.specs.Cmp.Lexicographic.{pointwise, nat_list_eq_equiv};
-ghost use Rattle.std.specs.Prelude.{◌≡◌, ◌↔◌, IsTrue, IsSome, IfSome, nat_eq};
-ghost use Rattle.club_rows.specs.Limits.{IsRoot};
+ghost use Rattle.std.specs.Cmp.{partial_equiv_from_equiv, Lexicographic.pointwise};
+ghost use Rattle.std.specs.{Cmp.Lexicographic.nat_list_eq_equiv, Prelude.{◌≡◌, ◌↔◌, IsTrue}};
+ghost use Rattle.std.specs.Prelude.{IsSome, IfSome, nat_eq};
+ghost use Rattle.club_rows.specs.Rows.{IsRoot};
 
 use club_values::InlineBytes;
 use std::fmt;
@@ -27,7 +27,7 @@ impl Model for Root {
 
     ghost Value = { List ℕ };
 
-    ghost use Rattle.club_rows.specs.Limits.{IsRoot};
+    ghost use Rattle.club_rows.specs.Rows.{IsRoot};
 
     ghost view = { λ root. root.bytes };
 

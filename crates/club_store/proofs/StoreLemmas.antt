@@ -5,12 +5,11 @@ use Rattle.std.proofs.{Math.Logic.∥∥₁_map, lemmas.{Bool.cases_Bool, List.E
 use Rattle.std.{proofs.lemmas.{Result.{err_from_is_err_and, MatchResult-weaker}, Slice.Eq.bytes_eq-Decides}, specs.{List.AllZip, Prelude.{Result, Ok, Err}}}
 use Rattle.std.specs.{Prelude.{Option, Some, None, find, Contains, option_map, option_and_then, IfErr}, Str.bytes_eq}
 use Rattle.club_core.specs.{After.after, Basis.{account_named, club_account, key_view_in, state_of}, Club.{Club, bookings_of, key_named, member_named, IsSound}}
-use Rattle.club_core.specs.{Club.empty_club, Laws.{OwnBookings, HasOwnBookings}, Request.{request_number, request_slot}, Store.{Changes, ReadsStore}}
-use Rattle.club_core.specs.{Sums.{balance_of, booking_under, count_to_come, spent_under}, declared.{account.MemberAccount.MemberAccount, change.Change.Change}}
-use Rattle.club_core.specs.declared.{request.Request.Request, store.StoreFault.StoreFault}
-use Rattle.club_rows.specs.{Key.{key_of_row, row_of_key}, declared.{key.{Key.Key, KeyRow.KeyRow, OlderRoot.OlderRoot}, member.Member.Member}}
-use Rattle.club_store.specs.{Crash.{RepresentsOne, OneIsFound, HoldsOneOf, CrashLeaves}, Failing.{FailsToChange, Fails, over_connection}}
-use Rattle.club_store.specs.Opening.{SurvivesOpening}
+use Rattle.club_core.specs.{Club.{empty_club, balance_of, booking_under, count_to_come, spent_under}, Laws.{OwnBookings, HasOwnBookings}}
+use Rattle.club_core.specs.{Request.{request_number, request_slot}, Store.{Changes, ReadsStore}, declared.account.MemberAccount.MemberAccount}
+use Rattle.club_core.specs.declared.{change.Change.Change, request.Request.Request, store.StoreFault.StoreFault}
+use Rattle.club_rows.specs.{Rows.{key_of_row, row_of_key}, declared.{key.{Key.Key, KeyRow.KeyRow, OlderRoot.OlderRoot}, member.Member.Member}}
+use Rattle.club_store.specs.{Failing.{FailsToChange, Fails, over_connection}, Opening.{RepresentsOne, OneIsFound, HoldsOneOf, CrashLeaves, SurvivesOpening}}
 use Rattle.club_tables.specs.{Answers.{IsAfterReadings, IsReadFault}, ReadsAndChanges.{ReadsClub, ChangesClub, sound_in, represents_in}, Schema.no_schema}
 use Rattle.club_tables.specs.{Tables.{HoldsClubAnyVersion, IsLeftOf, Represents, IsFound}, Transaction.IsUntouched}
 use Rattle.sqlite.{proofs.{StateLemmas.survives_then, Theorems.opens_again}, specs.{Effect.{Database, IsDatabase}, FileStore.recovers, Held.{Held, state}}}

@@ -1,7 +1,4 @@
-pub mod Crash
-pub mod FailedOpening
 pub mod Opening
-pub mod Limits
 pub mod Failing
 -- Re-exports the definitions of tables, reads and changes.
 pub use Rattle.club_tables.specs.Tables

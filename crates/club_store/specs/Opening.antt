@@ -1,16 +1,62 @@
--- Defines the results of opening a club's file and its log.
-use Rattle.std.specs.Prelude.{◌≡◌, ◌⊎◌, false, List, [], Option, None, IfSome, IsTrue}
+-- Defines the results of opening a club's file and its log, the clubs that a crash of a store may
+-- leave, and the club that a reopened store represents.
 use Rattle.sqlite_disk.specs.declared.Disk as disk
-use Rattle.sqlite_disk.specs.declared.Files.{Files}
-use Rattle.sqlite.specs.{Files.{over_files, file_state, image_of, IsOpened, IsCleanLeft, FailsToOpenFiles, LeavesFiles}, Held.{Held, state}, Recovery.Image}
-use Rattle.sqlite.specs.{Start.FindsIn, State.{HasCleanDisk, Survives}, Steps.{over_memory, IsEmpty}, Store.Ghosts, WalFiles.outcomes}
-use Rattle.sqlite.specs.declared.{FileStore.FileStore, error.{Error.{Error, TheVariants.SqliteFailure}, ErrorCode.TheVariants.{CannotOpen, OutOfMemory}}}
-use Rattle.sqlite.specs.declared.file.Leftover.{Leftover}
-use Rattle.club_core.specs.{Club.{Club, empty_club}, Store.KeepsClub, declared.store.StoreFault.{StoreFault, TheVariants.Memory}}
-use Rattle.club_tables.specs.{Opening.{AcceptsTables, IsOpeningBatch, IsOpeningFault}, ReadsAndChanges.found_in, Tables.{Represents, IsFound}}
-use Rattle.club_tables.specs.Transaction.{MayCommit, IsKept, fault_by}
-use Rattle.club_store.specs.{Crash.{HoldsOneOf, IsOpenedOn, RepresentsOne, OneIsFound}, FailedOpening.busy, declared.failed_opening.FailedOpening.FailedOpening}
+use Rattle.sqlite.specs.FileStore as file
 use Rattle.club_store.specs.declared.failed_opening.FailedOpening.TheVariants as failed
+use Rattle.std.specs.Prelude.{List, [], ◌∷◌, ◌⊎◌, IsTrue, ◌≡◌, ◌≢◌, Option, None, false, IfSome}
+use Rattle.club_core.specs.{Club.{Club, empty_club}, Store.KeepsClub, declared.store.StoreFault.{StoreFault, TheVariants.Memory}}
+use Rattle.club_store.specs.declared.failed_opening.FailedOpening.{FailedOpening}
+use Rattle.club_tables.specs.{Opening.{AcceptsTables, IsOpeningBatch, IsOpeningFault}, ReadsAndChanges.found_in, Tables.{IsLeftOf, Represents, IsFound}}
+use Rattle.club_tables.specs.Transaction.{MayCommit, IsKept, fault_by}
+use Rattle.sqlite.specs.{Files.{HoldsDatabase, over_files, file_state, image_of, IsOpened, IsCleanLeft, FailsToOpenFiles, LeavesFiles}, Held.{Held, state}}
+use Rattle.sqlite.specs.{Recovery.Image, Start.FindsIn, State.{State, Opens, IsLive, HasCleanDisk, Survives}, Steps.{over_memory, IsEmpty}, Store.Ghosts}
+use Rattle.sqlite.specs.{Tree.Trees, View.IsClean, WalFiles.outcomes, declared.{FileStore.FileStore, error.Error.{Error, TheVariants.SqliteFailure}}}
+use Rattle.sqlite.specs.declared.{error.ErrorCode.TheVariants.{DatabaseBusy, CannotOpen, OutOfMemory}, file.Leftover.Leftover}
+use Rattle.sqlite_disk.specs.declared.Files.{Files}
+
+-- If the disk is clean, the store contains the database of one of these clubs after any crash.
+abbrev pub LeavesOneOf : {S : Type 0} → Ghosts S → S → List Club → Type 0
+LeavesOneOf g store clubs = IsClean (g.view store) → (trees : Trees) → g.recovers store trees → IsLeftOf trees clubs
+
+-- A newly opened connection to the database of one of these clubs.
+pub record IsOpenedOn (state : State) (clubs : List Club) : Type 0 where
+  pub opening : Opens state
+  pub live : IsLive state
+  pub left : IsLeftOf state.committed.trees clubs
+
+-- The state represents one of these clubs, and a crash can leave only that club.
+abbrev pub RepresentsOne : State → List Club → Type 0
+RepresentsOne state [] = ⊥
+RepresentsOne state (club ∷ clubs) = Represents state club [] ⊎ RepresentsOne state clubs
+
+-- The tables of version 1 or 2 represent one of these clubs, and a crash can leave only that club.
+-- If there are no tables yet, the club is empty.
+abbrev pub OneIsFound : State → List Club → Type 0
+OneIsFound state [] = ⊥
+OneIsFound state (club ∷ clubs) = IsFound state club [] ⊎ OneIsFound state clubs
+
+-- The file and its log contain the database of one of these clubs.
+abbrev pub HoldsOneOf : Image → List Club → Type 0
+HoldsOneOf image clubs = (trees : Trees) × HoldsDatabase image trees × IsLeftOf trees clubs
+
+-- A crash may leave this image of a store's file and log. After a crash, the store contains one of
+-- the clubs in `clubs`.
+pub record CrashLeaves {D : Type 0} {g : disk.Ghosts D} (store : FileStore D g) (clubs : List Club) (left : Image) : Type 0 where
+  pub clean : IsClean (file.view store)
+  pub numbers : IsTrue (file.view store).is_numbered
+  pub one_of : LeavesOneOf over_files store clubs
+  pub files : (file.state store).may_leave left
+
+-- The error for a file that another program has open.
+abbrev pub busy : Error
+busy = SqliteFailure DatabaseBusy
+
+-- `left` is the `FailedOpening` for this error of the database engine. If the engine returned no
+-- files because another program has the file open, `left` is `InUse`. Otherwise, `left` contains
+-- the files that the engine returned, if there are any.
+pub data IsFailedOpening {D : Type 0} {g : disk.Ghosts D} (error : Error) (rest : Option (Leftover D g)) (left : FailedOpening D g) : Type 0 where
+  in_use : error ≡ busy → rest ≡ None → left ≡ failed.InUse → IsFailedOpening error rest left
+  files : (rest ≡ None → error ≢ busy) → left ≡ failed.Files rest → IsFailedOpening error rest left
 
 -- A crash after the opening leaves a state that a crash could leave before the opening, or the
 -- state after the opening's SQL statements.

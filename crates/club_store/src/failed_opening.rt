@@ -1,6 +1,6 @@
 //! Defines the connection or files, if any, that a failed `Store::open_file` returns.
 
-ghost use Rattle.club_store.specs.FailedOpening.{IsFailedOpening};
+ghost use Rattle.club_store.specs.Opening.{IsFailedOpening};
 
 use sqlite::{Connection, Error, ErrorCode, FileStore, Leftover};
 use sqlite_disk::Disk;

@@ -1,11 +1,10 @@
 //! Laws of stores. Each law is the contract of a function with an empty body.
 
 ghost use Rattle.std.specs.Prelude.{List};
+ghost use Rattle.club_core.specs.Club.{Club};
+ghost use Rattle.club_store.specs.Opening.{CrashLeaves, HoldsOneOf, RepresentsOne, OpensFrom};
 ghost use Rattle.sqlite.specs.{Files.file_state, Held.state, Recovery.Image, State.HasCleanDisk};
 ghost use Rattle.sqlite.specs.Steps.{over_memory};
-ghost use Rattle.club_core.specs.Club.{Club};
-ghost use Rattle.club_store.specs.Crash.{CrashLeaves, HoldsOneOf, RepresentsOne};
-ghost use Rattle.club_store.specs.Opening.{OpensFrom};
 
 use crate::Store;
 use sqlite::{FileFrom, FileStore, MemStore, Start};

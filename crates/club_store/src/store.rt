@@ -2,23 +2,22 @@
 
 ghost use Rattle.std.specs.Prelude.{◌≡◌, ℕ, false, List, [], ◌∷◌, All, IsTrue, IfOk, IfErr, IfSome};
 ghost use Rattle.std.specs.Prelude.{option_and_then, IsErrAnd, codes};
-ghost use Rattle.sqlite.specs.{Files.file_state, Held.state, State.HasCleanDisk, Steps.over_memory};
-ghost use Rattle.sqlite.specs.{Steps.{IsFresh, IsEmpty}, View.IsClean, WalFiles.image_at};
 ghost use Rattle.club_core.specs.Basis.{account_named, key_view_in, slot_use, state_of};
 ghost use Rattle.club_core.specs.Club.{Club, empty_club, key_named, member_named, facility_named};
-ghost use Rattle.club_core.specs.{Request.{request_number, request_slot}, Sheet.AreRowsOf};
-ghost use Rattle.club_core.specs.Sums.{booking_under};
-ghost use Rattle.club_core.specs.declared.change.Change.TheVariants.{InsertMember, AddCredit};
-ghost use Rattle.club_core.specs.declared.change.Change.TheVariants.{InsertFacility, InsertKey};
-ghost use Rattle.club_core.specs.declared.change.Change.TheVariants.{MarkRevoked, ReplaceRoot};
-ghost use Rattle.club_core.specs.declared.change.Change.TheVariants.{MarkClosed};
+ghost use Rattle.club_core.specs.{Club.booking_under, Request.{request_number, request_slot}};
+ghost use Rattle.club_core.specs.{Sheet.AreRowsOf, declared.change.Change.TheVariants.InsertMember};
+ghost use Rattle.club_core.specs.declared.change.Change.TheVariants.{AddCredit, InsertFacility};
+ghost use Rattle.club_core.specs.declared.change.Change.TheVariants.{InsertKey, MarkRevoked};
+ghost use Rattle.club_core.specs.declared.change.Change.TheVariants.{ReplaceRoot, MarkClosed};
 ghost use Rattle.club_rows.specs.Rows.{IsMember, IsFacility, IsKey, IsBooking};
-ghost use Rattle.club_store.specs.Crash.{LeavesOneOf, IsOpenedOn, RepresentsOne};
-ghost use Rattle.club_store.specs.{Limits.HasLimits, Opening.{FailsFrom, IsHandedBack}};
-ghost use Rattle.club_store.specs.Opening.{IsMemoryFault, LeavesFrom, OpensFrom, SurvivesOpening};
+ghost use Rattle.club_store.specs.{Failing.HasLimits, Opening.{LeavesOneOf, IsOpenedOn}};
+ghost use Rattle.club_store.specs.Opening.{RepresentsOne, FailsFrom, IsHandedBack, IsMemoryFault};
+ghost use Rattle.club_store.specs.Opening.{LeavesFrom, OpensFrom, SurvivesOpening};
 ghost use Rattle.club_tables.specs.Opening.{AcceptsTables, IsOpeningFault};
 ghost use Rattle.club_tables.specs.{ReadsAndChanges.{ReadsClub, ChangesClub}, Tables.Represents};
 ghost use Rattle.club_tables.specs.Tables.{IsFound};
+ghost use Rattle.sqlite.specs.{Files.file_state, Held.state, State.HasCleanDisk, Steps.over_memory};
+ghost use Rattle.sqlite.specs.{Steps.{IsFresh, IsEmpty}, View.IsClean, WalFiles.image_at};
 
 use crate::FailedOpening;
 use crate::failed_opening::failed_opening;

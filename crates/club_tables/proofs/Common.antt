@@ -18,40 +18,40 @@ pub use Rattle.std.specs.{Ordering.{is_gt, is_eq, ordering_reverse, on, then_cmp
 pub use Rattle.std.specs.declared.alloc.Global.{Global}
 pub use Rattle.club_core.specs.After.{credited_member, after, cancelled_booking, revoked_key, rotated_key, good_until, debited_member, facility_with_numbers}
 pub use Rattle.club_core.specs.{After.{closed_but, member_with_quota, InLimits}, Basis.slot_use, Club.{Club, IsSound, is_key_of, key_named, member_named}}
-pub use Rattle.club_core.specs.{Club.{facility_named, is_closed, empty_club, bookings_of}, KeyParts.older_root_of, Office.are_limits, Sheet.{AreRowsOf, is_on}}
-pub use Rattle.club_core.specs.{Store.{IsOwnedBy, IsTrueOf, IsToCancel, FitsClub, HasRoot, HasFacility}, Sums.{booking_under, cost_of, taken_in, is_in}}
-pub use Rattle.club_core.specs.{Sums.{is_under, is_to_come, count_to_come, is_at, most_taken_in}, declared.change.Change.{Change, TheVariants.InsertMember}}
+pub use Rattle.club_core.specs.Club.{facility_named, is_closed, empty_club, bookings_of, older_root_of, booking_under, cost_of, taken_in, is_in, is_under}
+pub use Rattle.club_core.specs.{Club.{is_to_come, count_to_come, is_at, most_taken_in}, Office.are_limits, Sheet.{AreRowsOf, is_on}, Store.IsOwnedBy}
+pub use Rattle.club_core.specs.{Store.{IsTrueOf, IsToCancel, FitsClub, HasRoot, HasFacility}, declared.change.Change.{Change, TheVariants.InsertMember}}
 pub use Rattle.club_core.specs.declared.change.Change.TheVariants.{AddCredit, InsertFacility, InsertKey, MarkRevoked, ReplaceRoot, MarkOpen, ReplaceQuota}
 pub use Rattle.club_core.specs.declared.{change.Change.TheVariants.{InsertBooking, MarkCancelled, TakeCredit, ReplaceNumbers}, slot_use.SlotUse.SlotUse}
 pub use Rattle.club_core.specs.declared.store.StoreFault.{StoreFault, TheVariants.Storage}
 pub use Rattle.club_laws.specs.SoundRuns.{SuitingChangesKeepSound}
-pub use Rattle.club_rows.specs.{Booking.{same_slot, persons_of}, Columns.truth, Key.row_of_key, Limits.{credited_limit, places_limit, quota_limit}}
-pub use Rattle.club_rows.specs.{Rows.{IsBooking, IsMember, IsFacility}, declared.{booking.Booking.Booking, facility.Facility.Facility, key.Key.Key}}
-pub use Rattle.club_rows.specs.declared.{key.OlderRoot.OlderRoot, member.Member.Member}
+pub use Rattle.club_rows.specs.{Columns.truth, Rows.{same_slot, persons_of, row_of_key, credited_limit, places_limit, quota_limit, IsBooking, IsMember}}
+pub use Rattle.club_rows.specs.{Rows.IsFacility, declared.{booking.Booking.Booking, facility.Facility.Facility, key.{Key.Key, OlderRoot.OlderRoot}}}
+pub use Rattle.club_rows.specs.declared.member.Member.{Member}
 pub use Rattle.club_tables.specs.Answers.{IsAfterReadings, IsFirst, IsBookingNamed, reading_statement, IsUse, IsBookingIn, AreCosts, FailsAtReading}
 pub use Rattle.club_tables.specs.Answers.{FailsToRead, IsReadFault, Reading, CanRead, OfBooking, OfDay, OfFacility, OfKey, IsKeyIn, OfMember, OfOlderRoot}
-pub use Rattle.club_tables.specs.Columns.{whole, booking_values, key_values, member_values, facility_values, version_values, name_values, slot_values}
+pub use Rattle.club_tables.specs.Answers.{OfOpen, IsCount, OfSlot, OfCosts, OfTaken, IsTakenRow, IsMostIn, most_in, AreBookings, ShowsDay, ShowsUse}
+pub use Rattle.club_tables.specs.{ChangeStatements.{used_values, statements_of, adding_booking, cancelling, AreStatementsOf, numbers_values}, Columns.whole}
+pub use Rattle.club_tables.specs.Columns.{booking_values, key_values, member_values, facility_values, version_values, name_values, slot_values, older_by}
+pub use Rattle.club_tables.specs.Columns.{stored_slot_use, row_of, persons_taken, Rows, member_row, SlotRow, OlderRow, no_slot_use, used_by, older_root_values}
+pub use Rattle.club_tables.specs.Columns.{HasValues, use_values, older_values, cost_in, IsCostRow, cost_values, IsCostIn, flag, whole_in, IsStoredAs}
 pub use Rattle.club_tables.specs.Opening.{HasOrGetsIndex, Understands, index_text, AcceptsTables, HasRunOver, Upgrade, indexed_texts, table_batch, migration}
 pub use Rattle.club_tables.specs.Opening.{index_batch, HasNoDesk, IsOpeningBatch, YieldsRows, IsOpeningFault, EnsuresIndex, texts_by_key, first_texts}
+pub use Rattle.club_tables.specs.{Opening.{RunsBatch, Opens, FoundReady, OneOf}, ReadsAndChanges.{ReadsClub, ChangesClub, IsChangeFault, IsRunFault}}
 pub use Rattle.club_tables.specs.Schema.{unindexed_schema, members_table, facilities_table, keys_table, bookings_table, old_roots_table, desk_table}
-pub use Rattle.club_tables.specs.Stored.{older_by, stored_slot_use, row_of, persons_taken, Rows, member_row, SlotRow, OlderRow, no_slot_use, used_by}
+pub use Rattle.club_tables.specs.Schema.{first_schema, six_tables, keys_by_member, bookings_by_key, table_of, club_schema, slots_table, no_schema}
 pub use Rattle.club_tables.specs.Tables.{without_olders, IsFound, Holds, bookings_tree, keys_tree, HoldsClub, HoldsClubVersion2, HoldsRows, members_tree}
 pub use Rattle.club_tables.specs.Tables.{slots_tree, Represents, IsRowOf, HoldsClubVersion1, facilities_tree, olders_tree, RepresentsBy, desk_tree, IsLeftOf}
 pub use Rattle.club_tables.specs.Tables.{HoldsTrees, RepresentsVersion1, RepresentsVersion2, HoldsClubAnyVersion, HoldsRowsVersion1, HoldsClubUnindexed}
-pub use Rattle.club_tables.specs.Transaction.{IsIdle, MayCommit, fault_by, BoundStatement, transaction_start, IsKept, Ran, IsUnderstood, RanInTurn, Asked}
-pub use Rattle.club_tables.specs.declared.texts.TheConstants.{TAKE_CREDIT, CHARGE, SET_NUMBERS, TAKEN, VERSION, ADD_USED, MAKE_DESK, DROP_BOOKINGS_BY_KEY}
-pub use Rattle.club_tables.specs.declared.texts.TheConstants.{OLDER_ROOT, ADD_MEMBER, ADD_FACILITY, ADD_KEY, ADD_BOOKING, CLOSE_SLOT, OPEN_SLOT, SET_QUOTA}
-pub use Rattle.club_tables.specs.declared.texts.TheConstants.{ADD_TAKEN, PUT_OLDER_ROOT, CANCEL_BOOKING, ADD_CREDIT, REVOKE_KEY, SET_ROOT, MAKE_MEMBERS}
-pub use Rattle.club_tables.specs.declared.texts.TheConstants.{MAKE_FACILITIES, MAKE_KEYS, MAKE_SLOTS, MAKE_BOOKINGS, MAKE_KEYS_BY_MEMBER, MAKE_OLD_ROOTS}
-pub use Rattle.club_tables.specs.declared.texts.TheConstants.{MAKE_BOOKINGS_BY_KEY, ADD_VERSION, SET_VERSION, DAY, KEY, MEMBER, FACILITY, SLOT, BOOKING}
-pub use Rattle.club_tables.specs.Columns.{older_root_values, HasValues, use_values, older_values, cost_in, IsCostRow, cost_values, IsCostIn, flag, whole_in}
-pub use Rattle.club_tables.specs.Schema.{first_schema, six_tables, keys_by_member, bookings_by_key, table_of, club_schema, slots_table, no_schema}
-pub use Rattle.club_tables.specs.{ChangeStatements.{used_values, statements_of, adding_booking, cancelling, AreStatementsOf, numbers_values}, Stored.IsStoredAs}
-pub use Rattle.club_tables.specs.{Answers.{OfOpen, IsCount, OfSlot, OfCosts, OfTaken, IsTakenRow, IsMostIn, most_in}, declared.transaction.Statement.Statement}
-pub use Rattle.club_tables.specs.{ReadsAndChanges.{ReadsClub, ChangesClub, IsChangeFault, IsRunFault}, declared.texts.TheConstants.{COSTS_UNDER_KEY, OPEN}}
-pub use Rattle.club_tables.specs.{Fault.{Commits, FailsInTurn, FailsToRun, StopsAt, FailsToPrepare}, Opening.{RunsBatch, Opens, FoundReady, OneOf}}
-pub use Rattle.club_tables.specs.{Statements.{select, is_given, in_order}, Transaction.{IsUntouched, bound_statement}, declared.row.MemberRow.MemberRow}
-pub use Rattle.club_tables.specs.{Sheet.{AreBookings, ShowsDay}, Tables.HoldsRowsWith, Use.ShowsUse}
+pub use Rattle.club_tables.specs.{Tables.HoldsRowsWith, Transaction.{IsIdle, MayCommit, fault_by, BoundStatement, transaction_start, IsKept, Ran, IsUnderstood}}
+pub use Rattle.club_tables.specs.Transaction.{RanInTurn, Asked, Commits, FailsInTurn, FailsToRun, StopsAt, FailsToPrepare, select, is_given, in_order}
+pub use Rattle.club_tables.specs.{Transaction.{IsUntouched, bound_statement}, declared.{row.MemberRow.MemberRow, texts.TheConstants.{TAKE_CREDIT, CHARGE}}}
+pub use Rattle.club_tables.specs.declared.texts.TheConstants.{SET_NUMBERS, TAKEN, VERSION, ADD_USED, MAKE_DESK, DROP_BOOKINGS_BY_KEY, OLDER_ROOT, ADD_MEMBER}
+pub use Rattle.club_tables.specs.declared.texts.TheConstants.{ADD_FACILITY, ADD_KEY, ADD_BOOKING, CLOSE_SLOT, OPEN_SLOT, SET_QUOTA, ADD_TAKEN, PUT_OLDER_ROOT}
+pub use Rattle.club_tables.specs.declared.texts.TheConstants.{CANCEL_BOOKING, ADD_CREDIT, REVOKE_KEY, SET_ROOT, MAKE_MEMBERS, MAKE_FACILITIES, MAKE_KEYS}
+pub use Rattle.club_tables.specs.declared.texts.TheConstants.{MAKE_SLOTS, MAKE_BOOKINGS, MAKE_KEYS_BY_MEMBER, MAKE_OLD_ROOTS, MAKE_BOOKINGS_BY_KEY, ADD_VERSION}
+pub use Rattle.club_tables.specs.declared.texts.TheConstants.{SET_VERSION, DAY, KEY, MEMBER, FACILITY, SLOT, BOOKING, COSTS_UNDER_KEY, OPEN}
+pub use Rattle.club_tables.specs.declared.transaction.Statement.{Statement}
 pub use Rattle.club_values.specs.declared.slot.Slot.{Slot}
 pub use Rattle.sqlite.specs.Rows.{Written, shown, Task, count_of, stamped, rowids_for, nothing, Upserts, Clears, Puts, Resolves, Tries, TriesEach, Meets}
 pub use Rattle.sqlite.specs.{Command.Command, State.{HasCleanDisk, State, Survives, Executes, IsRolledBack, IsTooLate, ExecutesInside, mode_of, Runs, Writes}}

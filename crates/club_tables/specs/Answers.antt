@@ -1,15 +1,32 @@
--- This file defines how the rows of each query are decoded, and why a read fails.
-use Rattle.club_tables.specs.Columns.{whole_in, whole, HasValues, IsCostRow, cost_in, key_values, older_root_values, member_values, facility_values}
-use Rattle.club_tables.specs.{Columns.{booking_values, name_values, use_values}, Fault.FailsToAsk, Sheet.AreBookings, Stored.{IsMemberRow, no_slot_use}}
-use Rattle.club_tables.specs.{Transaction.{BoundStatement, Asked, IsUntouched}, declared.row.MemberRow.MemberRow}
-use Rattle.club_tables.specs.declared.texts.TheConstants.{TAKEN, KEY, OLDER_ROOT, MEMBER, FACILITY, SLOT, BOOKING, COSTS_UNDER_KEY, DAY, OPEN}
-use Rattle.sqlite_value.specs.{Order.{column, Row}, declared.value.Value.TheVariants.Text}
-use Rattle.std.specs.Prelude.{fold, max, ◌≡◌, ◌⊎◌, ℕ, ◌<◌, ◌≤◌, ◌^◌, ◌/◌, List, [], ◌∷◌, length, sum_by, All, Option, None, Result, IfOk, IfErr, IsSomeAnd}
-use Rattle.sqlite.specs.{Held.{Held, state}, State.HasCleanDisk, Store.Ghosts}
-use Rattle.club_values.specs.{Moment.minutes_a_day, declared.slot.Slot.Slot}
-use Rattle.club_rows.specs.{Key.key_of_row, Limits.places_limit, Rows.{IsFacility, IsKeyRow, IsOlderRoot, IsBooking}, declared.booking.Booking.Booking}
+-- This file defines the rows that a query returns, how they are decoded, and why a read fails.
+use Rattle.std.specs.{List.AllZip, Prelude.{◌≡◌, ℕ, List, map, ◌⊎◌, [], ◌∷◌, fold, max, ◌<◌, ◌≤◌, ◌^◌, ◌/◌, length, sum_by, All, Option, None, Result, IfOk}}
+use Rattle.std.specs.Prelude.{IfErr, IsSomeAnd}
+use Rattle.club_core.specs.{Basis.slot_use, Club.Club, Sheet.AreRowsOf, declared.{slot_use.SlotUse.SlotUse, store.StoreFault.{StoreFault, TheVariants.Memory}}}
+use Rattle.club_core.specs.declared.store.StoreFault.TheVariants.{Storage}
+use Rattle.club_rows.specs.{Rows.{IsBooking, key_of_row, places_limit, IsFacility, IsKeyRow, IsOlderRoot}, declared.booking.Booking.Booking}
 use Rattle.club_rows.specs.declared.{facility.Facility.Facility, key.{KeyRow.KeyRow, OlderRoot.OlderRoot}}
-use Rattle.club_core.specs.declared.{slot_use.SlotUse.SlotUse, store.StoreFault.{StoreFault, TheVariants.{Memory, Storage}}}
+use Rattle.club_tables.specs.Columns.{HasValues, booking_values, use_values, no_slot_use, whole_in, whole, IsCostRow, cost_in, key_values, older_root_values}
+use Rattle.club_tables.specs.{Columns.{member_values, facility_values, name_values, IsMemberRow}, Transaction.{FailsToAsk, BoundStatement, Asked, IsUntouched}}
+use Rattle.club_tables.specs.declared.{row.MemberRow.MemberRow, texts.TheConstants.{TAKEN, KEY, OLDER_ROOT, MEMBER, FACILITY, SLOT, BOOKING, COSTS_UNDER_KEY}}
+use Rattle.club_tables.specs.declared.texts.TheConstants.{DAY, OPEN}
+use Rattle.club_values.specs.{Moment.minutes_a_day, declared.slot.Slot.Slot}
+use Rattle.sqlite.specs.{Held.{Held, state}, State.HasCleanDisk, Store.Ghosts}
+use Rattle.sqlite_value.specs.{Order.{Row, column}, declared.value.Value.TheVariants.Text}
+
+-- The rows contain the bookings of the day, in the order of the day sheet.
+abbrev pub ShowsDay : Club → ℕ → List Row → Type 0
+ShowsDay club day rows = (bookings : List Booking) × AreRowsOf club day bookings × (rows ≡ map booking_values bookings)
+
+-- There is one row for each booking, in the same order. Each row contains the values of its
+-- booking, and each booking is within its limits.
+abbrev pub AreBookings : List Row → List Booking → Type 0
+AreBookings = AllZip (λ row booking. IsBooking booking × HasValues row (booking_values booking))
+
+-- The query returns either one row with the slot's `SlotUse`, or no row. If the query returns no
+-- row, the slot is open and none of its places is taken.
+abbrev pub ShowsUse : Club → Slot → List Row → Type 0
+ShowsUse club slot rows =
+    (rows ≡ use_values (slot_use club slot) ∷ []) ⊎ ((rows ≡ []) × (slot_use club slot ≡ no_slot_use))
 
 -- The row contains the column values of this key, and the values are within their limits.
 abbrev pub IsKeyIn : Row → KeyRow → Type 0

@@ -1,16 +1,16 @@
 -- This file defines the SQL statements of each change, with the values of their parameters.
 use Rattle.std.specs.Prelude.{◌≡◌, ℕ, ℤ, pos, neg_ℤ, List, [], ◌∷◌, ◌++◌}
-use Rattle.sqlite_value.specs.{Order.Row, declared.value.Value.TheVariants.{Int, Text, Blob}}
-use Rattle.club_values.specs.declared.slot.Slot.{Slot}
-use Rattle.club_rows.specs.{Booking.persons_of, declared.{booking.Booking.Booking, facility.Facility.Facility, key.{Key.Key, OlderRoot.OlderRoot}}}
-use Rattle.club_rows.specs.declared.member.Member.{Member}
-use Rattle.club_core.specs.{Sums.cost_of, declared.change.Change.{Change, TheVariants.{InsertMember, AddCredit, InsertFacility, InsertKey, MarkRevoked}}}
+use Rattle.club_core.specs.{Club.cost_of, declared.change.Change.{Change, TheVariants.{InsertMember, AddCredit, InsertFacility, InsertKey, MarkRevoked}}}
 use Rattle.club_core.specs.declared.change.Change.TheVariants.{TakeCredit, ReplaceNumbers, ReplaceRoot, MarkClosed, MarkOpen, ReplaceQuota, InsertBooking}
 use Rattle.club_core.specs.declared.change.Change.TheVariants.{MarkCancelled}
-use Rattle.club_tables.specs.{Columns.{whole, facility_values, key_values, older_root_values, booking_values, name_values}, Stored.persons_taken}
+use Rattle.club_rows.specs.{Rows.persons_of, declared.{booking.Booking.Booking, facility.Facility.Facility, key.{Key.Key, OlderRoot.OlderRoot}}}
+use Rattle.club_rows.specs.declared.member.Member.{Member}
+use Rattle.club_tables.specs.Columns.{whole, facility_values, key_values, older_root_values, booking_values, name_values, persons_taken}
 use Rattle.club_tables.specs.{Transaction.BoundStatement, declared.texts.TheConstants.{ADD_MEMBER, ADD_CREDIT, TAKE_CREDIT, SET_NUMBERS, ADD_FACILITY, ADD_KEY}}
 use Rattle.club_tables.specs.declared.texts.TheConstants.{REVOKE_KEY, PUT_OLDER_ROOT, SET_ROOT, CLOSE_SLOT, OPEN_SLOT, SET_QUOTA, ADD_BOOKING, CANCEL_BOOKING}
 use Rattle.club_tables.specs.declared.texts.TheConstants.{CHARGE, ADD_USED, ADD_TAKEN}
+use Rattle.club_values.specs.declared.slot.Slot.{Slot}
+use Rattle.sqlite_value.specs.{Order.Row, declared.value.Value.TheVariants.{Int, Text, Blob}}
 
 -- Inserts a new member. A new member has spent no points on bookings.
 abbrev pub adding_member : Member → List BoundStatement

@@ -1,13 +1,8 @@
 pub mod Schema
 pub mod Columns
-pub mod Stored
 pub mod Tables
 pub mod ChangeStatements
 pub mod ReadsAndChanges
 pub mod Answers
-pub mod Statements
-pub mod Opening
-pub mod Sheet
-pub mod Use
 pub mod Transaction
-pub mod Fault
+pub mod Opening

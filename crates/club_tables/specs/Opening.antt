@@ -1,8 +1,8 @@
 -- This file defines how the tables of a database are opened, migrated or created.
 use Rattle.std.specs.Prelude.{◌≡◌, ◌≢◌, ◌⊎◌, ℕ, List, [], ◌∷◌, ◌++◌, map, All, Ok, Result, OnOk, OnErr, IfErr, IsTrue, false, codes}
 use Rattle.club_core.specs.{Club.Club, Store.KeepsClub, declared.store.StoreFault.{StoreFault, TheVariants.{Memory, Storage}}}
-use Rattle.club_tables.specs.{Answers.IsAfterReadings, Columns.{HasValues, version_values}, Fault.{FailsToAsk, FailsToPrepare, FailsToRun}, Tables.Represents}
-use Rattle.club_tables.specs.{Tables.{RepresentsVersion1, RepresentsVersion2, IsFound}, Transaction.{BoundStatement, Asked, Ran, IsIdle, IsKept, IsUnderstood}}
+use Rattle.club_tables.specs.{Answers.IsAfterReadings, Columns.{HasValues, version_values}, Tables.{Represents, RepresentsVersion1, RepresentsVersion2}}
+use Rattle.club_tables.specs.{Tables.IsFound, Transaction.{FailsToAsk, FailsToPrepare, FailsToRun, BoundStatement, Asked, Ran, IsIdle, IsKept, IsUnderstood}}
 use Rattle.club_tables.specs.{Transaction.MayCommit, declared.texts.TheConstants.{VERSION, KEY, MEMBER, FACILITY, SLOT, BOOKING, OLDER_ROOT, MAKE_DESK}}
 use Rattle.club_tables.specs.declared.texts.TheConstants.{MAKE_MEMBERS, MAKE_FACILITIES, MAKE_KEYS, MAKE_SLOTS, MAKE_BOOKINGS, MAKE_KEYS_BY_MEMBER}
 use Rattle.club_tables.specs.declared.texts.TheConstants.{MAKE_OLD_ROOTS, ADD_VERSION, SET_VERSION, MAKE_BOOKINGS_BY_KEY, DROP_BOOKINGS_BY_KEY}

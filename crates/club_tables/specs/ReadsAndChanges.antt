@@ -1,10 +1,10 @@
 -- This file defines the club that a connection represents, and the promises of reads and changes.
 use Rattle.std.specs.Prelude.{◌≡◌, ◌⊎◌, ℕ, List, ◌∷◌, All, Result, IfErr, OnErr}
+use Rattle.club_core.specs.{After.InLimits, Club.{Club, IsSound}, Store.{Changes, FitsClub, KeepsClub, Returns}, declared.change.Change.Change}
+use Rattle.club_core.specs.declared.store.StoreFault.{StoreFault, TheVariants.Storage}
+use Rattle.club_tables.specs.{Answers.{IsAfterReadings, IsReadFault}, ChangeStatements.{AreStatementsOf, statements_of}, Tables.Represents}
+use Rattle.club_tables.specs.{Tables.{RepresentsVersion1, RepresentsVersion2, IsFound}, Transaction.{FailsToRun, BoundStatement, IsUntouched, MayCommit}}
 use Rattle.sqlite.specs.{Held.{Held, state}, State.{HasCleanDisk, Survives}, Store.Ghosts}
-use Rattle.club_core.specs.{Club.{Club, IsSound}, Store.{Changes, FitsClub, KeepsClub, Returns}, declared.{change.Change.Change, store.StoreFault.StoreFault}}
-use Rattle.club_core.specs.{declared.store.StoreFault.TheVariants.Storage, After.InLimits}
-use Rattle.club_tables.specs.{Answers.{IsAfterReadings, IsReadFault}, ChangeStatements.{AreStatementsOf, statements_of}, Fault.FailsToRun, Tables.Represents}
-use Rattle.club_tables.specs.{Tables.{RepresentsVersion1, RepresentsVersion2, IsFound}, Transaction.{BoundStatement, IsUntouched, MayCommit}}
 
 abbrev pub represents_in : {S : Type 0} → Ghosts S → Held S → Club → List Club → Type 0
 represents_in g held = Represents (state g held)

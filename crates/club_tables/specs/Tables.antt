@@ -1,11 +1,11 @@
 -- This file defines which club a database contains, and which club a connection represents.
 use Rattle.std.specs.{List.AllZip, Prelude.{◌≡◌, ◌⊎◌, ℕ, ℤ, ◌==◌, if◌then◌else◌, List, [], ◌∷◌, IsTrue}}
-use Rattle.sqlite_value.specs.{Order.Row, declared.value.Value.TheVariants.Int}
-use Rattle.sqlite_trees.specs.Tree.{Trees, IsTable}
-use Rattle.sqlite.specs.{Effect.{Database, IsDatabase}, Schema.Schema, State.{State, HasCleanDisk}}
 use Rattle.club_core.specs.Club.{Club, IsSound, empty_club}
-use Rattle.club_tables.specs.Columns.{version_values, member_values, facility_values, key_values, slot_values, booking_values, older_values}
-use Rattle.club_tables.specs.{Schema.{no_schema, first_schema, unindexed_schema, club_schema}, Stored.{Rows, IsStoredAs}}
+use Rattle.club_tables.specs.Columns.{version_values, member_values, facility_values, key_values, slot_values, booking_values, older_values, Rows, IsStoredAs}
+use Rattle.club_tables.specs.Schema.{no_schema, first_schema, unindexed_schema, club_schema}
+use Rattle.sqlite.specs.{Effect.{Database, IsDatabase}, Schema.Schema, State.{State, HasCleanDisk}}
+use Rattle.sqlite_trees.specs.Tree.{Trees, IsTable}
+use Rattle.sqlite_value.specs.{Order.Row, declared.value.Value.TheVariants.Int}
 
 -- The numbers of the B-trees that contain the rows of the tables.
 abbrev pub desk_tree : ℕ

@@ -1,9 +1,8 @@
 //! Checks whether the values of a change are within their limits.
 
 ghost use Rattle.std.specs.Prelude.{◌≡◌, true, false};
-ghost use Rattle.club_rows.specs.Limits.{IsRoot};
-ghost use Rattle.club_rows.specs.Rows.{IsMember, IsFacility, IsKey, IsSlot, IsBooking};
 ghost use Rattle.club_core.specs.Office.{are_limits};
+ghost use Rattle.club_rows.specs.Rows.{IsRoot, IsMember, IsFacility, IsKey, IsSlot, IsBooking};
 ghost use Rattle.club_values.specs.Moment.{IsMoment};
 
 use club_rows::{

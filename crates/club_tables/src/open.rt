@@ -2,14 +2,14 @@
 //! it is missing, and creates all tables if there are none.
 
 ghost use Rattle.std.specs.Prelude.{◌≡◌, [], ◌∷◌, map, IsTrue, IfOk, IfErr, OnOk, OnErr};
-ghost use Rattle.sqlite.specs.{Held.state, State.{HasCleanDisk, Survives}};
-ghost use Rattle.club_tables.specs.{Columns.{version_values, HasValues}, Fault.FailsToAsk};
-ghost use Rattle.club_tables.specs.Opening.{AcceptsTables, EnsuresIndex, FailsToPrepareOne};
-ghost use Rattle.club_tables.specs.Opening.{HasMigrated, HasOrGetsIndex, IsOpeningFault, Opens};
-ghost use Rattle.club_tables.specs.Opening.{RunsBatch, Understands, WhenIdle, YieldsVersion};
-ghost use Rattle.club_tables.specs.Opening.{table_batch, migration, index_batch, version_text};
+ghost use Rattle.club_tables.specs.{Columns.{version_values, HasValues}, Opening.AcceptsTables};
+ghost use Rattle.club_tables.specs.Opening.{EnsuresIndex, FailsToPrepareOne, HasMigrated};
+ghost use Rattle.club_tables.specs.Opening.{HasOrGetsIndex, IsOpeningFault, Opens, RunsBatch};
+ghost use Rattle.club_tables.specs.Opening.{Understands, WhenIdle, YieldsVersion, table_batch};
+ghost use Rattle.club_tables.specs.Opening.{migration, index_batch, version_text};
 ghost use Rattle.club_tables.specs.ReadsAndChanges.{version_1_in, version_2_in, found_in};
-ghost use Rattle.club_tables.specs.Transaction.{IsIdle, IsKept, IsUntouched};
+ghost use Rattle.club_tables.specs.Transaction.{FailsToAsk, IsIdle, IsKept, IsUntouched};
+ghost use Rattle.sqlite.specs.{Held.state, State.{HasCleanDisk, Survives}};
 
 use crate::row::integer_at;
 use crate::tables::Tables;

@@ -1,16 +1,16 @@
 //! Builds the parameters of the SQL statements.
 
 ghost use Rattle.std.specs.Prelude.{◌≡◌, ◌/◌, [], ◌∷◌, ◌++◌, pos, neg_ℤ};
+ghost use Rattle.club_core.specs.{After.good_until, Club.cost_of};
+ghost use Rattle.club_rows.specs.{Columns.truth, Rows.persons_of};
+ghost use Rattle.club_tables.specs.ChangeStatements.{charge_values, numbers_values};
+ghost use Rattle.club_tables.specs.Columns.{whole, facility_values, key_values, older_root_values};
+ghost use Rattle.club_tables.specs.Columns.{booking_values, name_values, persons_taken};
+ghost use Rattle.club_values.specs.Moment.{minutes_a_day};
 ghost use Rattle.sqlite.specs.Values.{bound};
 ghost use Rattle.sqlite_value.specs.declared.value.Value.TheVariants.{Int as IntValue};
 ghost use Rattle.sqlite_value.specs.declared.value.Value.TheVariants.{Text as TextValue};
 ghost use Rattle.sqlite_value.specs.declared.value.Value.TheVariants.{Blob as BlobValue};
-ghost use Rattle.club_values.specs.Moment.{minutes_a_day};
-ghost use Rattle.club_rows.specs.{Booking.persons_of, Columns.truth};
-ghost use Rattle.club_core.specs.{After.good_until, Sums.cost_of};
-ghost use Rattle.club_tables.specs.ChangeStatements.{charge_values, numbers_values};
-ghost use Rattle.club_tables.specs.Columns.{whole, facility_values, key_values, older_root_values};
-ghost use Rattle.club_tables.specs.{Columns.{booking_values, name_values}, Stored.persons_taken};
 
 use club_rows::{Booking, Facility, Key, Member, Root};
 use club_values::{Moment, Name, Slot};

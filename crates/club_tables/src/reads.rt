@@ -2,22 +2,20 @@
 //! `Storage` if a row contains a value outside its limits.
 
 ghost use Rattle.std.specs.Prelude.{◌≡◌, ◌↔◌, List, All, IsTrue, IfOk, IfErr, IfSome, option_map};
-ghost use Rattle.sqlite_value.specs.Order.{Row as Values};
-ghost use Rattle.sqlite.specs.{Held.state, State.{HasCleanDisk, Survives}, Values.bound};
-ghost use Rattle.club_rows.specs.Key.{row_of_key};
-ghost use Rattle.club_rows.specs.Rows.{IsFacility, IsKeyRow, IsOlderRoot, IsBooking};
-ghost use Rattle.club_core.specs.Basis.{slot_use};
-ghost use Rattle.club_core.specs.Club.{bookings_of, key_named, member_named, facility_named};
-ghost use Rattle.club_core.specs.{KeyParts.older_root_of, Sheet.AreRowsOf};
-ghost use Rattle.club_core.specs.Sums.{booking_under, count_to_come, most_taken_in, spent_under};
+ghost use Rattle.club_core.specs.{Basis.slot_use, Club.{bookings_of, key_named, member_named}};
+ghost use Rattle.club_core.specs.Club.{facility_named, older_root_of, booking_under, count_to_come};
+ghost use Rattle.club_core.specs.{Club.{most_taken_in, spent_under}, Sheet.AreRowsOf};
+ghost use Rattle.club_rows.specs.Rows.{row_of_key, IsFacility, IsKeyRow, IsOlderRoot, IsBooking};
 ghost use Rattle.club_tables.specs.Answers.{Answers, FailsAtReading, IsFirst, IsKeyIn};
 ghost use Rattle.club_tables.specs.Answers.{IsOlderRootIn, IsMemberIn, IsFacilityIn};
 ghost use Rattle.club_tables.specs.Answers.{IsBookingNamed, IsUse, AreCosts, IsCount, IsMostIn};
 ghost use Rattle.club_tables.specs.Answers.{reading_statement, OfKey, OfOlderRoot, OfMember};
 ghost use Rattle.club_tables.specs.Answers.{OfFacility, OfSlot, OfBooking, OfCosts, OfDay, OfOpen};
-ghost use Rattle.club_tables.specs.{Answers.OfTaken, ReadsAndChanges.ReadsClub, Sheet.AreBookings};
-ghost use Rattle.club_tables.specs.{Stored.{IsMemberRow, member_row}, Transaction.{Asked, IsKept}};
-ghost use Rattle.club_tables.specs.declared.texts.TheConstants.{DAY};
+ghost use Rattle.club_tables.specs.{Answers.{OfTaken, AreBookings}, Columns.IsMemberRow};
+ghost use Rattle.club_tables.specs.{Columns.member_row, ReadsAndChanges.ReadsClub};
+ghost use Rattle.club_tables.specs.{Transaction.{Asked, IsKept}, declared.texts.TheConstants.DAY};
+ghost use Rattle.sqlite.specs.{Held.state, State.{HasCleanDisk, Survives}, Values.bound};
+ghost use Rattle.sqlite_value.specs.Order.{Row as Values};
 
 use crate::params::{of_open, of_slot};
 use crate::row::{FromRows, MemberRow, bookings_in};

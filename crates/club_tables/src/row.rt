@@ -2,12 +2,11 @@
 //! its limits.
 
 ghost use Rattle.std.specs.Prelude.{◌≡◌, ◌≤◌, [], ◌∷◌, List, Err, None, Some, IfOk, option_map};
-ghost use Rattle.sqlite_value.specs.Order.{column};
-ghost use Rattle.club_values.specs.Reading.{Reads};
 ghost use Rattle.club_rows.specs.declared.booking.Booking.{Booking as BookingRow};
-ghost use Rattle.club_tables.specs.Answers.{IsUseIn};
-ghost use Rattle.club_tables.specs.Columns.{whole, text_in, bytes_in, integer_in};
-ghost use Rattle.club_tables.specs.{Sheet.AreBookings, Stored.no_slot_use};
+ghost use Rattle.club_tables.specs.{Answers.{IsUseIn, AreBookings}, Columns.{whole, text_in}};
+ghost use Rattle.club_tables.specs.Columns.{bytes_in, integer_in, no_slot_use};
+ghost use Rattle.club_values.specs.Number.{Reads};
+ghost use Rattle.sqlite_value.specs.Order.{column};
 
 use club_core::{SlotUse, StoreFault};
 use club_rows::{
@@ -78,8 +77,8 @@ fn slot_use_in(row: &Row) -> Option<SlotUse>
 
 /// A value that can be decoded from a row of the tables.
 pub(crate) trait FromRow: Sized {
+    ghost use Rattle.club_values.specs.Number.{Reads};
     ghost use Rattle.sqlite_value.specs.Order.{Row as Values};
-    ghost use Rattle.club_values.specs.Reading.{Reads};
 
     // The row decodes to this value.
     ghost yields: { Values → Self → Type 0 };
@@ -92,8 +91,8 @@ pub(crate) trait FromRow: Sized {
 /// A value that can be decoded from all rows of a query.
 pub(crate) trait FromRows: Sized {
     ghost use Rattle.std.specs.Prelude.{List};
+    ghost use Rattle.club_values.specs.Number.{Reads};
     ghost use Rattle.sqlite_value.specs.Order.{Row as Values};
-    ghost use Rattle.club_values.specs.Reading.{Reads};
 
     // The rows decode to this value.
     ghost holds: { List Values → Self → Type 0 };

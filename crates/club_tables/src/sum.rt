@@ -1,8 +1,8 @@
 //! Decodes rows into the total cost of bookings. Decoding returns `None` if a number is outside its
 //! limits.
 
-ghost use Rattle.club_values.specs.Reading.{Reads};
 ghost use Rattle.club_tables.specs.Columns.{IsCostIn};
+ghost use Rattle.club_values.specs.Number.{Reads};
 
 use crate::row::{FromRows, number_within};
 use club_rows::MAX_CHARGE;

@@ -2,9 +2,9 @@
 //! transaction.
 
 ghost use Rattle.std.specs.Prelude.{◌≡◌, false, map, IfOk, IfErr, OnOk};
+ghost use Rattle.club_tables.specs.Transaction.{Commits, FailsToAsk, FailsToPrepare, Asked, IsKept};
+ghost use Rattle.club_tables.specs.Transaction.{IsUnderstood, bound_statement};
 ghost use Rattle.sqlite.specs.{Held.state, State.{HasCleanDisk, Survives}, Values.bound};
-ghost use Rattle.club_tables.specs.Fault.{Commits, FailsToAsk, FailsToPrepare};
-ghost use Rattle.club_tables.specs.Transaction.{Asked, IsKept, IsUnderstood, bound_statement};
 
 use crate::transaction::{Statement, fault_of};
 use club_core::StoreFault;

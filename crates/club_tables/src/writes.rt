@@ -1,11 +1,12 @@
 //! Applies changes to a club. Each change has its own transaction.
 
 ghost use Rattle.std.specs.Prelude.{◌≡◌, [], ◌∷◌, Err, true, false};
-ghost use Rattle.sqlite.specs.Values.{bound};
-ghost use Rattle.sqlite_value.specs.declared.value.Value.TheVariants.{Text};
 ghost use Rattle.club_core.specs.{After.InLimits, Club.Club, Store.FitsClub};
 ghost use Rattle.club_tables.specs.ChangeStatements.{adding_booking, cancelling, statements_of};
-ghost use Rattle.club_tables.specs.{Columns.whole, Fault.Commits, ReadsAndChanges.ChangesClub};
+ghost use Rattle.club_tables.specs.{Columns.whole, ReadsAndChanges.ChangesClub};
+ghost use Rattle.club_tables.specs.Transaction.{Commits};
+ghost use Rattle.sqlite.specs.Values.{bound};
+ghost use Rattle.sqlite_value.specs.declared.value.Value.TheVariants.{Text};
 
 use crate::limits::{
     are_numbers, is_booking, is_facility, is_member, key_within, rotation_within, slot_within,

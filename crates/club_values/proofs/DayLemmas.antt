@@ -5,12 +5,12 @@ use Rattle.std.proofs.Common.{◌≢◌, cond, Bool, true, false, nat_lt, refl, 
 use Rattle.std.proofs.{Common.{None, Decides}, lemmas.{Bool.Decides.{nat_tests, Decides-like, Decides-ltb}, Grind.common_steps, Slice.Eq.text_from_reads}}
 use Rattle.std.{proofs.lemmas.Slice.Eq.bytes_eq-Decides, specs.{Prelude.{IsOk, IfOk, ◌&&◌, not}, Result.result_ok, Str.Parse.digits_value}}
 use Rattle.club_values.proofs.TextLemmas.{two_digits_injective, leads_with_zero, Decides-number, value_of-number, Decides-is_name, Decides-range}
-use Rattle.club_values.specs.{Action.action_text, Day.{IsDay, date_text, AreDateParts, IsDateText, SpellsDay, IsDateOf, march_year, day_of_march_year, year_of}}
-use Rattle.club_values.specs.{Day.{month_of, day_of_month, day_text}, Digits.two_digits, Hour.{IsHour, SpellsHour}, Kind.kind_text, Laws.ReadsNames}
-use Rattle.club_values.specs.{Laws.{ReadsNumbers, ReadsKinds, ReadsActions, ReadsDays, ReadsHours, ReadsMoments}, Moment.{IsMoment, moment_text, time_text}}
-use Rattle.club_values.specs.{Moment.{SpellsTime, SpellsMoment}, Name.IsName, Number.{are_few_digits, SpellsNumber}, Reading.Reads, computed.TextOf.day_of}
-use Rattle.club_values.specs.computed.TextOf.{moment_of, is_name, two_at, candidate_kind, candidate_action, where_spelled, name_of_text, day_of_text}
-use Rattle.club_values.specs.computed.TextOf.{decimal_of_text, moment_of_text, hour_of_text, kind_of_text, action_of_text}
+use Rattle.club_values.specs.{Kind.{action_text, kind_text}, Laws.{ReadsNames, ReadsNumbers, ReadsKinds, ReadsActions, ReadsDays, ReadsHours, ReadsMoments}}
+use Rattle.club_values.specs.Moment.{IsDay, date_text, AreDateParts, IsDateText, SpellsDay, IsDateOf, march_year, day_of_march_year, year_of, month_of}
+use Rattle.club_values.specs.{Moment.{day_of_month, day_text, IsHour, SpellsHour, IsMoment, moment_text, time_text, SpellsTime, SpellsMoment}, Name.IsName}
+use Rattle.club_values.specs.{Number.{two_digits, are_few_digits, SpellsNumber, Reads}, computed.TextOf.{day_of, moment_of, is_name, two_at, candidate_kind}}
+use Rattle.club_values.specs.computed.TextOf.{candidate_action, where_spelled, name_of_text, day_of_text, decimal_of_text, moment_of_text, hour_of_text}
+use Rattle.club_values.specs.computed.TextOf.{kind_of_text, action_of_text}
 use Rattle.jiff_core.proofs.{CalendarLemmas.{days_in_month_bounds, days_from_civil-day_count}, DateLemmas.{civil, epoch_day_injective}}
 use Rattle.jiff_core.proofs.MarchLemmas.{day_count-late, day_count-early, month_and_day, day_in_month, day_in_early_month, leap_day}
 use Rattle.jiff_core.{proofs.SignedLemmas.{signed_arith, back_small}, specs.{Calendar.{IsCivilDate, IsDate, days_from_civil, day_count}, Date.epoch_day}}

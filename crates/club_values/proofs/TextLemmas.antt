@@ -6,7 +6,7 @@ use Rattle.std.proofs.lemmas.{Bool.Decides.leb_tells, Fmt.{decimal-digits_value,
 use Rattle.std.proofs.lemmas.{Fmt.{first_decimal, decimal_digit}, Grind.common_steps, List.drop-replicate, Str.Parse.{IsNumeralModel, numerals_by_value}}
 use Rattle.std.{proofs.lemmas.Str.Parse.{digits_value_short, parse_gives}, specs.{Char.is_ascii_digit, Int.{IsInRange, is_in_range}, List.list_all}}
 use Rattle.std.specs.{Prelude.{replicate, ◌==◌, ◌&&◌, not, nat_lt, slice_index}, Result.result_ok, Str.Parse.{digits_value, ParsesUnsigned}}
-use Rattle.club_values.specs.{Digits.two_digits, InlineBytes.IsPadded, Name.{is_name_byte, IsName}, Number.{are_few_digits, number_of_digits, SpellsNumber}}
+use Rattle.club_values.specs.{Name.{IsPadded, is_name_byte, IsName}, Number.{two_digits, are_few_digits, number_of_digits, SpellsNumber}}
 use Rattle.club_values.specs.computed.TextOf.{is_name}
 
 -- Different numbers have different pairs of digits.

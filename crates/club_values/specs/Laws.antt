@@ -1,9 +1,8 @@
 -- Laws about the values that texts encode.
 use Rattle.std.specs.Prelude.{◌≡◌, ◌↔◌, ℕ, List, Some}
-use Rattle.club_values.specs.{Action.action_text, Day.{IsDay, SpellsDay, day_text}, Hour.SpellsHour, Kind.kind_text}
-use Rattle.club_values.specs.{Moment.{IsMoment, SpellsMoment, moment_text}, Name.IsName, Number.SpellsNumber}
-use Rattle.club_values.specs.computed.TextOf.{name_of_text, decimal_of_text, kind_of_text, action_of_text, day_of_text, hour_of_text, moment_of_text}
-use Rattle.club_values.specs.declared.{action.Action.Action, kind.Kind.Kind}
+use Rattle.club_values.specs.{Kind.{action_text, kind_text}, Moment.{IsDay, SpellsDay, day_text, SpellsHour, IsMoment, SpellsMoment, moment_text}, Name.IsName}
+use Rattle.club_values.specs.{Number.SpellsNumber, computed.TextOf.{name_of_text, decimal_of_text, kind_of_text, action_of_text, day_of_text, hour_of_text}}
+use Rattle.club_values.specs.{computed.TextOf.moment_of_text, declared.{action.Action.Action, kind.Kind.Kind}}
 
 -- Each function `.._of_text` returns a value if and only if the text encodes this value. In these
 -- laws, the text may be any list of natural numbers. If the text is a name, the value is the text

@@ -1,14 +1,6 @@
 pub mod Name
-pub mod InlineBytes
-pub mod Reading
-pub mod Digits
 pub mod Number
-pub mod Day
-pub mod Weekday
-pub mod Hour
 pub mod Moment
 pub mod Kind
-pub mod Action
-pub mod Slot
 pub mod Laws
 pub mod computed

@@ -1,6 +1,15 @@
--- Numbers of at most nine decimal digits.
-use Rattle.std.specs.{Char.is_ascii_digit, Fmt.decimal, List.list_all}
-use Rattle.std.specs.{Prelude.{◌≡◌, ℕ, ◌≤◌, ◌&&◌, Bool, List, length, nat_lt, nat_le, if◌then◌else◌, Option, Some, None}, Str.Parse.digits_value}
+-- Numbers of at most nine decimal digits, numbers written with a fixed number of digits, and the
+-- result of parsing a text.
+use Rattle.std.specs.{Char.is_ascii_digit, Fmt.decimal, List.list_all, Prelude.{ℕ, ◌+◌, ◌/◌, ◌%◌, List, [], ◌∷◌, ◌++◌, ◌≡◌, ◌≤◌, ◌&&◌, Bool, length, nat_lt}}
+use Rattle.std.specs.{Prelude.{nat_le, if◌then◌else◌, Option, Some, None, MatchOption}, Str.Parse.digits_value}
+
+-- The two decimal digits of a number below 100.
+abbrev pub two_digits : ℕ → List ℕ
+two_digits n = (48 + n / 10) ∷ (48 + n % 10) ∷ []
+
+-- The four decimal digits of a number below 10,000.
+abbrev pub four_digits : ℕ → List ℕ
+four_digits n = two_digits (n / 100) ++ two_digits (n % 100)
 
 -- A number has at most nine digits, so the greatest number is 999,999,999.
 abbrev pub max_digits : ℕ
@@ -22,3 +31,8 @@ number_of_digits text = if are_few_digits text then Some (digits_value 10 text) 
 pub record SpellsNumber (text : List ℕ) (n : ℕ) : Type 0 where
   pub spelling : text ≡ decimal n
   pub within : n ≤ number_limit
+
+-- The result of a parser is a value that the text encodes, or `None`. The result is `None` if and
+-- only if the text encodes no value.
+abbrev pub Reads : {A : Type 0} → (A → Type 0) → Option A → Type 0
+Reads {A} Spelled result = MatchOption result ((x : A) → ¬ (Spelled x)) Spelled

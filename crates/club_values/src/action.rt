@@ -1,8 +1,7 @@
 //! The actions that a request can ask for, and their texts.
 
 ghost use Rattle.std.specs.Prelude.{◌≡◌, Some};
-ghost use Rattle.club_values.specs.{Action.action_text, Reading.Reads};
-ghost use Rattle.club_values.specs.computed.TextOf.{action_of_text};
+ghost use Rattle.club_values.specs.{Kind.action_text, Number.Reads, computed.TextOf.action_of_text};
 
 use std::fmt;
 

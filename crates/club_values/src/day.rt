@@ -1,10 +1,10 @@
 //! Days from 2000 to 2099, and their texts.
 
 ghost use Rattle.std.specs.Prelude.{◌≡◌, ◌<◌, ◌≤◌, ◌↔◌, IsSome, IfSome, Some, pos};
-ghost use Rattle.jiff_core.specs.Date.{epoch_day};
-ghost use Rattle.club_values.specs.Day.{IsDay, SpellsDay, AreDateParts, IsDateText, IsDateOf};
-ghost use Rattle.club_values.specs.{Day.day_text, Reading.Reads, Weekday.weekday_of};
+ghost use Rattle.club_values.specs.{Kind.weekday_of, Moment.{IsDay, SpellsDay, AreDateParts}};
+ghost use Rattle.club_values.specs.{Moment.{IsDateText, IsDateOf, day_text}, Number.Reads};
 ghost use Rattle.club_values.specs.computed.TextOf.{day_of_text};
+ghost use Rattle.jiff_core.specs.Date.{epoch_day};
 
 use crate::ascii::text_of;
 use crate::digits::{read_two, two_digits};
@@ -33,7 +33,7 @@ impl Model for Day {
 
     ghost Value = { ℕ };
 
-    ghost use Rattle.club_values.specs.Day.{IsDay};
+    ghost use Rattle.club_values.specs.Moment.{IsDay};
 
     ghost view = { λ day. day.number };
 

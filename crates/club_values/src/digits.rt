@@ -1,10 +1,8 @@
 //! Parses and writes decimal digits.
 
 ghost use Rattle.std.specs.{Char.is_ascii_digit, List.list_all, Prelude.{◌≡◌, ◌<◌, ◌++◌, [], ◌∷◌}};
-ghost use Rattle.club_values.specs.{Number.SpellsNumber, Reading.Reads};
-ghost use Rattle.club_values.specs.computed.TextOf.{decimal_of_text};
-ghost use Rattle.club_values.specs.Digits as spec;
-ghost use Rattle.club_values.specs.Number as number;
+ghost use Rattle.club_values.specs.{Number.{SpellsNumber, Reads}, computed.TextOf.decimal_of_text};
+ghost use Rattle.club_values.specs.Number as spec;
 
 use crate::ascii::text_of;
 
@@ -40,7 +38,7 @@ fn are_digits(text: &[u8]) -> bool
 }
 
 fn are_few_digits(text: &[u8]) -> bool
-    ensures { result ≡ number.are_few_digits text.now }
+    ensures { result ≡ spec.are_few_digits text.now }
 {
     !text.is_empty() && text.len() <= MAX_DIGITS && are_digits(text)
 }
@@ -49,7 +47,7 @@ fn are_few_digits(text: &[u8]) -> bool
 /// zeros are allowed.
 #[tactic(auto, using(crate::proofs::TextLemmas::digits_read))]
 pub fn read_digits(text: &[u8]) -> Option<u32>
-    ensures { result ≡ number.number_of_digits text.now }
+    ensures { result ≡ spec.number_of_digits text.now }
 {
     if !are_few_digits(text) {
         return None;

@@ -1,9 +1,9 @@
 //! Hours of a day, and their texts.
 
 ghost use Rattle.std.specs.Prelude.{◌≡◌, ◌↔◌, IsSome, IfSome, Some};
-ghost use Rattle.club_values.specs.{Hour.{IsHour, SpellsHour}, Reading.Reads};
+ghost use Rattle.club_values.specs.{Moment.{IsHour, SpellsHour}, Number.Reads};
 ghost use Rattle.club_values.specs.computed.TextOf.{hour_of_text};
-ghost use Rattle.club_values.specs.Digits as digits;
+ghost use Rattle.club_values.specs.Number as digits;
 
 use crate::ascii::text_of;
 use crate::digits::{read_two, two_digits};
@@ -24,7 +24,7 @@ impl Model for Hour {
 
     ghost Value = { ℕ };
 
-    ghost use Rattle.club_values.specs.Hour.{IsHour};
+    ghost use Rattle.club_values.specs.Moment.{IsHour};
 
     ghost view = { λ hour. hour.number };
 

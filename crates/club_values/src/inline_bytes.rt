@@ -17,8 +17,8 @@ impl<const N: usize> Model for InlineBytes<N> {
 
     ghost Value = { List ℕ };
 
-    ghost use Rattle.club_values.specs.InlineBytes.{stored_bytes, IsPadded, stored_inline};
-    ghost use Rattle.club_values.specs.InlineBytes.{stored_inline-stored_bytes};
+    ghost use Rattle.club_values.specs.Name.{stored_bytes, IsPadded, stored_inline};
+    ghost use Rattle.club_values.specs.Name.{stored_inline-stored_bytes};
 
     ghost view = { stored_bytes };
 

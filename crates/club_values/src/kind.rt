@@ -1,7 +1,7 @@
 //! The kinds of facilities, and their texts.
 
 ghost use Rattle.std.specs.Prelude.{◌≡◌, Some};
-ghost use Rattle.club_values.specs.{Kind.kind_text, Reading.Reads, computed.TextOf.kind_of_text};
+ghost use Rattle.club_values.specs.{Kind.kind_text, Number.Reads, computed.TextOf.kind_of_text};
 
 use std::fmt;
 

@@ -1,8 +1,8 @@
 //! Moments and their texts. A moment is a minute on the club's clock, from 2000 to 2099.
 
 ghost use Rattle.std.specs.Prelude.{◌≡◌, ◌+◌, ◌*◌, ◌/◌, ◌%◌, ◌<◌, ◌↔◌, IsSome, IfSome, Some};
-ghost use Rattle.club_values.specs.{Day.IsDay, Moment.{IsMoment, SpellsTime, SpellsMoment}};
-ghost use Rattle.club_values.specs.{Moment.{minutes_a_day, moment_text}, Reading.Reads};
+ghost use Rattle.club_values.specs.Moment.{IsDay, IsMoment, SpellsTime, SpellsMoment};
+ghost use Rattle.club_values.specs.{Moment.{minutes_a_day, moment_text}, Number.Reads};
 ghost use Rattle.club_values.specs.computed.TextOf.{moment_of_text};
 
 use crate::ascii::text_of;

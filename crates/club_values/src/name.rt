@@ -1,13 +1,13 @@
 //! The names of members, keys and facilities.
 
-ghost use Rattle.std.specs.Cmp.{partial_equiv_from_equiv, Lexicographic.{pointwise, slice_cmp}};
-ghost use Rattle.std.specs.Cmp.Lexicographic.{nat_list_eq_equiv, nat_list_cmp_total, texts_ties};
-ghost use Rattle.std.specs.{Cmp.{Lexicographic.texts_po, Rules.hashing}, Ordering.nat_cmp};
-ghost use Rattle.std.specs.Prelude.{◌≡◌, ◌↔◌, IsTrue, IsSome, IfSome, Some, nat_eq, refl};
+ghost use Rattle.std.{proofs.Common.rules, specs.Cmp.partial_equiv_from_equiv};
+ghost use Rattle.std.specs.Cmp.Lexicographic.{pointwise, slice_cmp, nat_list_eq_equiv};
+ghost use Rattle.std.specs.Cmp.Lexicographic.{nat_list_cmp_total, texts_ties, texts_po};
+ghost use Rattle.std.specs.{Cmp.Rules.hashing, Ordering.nat_cmp, Prelude.{◌≡◌, ◌↔◌, IsTrue}};
+ghost use Rattle.std.specs.Prelude.{IsSome, IfSome, Some, nat_eq, refl};
+ghost use Rattle.club_values.specs.{Name.IsName, Number.Reads, computed.TextOf.name_of_text};
 ghost use Rattle.std.specs.Hash as fed;
-ghost use Rattle.std.proofs.Common.{rules};
 ghost use Rattle.club_values.specs.Name as spec;
-ghost use Rattle.club_values.specs.{Name.IsName, Reading.Reads, computed.TextOf.name_of_text};
 
 use crate::ascii::text_of;
 use crate::inline_bytes::InlineBytes;

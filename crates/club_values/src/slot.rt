@@ -20,7 +20,7 @@ pub struct Slot {
 }
 
 impl Slot {
-    ghost use Rattle.club_values.specs.Slot.{start_of};
+    ghost use Rattle.club_values.specs.Moment.{start_of};
 
     /// Returns the number of minutes from 1970-01-01T00:00 to the start of the slot.
     pub fn start(&self) -> u32

@@ -3,11 +3,10 @@
 use Rattle.std.proofs.{Common.{refl, ◌≡◌, ◌↔◌, Option, Some, None, sym, subst, ◌⊎◌, ℕ, ◌<◌, List, length, inl, inr, arith}, lemmas.Bool.cases_lt}
 use Rattle.std.{proofs.lemmas.Bool.Decides.nat_tests, specs.Prelude.{IsSome, IfSome}}
 use Rattle.clap.proofs.OnLiterals.{clap_on_literals}
-use Rattle.club_rows.specs.Limits.{IsBookingNumber, IsRoot, booking_number_limit}
-use Rattle.club_values.specs.{Day.SpellsDay, Hour.SpellsHour, Kind.kind_text, Moment.SpellsMoment, Name.IsName}
-use Rattle.clubdesk_arguments.specs.{Arguments.{clubdesk, ReadsValues, job_of}, JobModel.JobModel, Readers.{ReadExactly, Readers}, Values.has_key_root_length}
-use Rattle.clubdesk_arguments.specs.Values.{where_between}
-use Rattle.command_line.specs.{Job.Answers, JobLaws.{RowsAnswerOnce, ReadsOnce}, Table.IsGood}
+use Rattle.club_rows.specs.Rows.{IsBookingNumber, IsRoot, booking_number_limit}
+use Rattle.club_values.specs.{Kind.kind_text, Moment.{SpellsDay, SpellsHour, SpellsMoment}, Name.IsName}
+use Rattle.clubdesk_arguments.specs.{Arguments.{clubdesk, ReadsValues, job_of}, Values.{JobModel, ReadExactly, Readers, has_key_root_length, where_between}}
+use Rattle.command_line.specs.{Job.{Answers, RowsAnswerOnce, ReadsOnce}, Table.IsGood}
 
 pub is_good : IsGood clubdesk
 unfolding clap_on_literals clubdesk

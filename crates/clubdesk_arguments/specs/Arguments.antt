@@ -1,20 +1,20 @@
--- Defines the program's commands and options for `clap`, and the job that a run's arguments ask for.
-use Rattle.std.specs.Prelude.{List, [], ◌∷◌, ◌++◌, map, codes, ◌≡◌, ℕ, Bool, true, false, Option, Some, None, option_map, option_and_then, Result, Ok, Err}
-use Rattle.std.specs.{Borrow.Bor, Option.{ok_or, unwrap_or}}
-use Rattle.clap.specs.Words.{Rule, Text, Row, first_of}
-use Rattle.command_line.specs.{Application.{as_required, flag_named, form_or_v2, option_named, positional_named, with_default}, Table.Table, Arguments.is_set}
-use Rattle.command_line.specs.{Arguments.value_in, Job.{Answers, JobOf, ReadsJob, Refusal, bad_value, form_given, refused_as}}
-use Rattle.command_line.specs.declared.{errors.ArgumentsFault.ArgumentsFault, job.Asked.{Asked, TheVariants.Perform}}
-use Rattle.clubdesk_arguments.specs.{declared.table.CommandName.CommandName, JobModel.JobModel, Readers.{ReadExactly, Readers}}
-use Rattle.clubdesk_arguments.specs.Values.{booking_number_of, count_of, parse_number, patience_of, port_of, key_root_of}
-use Rattle.clubdesk_arguments.specs.declared.task.{KeyChange.TheVariants.{Add, Rotate}, KeyCommand.KeyCommand, Task.TheVariants.{Give, Key, Sheet, ShowAccount}}
-use Rattle.clubdesk_arguments.specs.declared.task.{Task.TheVariants.ShowSlot, Work.{Work, TheVariants.{Office, Rootless, Serve}}}
-use Rattle.club_values.specs.declared.slot.Slot.{Slot}
-use Rattle.pass_forms.specs.declared.form.Form.{Form, TheVariants.V2}
-use Rattle.club_clock.specs.{Zone.zone_of, declared.clock.Clock.{Clock, TheVariants.{Fixed, InZone}}}
+-- Defines the program's commands and options for `clap`, the job that a run's arguments ask for,
+-- and the laws of the command line.
 use Rattle.clap.specs.declared.error.kind.ErrorKind.TheVariants as kind
 use Rattle.club_core.specs.declared.command.Command.TheVariants as office
 use Rattle.clubdesk_arguments.specs.declared.table.CommandName.TheVariants as command
+use Rattle.std.specs.{Borrow.Bor, Option.{ok_or, unwrap_or}, Prelude.{List, [], ◌∷◌, ◌++◌, map, codes, ◌≡◌, ℕ, Bool, true, false, Option, Some, None}}
+use Rattle.std.specs.Prelude.{option_map, option_and_then, Result, Ok, Err}
+use Rattle.clap.specs.Words.{Rule, Text, Row, first_of}
+use Rattle.club_clock.specs.{Zone.zone_of, declared.clock.Clock.{Clock, TheVariants.{Fixed, InZone}}}
+use Rattle.club_values.specs.declared.slot.Slot.{Slot}
+use Rattle.clubdesk_arguments.specs.Values.{JobModel, ReadExactly, Readers, booking_number_of, count_of, parse_number, patience_of, port_of, key_root_of}
+use Rattle.clubdesk_arguments.specs.declared.task.{Task.TheVariants.{Give, Key, Sheet, ShowAccount, ShowSlot}, Work.TheVariants.{Office, Rootless, Serve}}
+use Rattle.clubdesk_arguments.specs.declared.{table.CommandName.CommandName, task.{KeyChange.TheVariants.{Add, Rotate}, KeyCommand.KeyCommand, Work.Work}}
+use Rattle.command_line.specs.{Application.{as_required, flag_named, form_or_v2, option_named, positional_named, with_default}, Arguments.{is_set, value_in}}
+use Rattle.command_line.specs.{Job.{Answers, JobOf, ReadsJob, Refusal, bad_value, form_given, refused_as, AskOnce}, Table.Table}
+use Rattle.command_line.specs.declared.{errors.ArgumentsFault.ArgumentsFault, job.Asked.{Asked, TheVariants.Perform}}
+use Rattle.pass_forms.specs.declared.form.Form.{Form, TheVariants.V2}
 
 -- The required positional arguments of a command. The first argument is FILE.
 abbrev pub positionals_over_file : List Text → List Rule
@@ -286,3 +286,7 @@ AskFor arguments file work = ReadsArguments arguments (Ok (Perform (record { fil
 abbrev pub AnswersRoot : Result (Option Text × Form) (Refusal Unit) → Result (Option (Bor Text) × Form) (ArgumentsFault Unit) → Type 0
 AnswersRoot expected (Ok answer) = expected ≡ Ok (option_map (λ text. text.now) answer.0, answer.1)
 AnswersRoot expected (Err fault) = Answers expected (Err fault)
+
+-- If arguments ask for a job, parsing them returns this job or runs out of memory.
+abbrev pub AskForOneJob : Type 0
+AskForOneJob = AskOnce clubdesk ReadsValues

@@ -1,11 +1,11 @@
 -- Defines the exit status and the line of each fault.
-use Rattle.std.specs.{Fmt.with_newline, Prelude.{ℕ, List, ◌++◌, Option, Some, None, codes}, String.string_bytes}
-use Rattle.command_line.specs.declared.errors.ArgumentsFault.{ArgumentsFault}
 use Rattle.command_line.specs.declared.errors.ArgumentsFault.TheVariants as arguments
-use Rattle.club_core.specs.{Faults.office_fault_text, declared.store.StoreFault.StoreFault}
 use Rattle.club_core.specs.declared.store.StoreFault.TheVariants as store
+use Rattle.std.specs.{Fmt.with_newline, Prelude.{ℕ, List, ◌++◌, Option, Some, None, codes}, String.string_bytes}
+use Rattle.club_core.specs.{Refusal.office_fault_text, declared.store.StoreFault.StoreFault}
 use Rattle.clubdesk_arguments.specs.declared.fault.Fault.{Fault, TheVariants.{Refused, Arguments, BadValue, Memory, Storage, ClockOutOfRange, InputOutput}}
 use Rattle.clubdesk_arguments.specs.declared.fault.Fault.TheVariants.{NoAnswer, Answered}
+use Rattle.command_line.specs.declared.errors.ArgumentsFault.{ArgumentsFault}
 
 abbrev pub fault_status : Fault → ℕ
 fault_status (Refused fault) = 1

@@ -1,8 +1,32 @@
--- Defines the values of arguments that `club_values` doesn't parse.
-use Rattle.std.specs.Prelude.{ℕ, ◌&&◌, List, length, nat_le, if◌then◌else◌, Option, Some, None, option_and_then}
-use Rattle.command_line.specs.Root.{root_of}
-use Rattle.club_values.specs.Number.{number_of_digits}
-use Rattle.club_rows.specs.Limits.{booking_number_limit, max_root_len, min_root_len}
+-- Defines functions that read values from texts, the values of arguments that `club_values` doesn't
+-- parse, and the value that represents a `Job` in contracts.
+use Rattle.std.specs.Prelude.{ℕ, List, ◌≡◌, ◌↔◌, Option, Some, ◌&&◌, length, nat_le, if◌then◌else◌, None, option_and_then}
+use Rattle.club_rows.specs.Rows.{booking_number_limit, max_root_len, min_root_len}
+use Rattle.club_values.specs.{Kind.kind_text, Moment.{SpellsDay, SpellsHour, SpellsMoment}, Name.IsName, Number.number_of_digits, declared.kind.Kind.Kind}
+use Rattle.clubdesk_arguments.specs.declared.task.Work.{Work}
+use Rattle.command_line.specs.Arguments.{root_of}
+
+-- The database's file, and the work on the database.
+pub record JobModel : Type 0 where
+  pub file : List ℕ
+  pub work : Work
+
+-- For each kind of value, a function that reads a value of this kind from a text.
+pub record Readers : Type 0 where
+  pub name : List ℕ → Option (List ℕ)
+  pub kind : List ℕ → Option Kind
+  pub day : List ℕ → Option ℕ
+  pub hour : List ℕ → Option ℕ
+  pub moment : List ℕ → Option ℕ
+
+-- Each function returns a value if and only if the text encodes the value. Any two exact readers
+-- therefore return the same values.
+pub record ReadExactly (read : Readers) : Type 0 where
+  pub names : (text name : List ℕ) → (read.name text ≡ Some name) ↔ (IsName text × (name ≡ text))
+  pub kinds : (text : List ℕ) (kind : Kind) → (read.kind text ≡ Some kind) ↔ (text ≡ kind_text kind)
+  pub days : (text : List ℕ) (n : ℕ) → (read.day text ≡ Some n) ↔ SpellsDay text n
+  pub hours : (text : List ℕ) (n : ℕ) → (read.hour text ≡ Some n) ↔ SpellsHour text n
+  pub moments : (text : List ℕ) (n : ℕ) → (read.moment text ≡ Some n) ↔ SpellsMoment text n
 
 -- A number of 1 to 9 decimal digits.
 unfoldable pub parse_number : List ℕ → Option ℕ

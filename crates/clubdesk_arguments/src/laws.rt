@@ -1,7 +1,7 @@
 //! Laws about jobs and about parsing values. Each law is the contract of a function that returns
 //! nothing.
 
-ghost use Rattle.clubdesk_arguments.specs.{Laws.AskForOneJob, Readers.ReadExactly};
+ghost use Rattle.clubdesk_arguments.specs.{Arguments.AskForOneJob, Values.ReadExactly};
 ghost use Rattle.clubdesk_arguments.specs.computed.TextReaders.{text_readers};
 
 use crate::task::Job;

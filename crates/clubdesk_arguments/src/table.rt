@@ -1,10 +1,9 @@
 //! The commands and their arguments, with their help texts, and the work that arguments ask for.
 
+ghost use Rattle.clubdesk_arguments.specs.Arguments as spec;
 ghost use Rattle.std.specs.Prelude.{◌≡◌, None, option_map};
 ghost use Rattle.clap.specs.Words.{found_of, rows_of};
-ghost use Rattle.clubdesk_arguments.specs.Arguments as spec;
-ghost use Rattle.clubdesk_arguments.specs.Arguments.{clubdesk};
-ghost use Rattle.clubdesk_arguments.specs.computed.TextReaders.{text_readers};
+ghost use Rattle.clubdesk_arguments.specs.{Arguments.clubdesk, computed.TextReaders.text_readers};
 ghost use Rattle.command_line.specs.Job.{Answers};
 
 use crate::options::{given, name_of, number_at, root_and_form, rotation_moment, rotation_root};

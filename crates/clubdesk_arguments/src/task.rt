@@ -72,7 +72,7 @@ pub struct Job<'a> {
 }
 
 impl<'a> Model for Job<'a> {
-    ghost use Rattle.clubdesk_arguments.specs.JobModel.{JobModel};
+    ghost use Rattle.clubdesk_arguments.specs.Values.{JobModel};
 
     ghost Value = { JobModel };
 

@@ -5,14 +5,14 @@ use Rattle.std.{proofs.Common.{◌≡◌, ◌≢◌, ◌⊎◌, ℕ, false, List
 use Rattle.std.specs.declared.alloc.Global.{Global}
 use Rattle.clap.specs.Words.{Text}
 use Rattle.club_core.specs.{Run.{Event, Asked, Response, ToMember}, Store.StoreGhosts, declared.refusal.Refusal.TheVariants.Unavailable, Answer.verdict_in}
-use Rattle.club_core.specs.{declared.{command.Command.Command, reply.Reply.{Reply, TheVariants.Refused}, request.Request.Request}, Pass.Words, Club.Club}
+use Rattle.club_core.specs.{declared.{command.Command.Command, reply.Reply.{Reply, TheVariants.Refused}, request.Request.Request}, Request.Words, Club.Club}
 use Rattle.club_gate.specs.{Desk.{HasFailed, IsAnsweredBy, IsDecidedBy, IsRefusedBy, Steps}, Response.desk_presentation, declared.event.OfficeReply.OfficeReply}
 use Rattle.club_gate.specs.declared.fault.Fault.{Fault as DeskFault}
-use Rattle.club_http.specs.Desk.{AnswersBy}
+use Rattle.club_http.specs.Calls.{AnswersBy}
 use Rattle.club_laws.specs.Failed.{IsStep, is_unavailable}
 use Rattle.clubdesk_arguments.specs.declared.{fault.Fault.Fault, task.{Service.Service, Task.{Task, TheVariants.{Give, Key, ShowAccount}}}}
-use Rattle.clubdesk_commands.{proofs.RunLemmas.{Simulates, run_alike, same, so}, specs.{Does.{DeskShows, Does, IsAnswered}, Machine.{itself, machine_answers}}}
-use Rattle.clubdesk_commands.specs.{Machine.machine_commands, OfficeDesk.{CarriesOutBy, DoesArguments}, Run.{FollowsMachine, RunsServer}}
+use Rattle.clubdesk_commands.{proofs.RunLemmas.{Simulates, run_alike, same, so}, specs.{Does.{DeskShows, Does, IsAnswered}, OfficeDesk.itself}}
+use Rattle.clubdesk_commands.specs.{OfficeDesk.{machine_answers, machine_commands, CarriesOutBy, DoesArguments}, Run.{FollowsMachine, RunsServer}}
 use Rattle.desk_server.specs.{Served.Turn, declared.office.Answer.Answer}
 use Rattle.jiff_core.specs.declared.timestamp.Timestamp.{Timestamp}
 

@@ -1,6 +1,6 @@
 -- Lemmas for comparing the servers of two desks, such as a server over a store with a server over
 -- a club, and for the proof of `run`.
-use Rattle.club_http.specs.Replied as replied
+use Rattle.club_http.specs.Exchange as replied
 use Rattle.clubdesk_commands.specs.Run as run
 use Rattle.desk_server.specs.Served as served
 use Rattle.club_core.specs.declared.store.StoreFault.TheVariants as store
@@ -10,8 +10,8 @@ use Rattle.std.specs.{Prelude.String, Slice.IsItemAt}
 use Rattle.clap.specs.Words.{Text}
 use Rattle.club_clock.specs.Moments.{GivesMoment, showing}
 use Rattle.club_core.specs.{Store.StoreGhosts, declared.{reply.Reply.Reply, request.Request.Request, store.StoreFault.StoreFault}}
-use Rattle.club_http.specs.{Replied.{AnswerRelation, IsReplied}, declared.fault.AnswerFault.{AnswerFault, TheVariants.{Read, Write}}}
-use Rattle.clubdesk_arguments.specs.{Arguments.{AskFor, ReadsArguments}, Fault.fault_of_opening, JobModel.JobModel, declared.fault.Fault.Fault}
+use Rattle.club_http.specs.{Exchange.{AnswerRelation, IsReplied}, declared.fault.AnswerFault.{AnswerFault, TheVariants.{Read, Write}}}
+use Rattle.clubdesk_arguments.specs.{Arguments.{AskFor, ReadsArguments}, Fault.fault_of_opening, Values.JobModel, declared.fault.Fault.Fault}
 use Rattle.clubdesk_arguments.specs.declared.task.{Service.Service, Work.Work}
 use Rattle.clubdesk_commands.specs.{OfficeDesk.{answers_with_clock, carries_out_with_clock}, Output.{EndsWork, Stream}, Run.{RunsServer, over_socket}}
 use Rattle.clubdesk_commands.specs.Run.{Announces, Serves}

@@ -1,20 +1,19 @@
 -- Defines how each task of the office changes a desk, and how the program answers the task.
-use Rattle.std.specs.{Prelude.{◌≡◌, ℕ, List, [], ◌∷◌, ◌++◌, codes, Option, MatchOption, Result, Ok, Err, IfOk, String}, String.string_bytes}
-use Rattle.std.specs.declared.alloc.Global.{Global}
-use Rattle.club_core.specs.{Club.Club, Run.ToOffice, Sheet.IsSheet, Store.{KeepsClub, StoreGhosts}, declared.command.Command.Command}
 use Rattle.club_core.specs.declared.command.Command.TheVariants as office
 use Rattle.club_core.specs.Run as machine
-use Rattle.club_gate.specs.{Desk.{OfItsClub, Steps}, Minted.{key_pass, minted_signature}, Listing.{ReturnsListing, account_listing, slot_listing}}
-use Rattle.club_gate.specs.declared.{event.OfficeReply.OfficeReply, fault.Fault.Fault as DeskFault}
 use Rattle.club_gate.specs.declared.event.OfficeReply.TheVariants as replies
 use Rattle.club_gate.specs.declared.fault.Fault.TheVariants as desk
+use Rattle.std.specs.{Prelude.{◌≡◌, ℕ, List, [], ◌∷◌, ◌++◌, codes, Option, MatchOption, Result, Ok, Err, IfOk, String}, String.string_bytes}
+use Rattle.std.specs.declared.alloc.Global.{Global}
+use Rattle.club_clock.specs.Moments.{IsMomentOf}
+use Rattle.club_core.specs.{Club.Club, Run.ToOffice, Sheet.IsSheet, Store.{KeepsClub, StoreGhosts}, declared.command.Command.Command}
+use Rattle.club_gate.specs.{DecodedPass.{key_pass, minted_signature}, Desk.{OfItsClub, Steps}, Listing.{ReturnsListing, account_listing, slot_listing}}
+use Rattle.club_gate.specs.declared.{event.OfficeReply.OfficeReply, fault.Fault.Fault as DeskFault}
+use Rattle.clubdesk_arguments.specs.declared.task.{KeyChange.{KeyChange, TheVariants.{Add, Rotate}}, Task.TheVariants.{Give, Key, Sheet, ShowAccount, ShowSlot}}
+use Rattle.clubdesk_arguments.specs.{Fault.fault_of_opening, declared.{fault.Fault.{Fault, TheVariants.{Refused, Memory, ClockOutOfRange}}, task.Task.Task}}
+use Rattle.jiff_core.specs.declared.timestamp.Timestamp.{Timestamp}
 use Rattle.pass_forms.specs.{Writing.IsWritableText, declared.form.Form.Form}
 use Rattle.pass_json.specs.AnyForm.{IsTextIn}
-use Rattle.clubdesk_arguments.specs.{Fault.fault_of_opening, declared.fault.Fault.{Fault, TheVariants.{Refused, Memory, ClockOutOfRange}}}
-use Rattle.clubdesk_arguments.specs.declared.task.{KeyChange.{KeyChange, TheVariants.{Add, Rotate}}, Task.Task}
-use Rattle.clubdesk_arguments.specs.declared.task.Task.TheVariants.{Give, Key, Sheet, ShowAccount, ShowSlot}
-use Rattle.club_clock.specs.Moments.{IsMomentOf}
-use Rattle.jiff_core.specs.declared.timestamp.Timestamp.{Timestamp}
 
 -- The desk's command that adds a key with this root, or that gives this root to an existing key.
 abbrev pub key_command : List ℕ → KeyChange → List ℕ → Command

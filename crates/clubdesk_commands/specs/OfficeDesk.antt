@@ -1,15 +1,19 @@
--- Defines how a command changes the desk of a server that receives the command.
+-- Defines how a command changes the desk of a server that receives the command. The state of the
+-- desk is a store or a club.
+use Rattle.desk_server.specs.Served as served
 use Rattle.std.specs.{Prelude.{◌≡◌, ◌⊎◌, ℕ, List, [], ◌++◌, take, slice_get, codes, IfSome, Option, Some, None, Result, Ok, Err}, String.string_bytes}
 use Rattle.clap.specs.{Words.Text, declared.error.Error.Error}
-use Rattle.jiff_core.specs.declared.timestamp.Timestamp.{Timestamp}
-use Rattle.club_core.specs.Store.{StoreGhosts}
-use Rattle.club_http.specs.Replied.{AnswerRelation}
-use Rattle.desk_server.specs.{Served.CommandRelation, declared.office.Answer.Answer}
-use Rattle.command_line.specs.declared.{errors.ArgumentsFault.ArgumentsFault, job.Asked.TheVariants.ShowText}
+use Rattle.club_core.specs.{Club.Club, Request.Words, Run.{Asked, ToMember}, Store.StoreGhosts}
+use Rattle.club_gate.specs.{DecodedPass.AreWordsOf, Response.desk_presentation}
+use Rattle.club_http.specs.Exchange.{AnswerRelation}
+use Rattle.club_laws.specs.Failed.{IsStep}
 use Rattle.clubdesk_arguments.specs.{Arguments.{AskFor, ReadsArguments}, Fault.{fault_line, fault_status, of_arguments}, declared.fault.Fault.Fault}
 use Rattle.clubdesk_arguments.specs.declared.{fault.Fault.TheVariants.{Arguments, BadValue}, task.{KeyCommand.KeyCommand, Service.Service, Task.Task}}
 use Rattle.clubdesk_arguments.specs.declared.task.{Task.TheVariants.Key, Work.TheVariants.{Office, Rootless, Serve}}
-use Rattle.clubdesk_commands.specs.{Does.Does, HandedCommand.{SpellsCommand, SpellsNoCommand}, Input.root_in_input}
+use Rattle.clubdesk_commands.specs.{Does.Does, HandedCommand.{SpellsCommand, SpellsNoCommand, root_in_input}}
+use Rattle.command_line.specs.declared.{errors.ArgumentsFault.ArgumentsFault, job.Asked.TheVariants.ShowText}
+use Rattle.desk_server.specs.{Served.CommandRelation, declared.office.Answer.Answer}
+use Rattle.jiff_core.specs.declared.timestamp.Timestamp.{Timestamp}
 
 -- The status and the text of an answer. The text of a fault is the fault's line. If memory for the
 -- line runs out, the status is 4.
@@ -78,3 +82,17 @@ answers_with_clock Answers moment text request old reply new = Answers moment te
 abbrev pub carries_out_with_clock : {S C : Type 0} → (C → Option Timestamp → Type 0) → ((Option Timestamp → Type 0) → CommandRelation S)
     → CommandRelation (S × C)
 carries_out_with_clock Shows Carries bytes old answer new = Carries (Shows old.1) bytes old.0 answer new.0 × (new.1 ≡ old.1)
+
+-- Used as a store, a club represents only itself.
+abbrev pub itself : StoreGhosts Club
+itself = record { is_clean = λ club. Unit {0}; represents = λ now club others. now ≡ club; fails = λ wish old fault new. ⊥ }
+
+-- The reply and the next club are the result of one step of the club's state machine. If the
+-- request fails, the club is unchanged.
+abbrev pub machine_answers : ℕ → AnswerRelation Club
+machine_answers moment text request club reply next =
+    (words : Words) × AreWordsOf text request words × IsStep desk_presentation club (Asked words moment) (ToMember reply) next
+
+-- A command has the same effect on a club as on a store that represents the club.
+abbrev pub machine_commands : (Option Timestamp → Type 0) → served.CommandRelation Club
+machine_commands Given bytes club answer next = CarriesOutBy itself Given bytes club answer next

@@ -1,8 +1,8 @@
 -- Defines what a run writes to its output and to its log.
 use Rattle.std.specs.{Io.KnownBytes.Appends, Prelude.{◌≡◌, ◌⊎◌, ℕ, List, Option, Result, Ok, Err, IfErr, String}, String.string_bytes}
-use Rattle.command_line.specs.Output.{AppendsFront}
-use Rattle.desk_server.specs.{Served.{AreNoted, Turn}, declared.log.Log.Ghosts as LogWords}
 use Rattle.clubdesk_arguments.specs.declared.fault.Fault.{Fault, TheVariants.{Arguments, BadValue, ClockOutOfRange, InputOutput}}
+use Rattle.command_line.specs.Process.{AppendsFront}
+use Rattle.desk_server.specs.{Served.{AreNoted, Turn}, declared.log.Log.Ghosts as LogWords}
 
 -- The bytes of a reader or a writer before and after a run, if the bytes are known. A reader's
 -- bytes are the bytes that remain to be read. A writer's bytes are the bytes that have been written

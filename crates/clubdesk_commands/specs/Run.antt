@@ -1,20 +1,22 @@
--- Defines the effect of a run of the program.
+-- Defines the effect of a run of the program, and of a process that runs the program.
+use Rattle.desk_server.specs.Served as served
+use Rattle.clap.specs.declared.error.kind.ErrorKind.TheVariants as kinds
 use Rattle.std.specs.{Io.KnownBytes.Appends, Prelude.{◌≡◌, ◌≢◌, ◌⊎◌, ℕ, ◌≤◌, List, [], ◌∷◌, ◌++◌, Option, Some, None, Result, Ok, Err, IfErr, true, false}}
 use Rattle.std.specs.{Prelude.{codes, decimal}, String.string_bytes}
 use Rattle.clap.specs.{Words.Text, declared.error.Error.Error}
-use Rattle.club_core.specs.{Club.Club, Store.StoreGhosts, declared.store.StoreFault.StoreFault}
-use Rattle.club_http.specs.{Desk.AnswersBy, Replied.AnswerRelation}
-use Rattle.command_line.specs.{Output.AppendsFront, declared.{errors.ArgumentsFault.ArgumentsFault, job.Asked.TheVariants.ShowText}}
-use Rattle.desk_server.specs.{Databases.Giving, Served.{Ends, Turn}, declared.databases.{Databases.Ghosts as DatabasesWords, Reached.TheVariants.Opened}}
-use Rattle.desk_server.specs.declared.{databases.{Reached.TheVariants.Served, Visit.Ghosts as VisitWords}, serve.ClockOutOfRange.ClockOutOfRange as ClockFault}
-use Rattle.hex.specs.Hex.{encode_lower}
-use Rattle.desk_server.specs.Served as served
-use Rattle.clubdesk_arguments.specs.{Arguments.{AskFor, ReadsArguments}, Fault.{fault_of_opening, of_arguments}, declared.fault.Fault.Fault}
-use Rattle.clubdesk_arguments.specs.declared.{fault.Fault.TheVariants.{Memory, ClockOutOfRange, InputOutput, NoAnswer, Answered}, task.KeyCommand.KeyCommand}
-use Rattle.clubdesk_arguments.specs.declared.task.{Service.Service, Task.{Task, TheVariants.Key}, Work.TheVariants.{Office, Rootless, Serve}}
 use Rattle.club_clock.specs.{Moments.showing, declared.clock.Clock.Clock}
-use Rattle.clubdesk_commands.specs.{Does.Does, HandedCommand.SpellsCommand, Input.TakesRoot, Machine.{machine_answers, machine_commands}}
-use Rattle.clubdesk_commands.specs.{OfficeDesk.CarriesOutBy, Output.{EndsWork, LogChange, Prints, Stream}}
+use Rattle.club_core.specs.{Club.Club, Store.StoreGhosts, declared.store.StoreFault.StoreFault}
+use Rattle.club_http.specs.{Calls.AnswersBy, Exchange.AnswerRelation}
+use Rattle.clubdesk_arguments.specs.{Arguments.{AskFor, ReadsArguments}, Fault.{fault_of_opening, of_arguments, fault_output, fault_status}}
+use Rattle.clubdesk_arguments.specs.declared.fault.Fault.{Fault, TheVariants.{Memory, ClockOutOfRange, InputOutput, NoAnswer, Answered}}
+use Rattle.clubdesk_arguments.specs.declared.task.{KeyCommand.KeyCommand, Service.Service, Task.{Task, TheVariants.Key}, Work.TheVariants.{Office, Rootless}}
+use Rattle.clubdesk_arguments.specs.declared.task.Work.TheVariants.{Serve}
+use Rattle.clubdesk_commands.specs.{Does.Does, HandedCommand.{SpellsCommand, TakesRoot}, OfficeDesk.{machine_answers, machine_commands, CarriesOutBy}}
+use Rattle.clubdesk_commands.specs.Output.{EndsWork, LogChange, Prints, Stream}
+use Rattle.command_line.specs.{Arguments.IsOfKind, Process.AppendsFront, declared.{errors.ArgumentsFault.ArgumentsFault, job.Asked.TheVariants.ShowText}}
+use Rattle.desk_server.specs.{Served.{Ends, Turn}, Server.Giving, declared.databases.{Databases.Ghosts as DatabasesWords, Reached.TheVariants.{Opened, Served}}}
+use Rattle.desk_server.specs.declared.{databases.Visit.Ghosts as VisitWords, serve.ClockOutOfRange.ClockOutOfRange as ClockFault}
+use Rattle.hex.specs.Hex.{encode_lower}
 use Rattle.jiff_core.specs.declared.timestamp.Timestamp.{Timestamp}
 
 -- An exchange over a socket can have any outcome, because no contract states which bytes a socket
@@ -166,3 +168,25 @@ module _ {D S R V Machine : Type 0} (databases : DatabasesWords D S R V) (visits
       -- log.
       server_asked : (file : Text) (service : Service) → AskFor arguments file (Serve service) → Serves file service old new written log.notes result
           → EndsWork written.no_change result → given.no_change → (service.log ≡ false → log.no_change) → Runs arguments given old new written log result
+
+-- The exit status of a run with this result.
+abbrev pub exit_status : Result Unit Fault → ℕ
+exit_status (Ok done) = 0
+exit_status (Err fault) = fault_status fault
+
+-- The exit status matches the run's result. If the run failed, the program printed the text of the
+-- fault.
+abbrev pub EndsWith : (Option (List ℕ) → Type 0) → Result Unit Fault → ℕ → Type 0
+EndsWith Asked ended status = (status ≡ exit_status ended) × IfErr ended (λ fault. Asked (fault_output fault))
+
+module _ {D S R V Machine : Type 0} (databases : DatabasesWords D S R V) (visits : VisitWords V) (ghosts : StoreGhosts S)
+    (Shows : Machine → Option Timestamp → Type 0) (machine : Machine) (Given : List Text → Type 0) (Asked : Option (List ℕ) → Type 0)
+  where
+    -- The effect of a process. The process runs the program on its arguments. If an argument isn't
+    -- valid UTF-8, or if memory for the arguments runs out, the process only prints the fault.
+    pub data RunsProcess (given : Stream) (old new : D) (written : Stream) (log : LogChange) (status : ℕ) : Type 0 where
+      process_ran : (arguments : List Text) (ended : Result Unit Fault) → Given arguments
+          → Runs databases visits ghosts Shows machine arguments given old new written log ended → EndsWith Asked ended status
+          → RunsProcess given old new written log status
+      arguments_refused : (fault : ArgumentsFault Unit) → IsOfKind kinds.ValueValidation fault → given.no_change → new ≡ old → written.no_change
+          → log.no_change → EndsWith Asked (Err (of_arguments fault)) status → RunsProcess given old new written log status

@@ -1,9 +1,8 @@
 //! Encodes a command for a server as JSON, and decodes the JSON.
-ghost use Rattle.std.specs.Prelude.{◌≡◌, ◌∷◌, IfOk, List, MatchOption, map};
-ghost use Rattle.std.specs.String.{string_bytes};
+ghost use Rattle.clubdesk_commands.specs.HandedCommand as spec;
+ghost use Rattle.std.specs.{Prelude.{◌≡◌, ◌∷◌, IfOk, List, MatchOption, map}, String.string_bytes};
 ghost use Rattle.clap.specs.Words.{Text};
 ghost use Rattle.serde_json.specs.{Data.string, View.view};
-ghost use Rattle.clubdesk_commands.specs.HandedCommand as spec;
 
 use serde_json::Value;
 use std::alloc::{AllocError, Global};

@@ -1,7 +1,7 @@
 //! Reads a key's root from standard input.
 
 ghost use Rattle.std.specs.Prelude.{◌≡◌};
-ghost use Rattle.clubdesk_commands.specs.Input as spec;
+ghost use Rattle.clubdesk_commands.specs.HandedCommand as spec;
 
 use club_rows::Root;
 use clubdesk_arguments::{Fault, root_of};

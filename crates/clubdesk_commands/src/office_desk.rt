@@ -71,7 +71,7 @@ impl<'a, S: ClubStore, C: Instants> OfficeDesk<'a, S, C> {
 }
 
 impl<S: ClubStore, C: Instants> Responder for OfficeDesk<'_, S, C> {
-    ghost use Rattle.club_http.specs.Desk.{AnswersBy};
+    ghost use Rattle.club_http.specs.Calls.{AnswersBy};
     ghost use Rattle.clubdesk_commands.specs.OfficeDesk.{answers_with_clock};
 
     ghost answers = { answers_with_clock (AnswersBy S.ghosts) };

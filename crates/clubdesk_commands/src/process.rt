@@ -3,7 +3,7 @@
 ghost use Rattle.std.specs.Prelude.{◌≡◌, IfErr};
 ghost use Rattle.clubdesk_arguments.specs.Fault.{fault_output};
 ghost use Rattle.clubdesk_commands.specs.Output.{log_change, stream};
-ghost use Rattle.clubdesk_commands.specs.Process as spec;
+ghost use Rattle.clubdesk_commands.specs.Run as spec;
 
 use crate::program::run;
 use club_clock::Instants;

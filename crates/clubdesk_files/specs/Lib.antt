@@ -1,4 +1,2 @@
-pub mod Attempts
-pub mod Named
-pub mod Handover
 pub mod Retried
+pub mod Named

@@ -1,6 +1,6 @@
 //! Repeats an attempt, and sleeps briefly after each failure.
 
-ghost use Rattle.clubdesk_files.specs.Attempts.{GainsWithin};
+ghost use Rattle.clubdesk_files.specs.Retried.{GainsWithin};
 
 use std::thread;
 use std::time::{Clock, Duration};
@@ -16,7 +16,7 @@ pub const ATTEMPTS_A_SECOND: u32 = 100;
 pub trait Attempts {
     type Gain;
 
-    ghost use Rattle.clubdesk_files.specs.Attempts.{Gains};
+    ghost use Rattle.clubdesk_files.specs.Retried.{Gains};
 
     // The possible results of an attempt, given the state before and after the attempt.
     ghost gains: { Gains Self Self.Gain };

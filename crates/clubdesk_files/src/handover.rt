@@ -2,7 +2,7 @@
 
 ghost use Rattle.std.specs.{Io.KnownBytes.Consumes, Prelude.{IfOk, OnOk, codes}};
 ghost use Rattle.std.specs.String.{string_bytes};
-ghost use Rattle.clubdesk_files.specs.Handover.{ReadsAnswer, SendsCommand};
+ghost use Rattle.clubdesk_files.specs.Retried.{ReadsAnswer, SendsCommand};
 
 use desk_server::{ANSWER_END, GREETING};
 use std::alloc::Global;

@@ -4,7 +4,7 @@ ghost use Rattle.std.specs.{Bool.OnFalse, Prelude.{◌≡◌, IfErr, IfOk, IsTru
 ghost use Rattle.club_core.specs.{Basis.account_named, Club.{facility_named, key_named}};
 ghost use Rattle.club_core.specs.{Sheet.AreRowsOf, Store.ReadsStore};
 ghost use Rattle.club_core.specs.declared.store.StoreFault.TheVariants.{Storage};
-ghost use Rattle.club_rows.specs.Key.{row_of_key};
+ghost use Rattle.club_rows.specs.Rows.{row_of_key};
 ghost use Rattle.clubdesk_files.specs.Named.{with_name};
 
 use club_core::{Change, ClubStore, MemberAccount, SlotUse, StoreFault};

@@ -1,8 +1,8 @@
 //! Sends a command to one server after another, until a server receives all of the command.
 
 ghost use Rattle.std.specs.Prelude.{◌≡◌, ◌↔◌, ℕ, List, IsTrue, Some};
-ghost use Rattle.desk_server.specs.Databases.{in_bytes};
 ghost use Rattle.clubdesk_files.specs.Retried.{IsHandedOn, IsNothingDone};
+ghost use Rattle.desk_server.specs.Server.{in_bytes};
 
 use crate::attempts::{ATTEMPTS_A_SECOND, SLEEP_MILLIS};
 use crate::handover::answered;
@@ -24,8 +24,8 @@ const MAX_RETRIES: u32 = 10 * ATTEMPTS_A_SECOND;
 
 /// The servers that can receive a command, one after another.
 pub trait Servers {
-    ghost use Rattle.desk_server.specs.Databases.{in_bytes};
     ghost use Rattle.clubdesk_files.specs.Retried.{Handing};
+    ghost use Rattle.desk_server.specs.Server.{in_bytes};
 
     // The effect of sending a command to the next server.
     ghost hands: { Handing Self };

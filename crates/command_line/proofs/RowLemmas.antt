@@ -12,10 +12,10 @@ use Rattle.clap.specs.{Walk.{after_step, answers_to, idle, rows_after, subcomman
 use Rattle.clap.specs.Words.{IsAmong, Row, Text, fault_of, subcommand_of, App, HasKind, HasMatchesOf, is_simple_and_free, kind_of, Shape, Row as Found, Rule}
 use Rattle.clap.specs.{Words.{new_app, with_rule, with_subcommand}, declared.error.{Error.Error, kind.ErrorKind.ErrorKind}}
 use Rattle.clap.specs.declared.parser.matches.ArgMatches.{ArgMatches}
-use Rattle.command_line.{proofs.GivenLemmas.given_taken, specs.{Application.program_named, Given.{AreSpelled, Given, can_be_given, found_given, rule_given}}}
-use Rattle.command_line.specs.{Given.shape_given, Job.{ReadsAccepted, ReadsFound, ReadsJob, ReadsRow}, JobLaws.{RowsAnswerOnce, WordsNameARow}}
-use Rattle.command_line.specs.{JobLaws.RowsTakeWhatTheyAreGiven, Root.{root_among, root_of}, Table.{IsGood, Table, app_of_table, asked, asked_in, refusals}}
-use Rattle.command_line.specs.{Table.{Entry, entry_app, entry_named, with_entries}, declared.errors.ArgumentsFault.ArgumentsFault}
+use Rattle.command_line.{proofs.GivenLemmas.given_taken, specs.{Application.program_named, Arguments.{root_among, root_of}, Given.{AreSpelled, Given}}}
+use Rattle.command_line.specs.{Given.{can_be_given, found_given, rule_given, shape_given}, Job.{ReadsAccepted, ReadsFound, ReadsJob, ReadsRow, RowsAnswerOnce}}
+use Rattle.command_line.specs.{Job.{WordsNameARow, RowsTakeWhatTheyAreGiven}, Table.{IsGood, Table, app_of_table, asked, asked_in, refusals, Entry, entry_app}}
+use Rattle.command_line.specs.{Table.{entry_named, with_entries}, declared.errors.ArgumentsFault.ArgumentsFault}
 use Rattle.hex.{proofs.HexLemmas.{decode_of-odd, decode_of-ok, decode_sized-odd, decode_sized-twice}, specs.Hex.{decode_of, decode_sized}}
 use Rattle.hex.specs.declared.error.FromHexError.{FromHexError}
 use lib.Seq.{take-append_seam}

@@ -1,8 +1,40 @@
--- This file defines the values of options, and the results of parsing arguments with `clap`.
-use Rattle.std.specs.{Prelude.{◌≡◌, ◌≢◌, ◌⊎◌, Bool, List, [], codes, unwrap_or}, Str.bytes_eq}
-use Rattle.clap.specs.{Words.{IsAmong, Kinds, Row, Text, first_of, kind_of}, declared.error.kind.ErrorKind.ErrorKind}
+-- This file defines the names of the forms, the roots, the values of options, and the results of
+-- parsing arguments with `clap`. A root has 1 to 64 bytes in hexadecimal, with capital or small
+-- letters.
 use Rattle.clap.specs.declared.error.kind.ErrorKind.TheVariants as kind
+use Rattle.std.specs.Prelude.{ℕ, List, Option, Some, None, codes, if◌then◌else◌, Result, Ok, Err, length, nat_le, ◌&&◌, ◌≡◌, ◌≢◌, ◌⊎◌, Bool, [], unwrap_or}
+use Rattle.std.specs.Str.{bytes_eq}
+use Rattle.clap.specs.{Words.{IsAmong, Kinds, Row, Text, first_of, kind_of}, declared.error.kind.ErrorKind.ErrorKind}
 use Rattle.command_line.specs.declared.errors.ArgumentsFault.{ArgumentsFault, TheVariants.{Refused, BadValue, Memory}}
+use Rattle.hex.specs.{Hex.decode_of, declared.error.FromHexError.FromHexError}
+use Rattle.pass_forms.specs.declared.form.Form.{Form, TheVariants.{V1, V2, Json}}
+
+abbrev pub form_name : Form → List ℕ
+form_name V1 = codes "v1"
+form_name V2 = codes "v2"
+form_name Json = codes "json"
+
+-- The form with the given name.
+abbrev pub form_named : List ℕ → Option Form
+form_named name =
+    if bytes_eq name (form_name V1) then Some V1
+    else (if bytes_eq name (form_name V2) then Some V2
+    else (if bytes_eq name (form_name Json) then Some Json else None))
+
+-- The number of bytes of the longest root.
+abbrev pub max_root_bytes : ℕ
+max_root_bytes = 64
+
+abbrev pub has_root_length : List ℕ → Option (List ℕ)
+has_root_length bytes = if nat_le 1 (length bytes) && nat_le (length bytes) max_root_bytes then Some bytes else None
+
+abbrev pub root_among : Result (List ℕ) FromHexError → Option (List ℕ)
+root_among (Ok bytes) = has_root_length bytes
+root_among (Err e) = None
+
+-- The root that the text represents in hexadecimal.
+unfoldable pub root_of : List ℕ → Option (List ℕ)
+root_of text = root_among (decode_of text)
 
 -- The first value that clap found for the argument `id`, or an empty text if clap found none.
 abbrev pub value_in : Text → List Row → Text

@@ -1,11 +1,6 @@
 pub mod Application
-pub mod Root
-pub mod FormName
-pub mod Input
-pub mod Output
 pub mod Arguments
+pub mod Process
 pub mod Given
 pub mod Table
 pub mod Job
-pub mod JobLaws
-pub mod Process

@@ -1,7 +1,7 @@
 //! The names of the forms on the command line.
 
 ghost use Rattle.std.specs.Prelude.{◌≡◌};
-ghost use Rattle.command_line.specs.FormName as spec;
+ghost use Rattle.command_line.specs.Arguments as spec;
 
 use pass_forms::Form;
 

@@ -3,7 +3,7 @@
 ghost use Rattle.std.specs.Io.{BufRead.strip_last, KnownBytes.{Consumes, IsAtEnd, Keeps}};
 ghost use Rattle.std.specs.{IoError.error_kind, Prelude.{◌≡◌, ◌≢◌, ◌+◌, ◌<◌, ◌≤◌, take, drop}};
 ghost use Rattle.std.specs.Prelude.{length, IfErr, IfOk, OnErr};
-ghost use Rattle.command_line.specs.Input.{ReadsAtMost};
+ghost use Rattle.command_line.specs.Process.{ReadsAtMost};
 
 use crate::signal::is_interrupted;
 use std::io::{self, ErrorKind, Read};

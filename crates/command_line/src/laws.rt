@@ -1,8 +1,8 @@
 //! Laws about the jobs that arguments ask for. Each law is the contract of a function with an empty
 //! body.
 
-ghost use Rattle.command_line.specs.JobLaws.{AskOnce, ReadsOnce, RowsAnswerOnce};
-ghost use Rattle.command_line.specs.JobLaws.{RowsTakeWhatTheyAreGiven, WordsNameARow};
+ghost use Rattle.command_line.specs.Job.{AskOnce, ReadsOnce, RowsAnswerOnce};
+ghost use Rattle.command_line.specs.Job.{RowsTakeWhatTheyAreGiven, WordsNameARow};
 
 use crate::job::Job;
 

@@ -1,8 +1,8 @@
 //! Writes texts to a writer.
 
-ghost use Rattle.std.specs.{Io.KnownBytes.{Appends, Keeps}, IoError.error_kind};
-ghost use Rattle.std.specs.Prelude.{◌≢◌, ◌+◌, ◌≤◌, IfErr, IfOk, OnErr, OnOk, drop, length, take};
-ghost use Rattle.command_line.specs.Output.{AppendsFront};
+ghost use Rattle.std.specs.{Io.KnownBytes.{Appends, Keeps}, IoError.error_kind, Prelude.{◌≢◌, ◌+◌}};
+ghost use Rattle.std.specs.Prelude.{◌≤◌, IfErr, IfOk, OnErr, OnOk, drop, length, take};
+ghost use Rattle.command_line.specs.Process.{AppendsFront};
 
 use crate::signal::is_interrupted;
 use std::io::{self, ErrorKind, Write};

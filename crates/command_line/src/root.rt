@@ -1,7 +1,7 @@
 //! The root, which is the secret key that signs a pass.
 
 ghost use Rattle.std.specs.Prelude.{◌≡◌, ◌≤◌, length};
-ghost use Rattle.command_line.specs.Root.{root_of};
+ghost use Rattle.command_line.specs.Arguments.{root_of};
 
 use std::marker::Model;
 
@@ -17,7 +17,7 @@ pub struct Root {
 
 impl Model for Root {
     ghost use Rattle.std.specs.Prelude.{ℕ, List, ◌≤◌, take};
-    ghost use Rattle.command_line.specs.Root.{max_root_bytes};
+    ghost use Rattle.command_line.specs.Arguments.{max_root_bytes};
 
     ghost Value = { List ℕ };
 

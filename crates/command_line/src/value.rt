@@ -2,8 +2,7 @@
 
 ghost use Rattle.std.specs.Prelude.{◌≡◌, ℕ, List, Option};
 ghost use Rattle.clap.specs.Words.{found_of, rows_of};
-ghost use Rattle.command_line.specs.{Arguments.value_in, FormName.form_named as form_of};
-ghost use Rattle.command_line.specs.Root.{root_of};
+ghost use Rattle.command_line.specs.Arguments.{value_in, form_named as form_of, root_of};
 
 use crate::form_names::form_named;
 use crate::options::value_of;

@@ -10,12 +10,12 @@ use Rattle.std.proofs.{KnownBytes.Appends-nil, Math.Seq.take-append-add, lemmas.
 use Rattle.std.specs.Io.KnownBytes.{Appends, Keeps}
 use Rattle.club_clock.specs.Moments.{GivesMoment}
 use Rattle.club_core.specs.declared.reply.Reply.{Reply}
-use Rattle.club_http.specs.{Calls.{Call, Gives, ReadsNoFurther, ArePut}, Ends.TakesAll, Exchange.{Exchanges, reader_failures, writer_failures}}
-use Rattle.club_http.specs.{Received.Receives, Replied.{AnswerRelation, IsReplied}, declared.fault.AnswerFault.{AnswerFault, TheVariants.{Read, Write}}}
+use Rattle.club_http.specs.{Calls.{Call, Gives, ReadsNoFurther, ArePut}, Exchange.{TakesAll, Exchanges, reader_failures, writer_failures, Receives}}
+use Rattle.club_http.specs.{Exchange.{AnswerRelation, IsReplied}, declared.fault.AnswerFault.{AnswerFault, TheVariants.{Read, Write}}}
 use Rattle.desk_server.specs.{Accepted.{HasMoved, HasWaited, Comes, IsEnded, IsRead, IsWritten, Talks}, Between.{CommandsAlone, AreWaits, Awaits}}
-use Rattle.desk_server.specs.{Laws.WritesLines, Limits.{AreInterrupted, Calls}, Log.{AreWritten, IsTextWritten, line_text}, Served.answer_bytes}
-use Rattle.desk_server.specs.Served.{AreNotedMeanwhile, IsBegun, Notes, Turn, events_in, AreNoted, AreServed, CommandRelation, CountsOn, Ends, IsDue, IsNoted}
-use Rattle.desk_server.specs.{Served.{ServesOne, alone, client_in, clients_in, AreCommanded, Meanwhile, ExchangesBetween, IsExchanged}, Server.IsCommanded}
+use Rattle.desk_server.specs.{Limits.{AreInterrupted, Calls}, Log.{WritesLines, AreWritten, IsTextWritten, line_text}, Served.{answer_bytes, AreNotedMeanwhile}}
+use Rattle.desk_server.specs.Served.{IsBegun, Notes, Turn, events_in, AreNoted, AreServed, CommandRelation, CountsOn, Ends, IsDue, IsNoted, ServesOne, alone}
+use Rattle.desk_server.specs.{Served.{client_in, clients_in, AreCommanded, Meanwhile, ExchangesBetween, IsExchanged}, Server.IsCommanded}
 use Rattle.desk_server.specs.declared.{between.Between.Between, limit.Limit.Limit, log.LogEvent.{LogEvent, TheVariants.{Absent, Overrun, Commanded}}}
 use Rattle.desk_server.specs.declared.timed.Accepted.{Accepted}
 use Rattle.http_response.specs.Text.{reply_text}

@@ -1,10 +1,10 @@
 -- This file defines the effects of calls on an accepted connection with time limits.
 use Rattle.std.specs.{Duration.as_nanos, Io.KnownBytes.{Appends, Keeps}, Prelude.{◌≡◌, ℕ, List, Option, IsSomeAnd, Result, Ok, Err}}
 use Rattle.club_core.specs.declared.reply.Reply.{Reply}
-use Rattle.club_http.specs.{Calls.{ArePut, ReadsNoFurther}, Exchange.{reader_failures, writer_failures}, Received.{IsCutOff, Receives}}
+use Rattle.club_http.specs.{Calls.{ArePut, ReadsNoFurther}, Exchange.{reader_failures, writer_failures, IsCutOff, Receives}}
 use Rattle.club_http.specs.declared.fault.AnswerFault.{AnswerFault, TheVariants.{Read, Write}}
-use Rattle.http_request.specs.Frame.{IsOneRequest}
 use Rattle.desk_server.specs.{Between.Awaits, Limits.{Calls, IsCalledUnder, StartsLimit, TakesAtMost}, declared.timed.Accepted.Accepted}
+use Rattle.http_request.specs.Frame.{IsOneRequest}
 
 -- The connection `new` differs from the connection `old` at most in its stream.
 abbrev pub HasMoved : {S C : Type 0} → Accepted S C → Accepted S C → Type 0

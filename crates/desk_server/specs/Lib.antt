@@ -1,10 +1,7 @@
 pub mod Limits
-pub mod Databases
+pub mod Server
 pub mod RequestLine
 pub mod Log
 pub mod Served
 pub mod Between
 pub mod Accepted
-pub mod Arrival
-pub mod Server
-pub mod Laws

@@ -1,12 +1,12 @@
--- This file defines the lines of a log.
-use Rattle.std.specs.{Fmt.decimal, Io.KnownBytes.Appends}
-use Rattle.std.specs.Prelude.{◌≡◌, ℕ, ◌<◌, ◌⊎◌, List, [], ◌∷◌, ◌++◌, length, take, codes, Option, Some, None, option_map, unwrap_or, Result, Ok, Err}
+-- This file defines the lines of a log, and a law about logs.
+use Rattle.std.specs.{Fmt.decimal, Io.KnownBytes.Appends, Prelude.{◌≡◌, ℕ, ◌<◌, ◌⊎◌, List, [], ◌∷◌, ◌++◌, length, take, codes, Option, Some, None, option_map}}
+use Rattle.std.specs.Prelude.{unwrap_or, Result, Ok, Err}
 use Rattle.club_core.specs.declared.reply.Reply.{Reply}
-use Rattle.club_http.specs.{Ends.one_more, declared.fault.AnswerFault.AnswerFault}
+use Rattle.club_http.specs.{Exchange.one_more, declared.fault.AnswerFault.AnswerFault}
 use Rattle.club_values.specs.Moment.{moment_text}
-use Rattle.http_response.specs.Status.{status_of}
-use Rattle.desk_server.specs.RequestLine.{method_of, path_of}
-use Rattle.desk_server.specs.declared.log.LogEvent.{LogEvent, TheVariants.{Absent, Overrun, Unanswered, Exchanged, Commanded}}
+use Rattle.desk_server.specs.{RequestLine.{method_of, path_of}, Served.{AreNoted, Notes, Turn, events_in}, declared.log.LogEvent.{LogEvent, TheVariants.Absent}}
+use Rattle.desk_server.specs.declared.log.LogEvent.TheVariants.{Overrun, Unanswered, Exchanged, Commanded}
+use Rattle.http_response.specs.Text.{status_of}
 
 -- The given word, or a dash if the word is missing.
 abbrev pub or_dash : Option (List ℕ) → List ℕ
@@ -52,3 +52,9 @@ pub data AreWritten (taken : Option (List ℕ)) (failures : ℕ) : List LogEvent
   no_line : AreWritten taken failures [] taken failures
   one_line : (events : List LogEvent) (event : LogEvent) (microseconds : ℕ) (t : Option (List ℕ)) (f : ℕ) (t' : Option (List ℕ)) (f' : ℕ)
       → AreWritten taken failures events t f → IsTextWritten t t' f f' (line_text event microseconds) → AreWritten taken failures (events ++ event ∷ []) t' f'
+
+-- If a log notes turns of the server, the log writes a line for each event in these turns. If the
+-- writer fails, only a prefix of the event's line is written.
+abbrev pub WritesLines : {Log : Type 0} → (Log → Log → Type 0) → Notes Log → (Log → Option (List ℕ)) → (Log → ℕ) → Type 0
+WritesLines {Log} Begins Noted taken failures = (old new : Log) (turns : List Turn) → AreNoted Begins Noted old turns new
+    → AreWritten (taken old) (failures old) (events_in turns) (taken new) (failures new)

@@ -1,6 +1,14 @@
--- This file defines the parts of a request line that a log shows.
+-- This file defines the parts of a request line that a log shows, and the count of failed waits.
 use Rattle.std.specs.{Borrow.Bor, Char.{is_ascii_digit, is_ascii_lowercase, is_ascii_uppercase}, List.list_all, Prelude.{ℕ, ◌+◌, Bool, ◌==◌, ◌||◌, ◌&&◌, List}}
 use Rattle.std.specs.Prelude.{length, take, drop, position, nat_lt, nat_le, Option, Some, None, option_map, option_and_then, if◌then◌else◌}
+use Rattle.club_http.specs.Exchange.{one_more}
+use Rattle.desk_server.specs.declared.connections.Arrival.{Arrival, TheVariants.{Client, Command, Nobody}}
+
+-- The count of failed waits after one more wait. The count grows by one if the last wait failed.
+abbrev pub failures_after : {C O : Type 0} → ℕ → Arrival C O → ℕ
+failures_after failures (Client client) = failures
+failures_after failures (Command command) = failures
+failures_after failures Nobody = one_more failures
 
 -- The bytes of the given word. The bytes are `None` if the word is missing.
 abbrev pub word_bytes : Option (Bor (List ℕ)) → Option (List ℕ)

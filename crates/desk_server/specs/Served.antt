@@ -4,7 +4,7 @@ use Rattle.std.specs.{Io.KnownBytes.Appends, Prelude.{◌≡◌, ℕ, suc, ◌+�
 use Rattle.std.specs.{Prelude.MatchResult, String.string_bytes}
 use Rattle.club_clock.specs.Moments.{GivesMoment}
 use Rattle.club_core.specs.declared.reply.Reply.{Reply}
-use Rattle.club_http.specs.{Ends.one_more, Exchange.Exchanges, Replied.{AnswerRelation, IsReplied}, declared.fault.AnswerFault.AnswerFault}
+use Rattle.club_http.specs.{Exchange.{one_more, Exchanges, AnswerRelation, IsReplied}, declared.fault.AnswerFault.AnswerFault}
 use Rattle.desk_server.specs.declared.{log.LogEvent.{LogEvent, TheVariants.{Absent, Overrun, Unanswered, Exchanged, Commanded}}, office.Answer.Answer}
 use Rattle.desk_server.specs.declared.{office.Carried.Carried, serve.ClockOutOfRange.ClockOutOfRange}
 

@@ -1,11 +1,11 @@
 //! Carries out commands of the office, even while the server waits for a client's request.
 
 ghost use Rattle.std.specs.Prelude.{◌≡◌, IfNone, IfSome};
-ghost use Rattle.http_request.specs.HeadResult.{Covers};
-ghost use Rattle.club_http.specs.{Calls.ReadsNoFurther, Ends.read_failures};
-ghost use Rattle.club_http.specs.Received.{IsCutOff, Receives};
+ghost use Rattle.club_http.specs.{Calls.ReadsNoFurther, Exchange.{read_failures, IsCutOff}};
+ghost use Rattle.club_http.specs.Exchange.{Receives};
 ghost use Rattle.desk_server.specs.{Between.{Awaits, CommandsAlone}, Served.Meanwhile};
 ghost use Rattle.desk_server.specs.Server.{IsCommanded};
+ghost use Rattle.http_request.specs.Frame.{Covers};
 
 use crate::log::{Log, LogEvent};
 use crate::office::{Carried, Office};

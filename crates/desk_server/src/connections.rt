@@ -148,7 +148,7 @@ pub trait Arrivals {
     type Command: Handover + Drop;
 
     ghost use Rattle.std.specs.Prelude.{◌≡◌, ℕ};
-    ghost use Rattle.desk_server.specs.{Arrival.failures_after, Served.CountsOn};
+    ghost use Rattle.desk_server.specs.{RequestLine.failures_after, Served.CountsOn};
 
     // The number of calls of `next`.
     ghost waited: { Self → ℕ };

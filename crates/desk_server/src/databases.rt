@@ -13,7 +13,7 @@ pub trait Door {
 /// A server that the office has reached through the server's door. The server has sent its
 /// greeting.
 pub trait Visit {
-    ghost use Rattle.desk_server.specs.Databases.{Giving, in_bytes};
+    ghost use Rattle.desk_server.specs.Server.{Giving, in_bytes};
 
     // The possible results of sending the bytes of a command to the server.
     ghost gives: { Giving Self };
@@ -41,7 +41,7 @@ pub trait Databases {
 
     type Visit: Visit + Drop;
 
-    ghost use Rattle.desk_server.specs.Databases.{Closing, Opening, Reaching};
+    ghost use Rattle.desk_server.specs.Server.{Closing, Opening, Reaching};
 
     // The possible results of opening a database by name, with the state of all databases before
     // and after the call.

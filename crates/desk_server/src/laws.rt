@@ -1,6 +1,6 @@
 //! A law about the lines of a log.
 
-ghost use Rattle.desk_server.specs.Laws.{WritesLines};
+ghost use Rattle.desk_server.specs.Log.{WritesLines};
 
 use crate::log::{Log, LogLines};
 use club_http::Outlet;

@@ -1,7 +1,7 @@
 //! A connection with time limits.
 
 ghost use Rattle.std.specs.{Io.KnownBytes.Keeps, Prelude.{◌≡◌, length, MatchResult, None}};
-ghost use Rattle.club_http.specs.Ends.{Fills, Takes};
+ghost use Rattle.club_http.specs.Exchange.{Fills, Takes};
 ghost use Rattle.desk_server.specs.Limits.{EndsUnder, moved};
 
 use crate::limit::{Limit, MonotonicClock};
@@ -28,9 +28,9 @@ pub enum Waited {
 /// a read returns the bytes that have already arrived. With a time limit of zero, a write takes as
 /// many bytes as the stream has room for.
 pub trait TimedStream {
-    ghost use Rattle.std.specs.{Duration.as_nanos, Io.KnownBytes.Keeps};
-    ghost use Rattle.std.specs.Prelude.{◌≤◌, ℕ, List, length, Option, IfSome};
-    ghost use Rattle.club_http.specs.Ends.{Fills, Takes};
+    ghost use Rattle.std.specs.{Duration.as_nanos, Io.KnownBytes.Keeps, Prelude.{◌≤◌, ℕ, List}};
+    ghost use Rattle.std.specs.Prelude.{length, Option, IfSome};
+    ghost use Rattle.club_http.specs.Exchange.{Fills, Takes};
     ghost use Rattle.desk_server.specs.Limits.{Calls, moved};
 
     // The bytes that the stream will still return, if they are known.

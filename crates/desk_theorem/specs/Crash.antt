@@ -1,15 +1,15 @@
 -- Defines the club of a store that is reopened after a crash.
-use Rattle.std.specs.Prelude.{◌≡◌, ◌⊎◌, List, [], ◌∷◌, All, Contains, IsTrue}
 use Rattle.sqlite_disk.specs.declared.Disk as disk
+use Rattle.sqlite.specs.FileStore as file
+use Rattle.club_core.specs.Run as machine
+use Rattle.std.specs.Prelude.{◌≡◌, ◌⊎◌, List, [], ◌∷◌, All, Contains, IsTrue}
+use Rattle.club_core.specs.Club.{Club, IsSound}
+use Rattle.club_gate.specs.Runs.{IsWithinOneEvent, MayBeLeft, DeskResponse, club_left}
+use Rattle.club_laws.specs.RunsWithFailures.{RepeatsServedReplies}
+use Rattle.club_store.specs.Opening.{CrashLeaves, IsOpenedOn, LeavesOneOf, RepresentsOne, OpensFrom}
+use Rattle.club_tables.specs.{ReadsAndChanges.sound_in, Tables.Represents}
 use Rattle.sqlite.specs.{Files.{file_state, over_files, IsOpened}, Held.Held, Recovery.Image, Start.FindsIn, State.State, Store.Ghosts, View.IsClean}
 use Rattle.sqlite.specs.declared.FileStore.{FileStore}
-use Rattle.sqlite.specs.FileStore as file
-use Rattle.club_core.specs.Club.{Club, IsSound}
-use Rattle.club_core.specs.Run as machine
-use Rattle.club_laws.specs.RunsWithFailures.{RepeatsServedReplies}
-use Rattle.club_store.specs.{Crash.{CrashLeaves, IsOpenedOn, LeavesOneOf, RepresentsOne}, Opening.OpensFrom}
-use Rattle.club_tables.specs.{ReadsAndChanges.sound_in, Tables.Represents}
-use Rattle.club_gate.specs.Runs.{IsWithinOneEvent, MayBeLeft, DeskResponse, club_left}
 
 -- The state represents exactly one of these clubs, and no later crash changes the club. In this
 -- club, an accepted repeat of a served request gets the first reply and changes nothing.

@@ -1,12 +1,11 @@
 -- Defines how a desk over a new database in memory handles a list of events and a later request.
-use Rattle.std.specs.Prelude.{ℕ, List, []}
-use Rattle.sqlite.specs.{Held.{Held, state}, Steps.over_memory, declared.MemStore.MemStore}
-use Rattle.club_core.specs.{Club.empty_club, declared.{reply.Reply.Reply, request.Request.Request}}
 use Rattle.club_core.specs.Run as machine
-use Rattle.club_tables.specs.Tables.{Represents}
+use Rattle.std.specs.Prelude.{ℕ, List, []}
+use Rattle.club_core.specs.{Club.empty_club, declared.{reply.Reply.Reply, request.Request.Request}}
+use Rattle.club_gate.specs.{Desk.FailsForCause, Runs.{AreEventsOf, AreHandled, club_left, responses_of}, declared.event.{Event.Event, EventReply.EventReply}}
 use Rattle.club_store.specs.Failing.{over_connection}
-use Rattle.club_gate.specs.{Desk.FailsForCause, Events.AreEventsOf, Runs.{AreHandled, club_left, responses_of}, declared.event.Event.Event}
-use Rattle.club_gate.specs.declared.event.EventReply.{EventReply}
+use Rattle.club_tables.specs.Tables.{Represents}
+use Rattle.sqlite.specs.{Held.{Held, state}, Steps.over_memory, declared.MemStore.MemStore}
 
 -- A connection to a database in memory.
 abbrev pub InMemory : Type 0

@@ -1,15 +1,15 @@
 //! Laws about crashes of a desk that stores the club in a file.
 
 ghost use Rattle.std.specs.Prelude.{List, All, IfOk};
-ghost use Rattle.sqlite.specs.FileStore as file;
-ghost use Rattle.sqlite.specs.{Files.over_files, View.IsClean};
 ghost use Rattle.club_core.specs.Club.{Club};
-ghost use Rattle.club_core.specs.Run as machine;
+ghost use Rattle.club_gate.specs.Runs.{AreEventsOf, IsAnsweredRun, DeskResponse, LeavesClub};
+ghost use Rattle.club_gate.specs.Runs.{responses_of};
 ghost use Rattle.club_laws.specs.RunsWithFailures.{RepeatsServedReplies};
 ghost use Rattle.club_tables.specs.ReadsAndChanges.{sound_in};
-ghost use Rattle.club_gate.specs.Events.{AreEventsOf};
-ghost use Rattle.club_gate.specs.Runs.{IsAnsweredRun, DeskResponse, LeavesClub, responses_of};
 ghost use Rattle.desk_theorem.specs.Crash.{OpensAgain, SurvivesCrash, leaves_sound_in};
+ghost use Rattle.sqlite.specs.{Files.over_files, View.IsClean};
+ghost use Rattle.sqlite.specs.FileStore as file;
+ghost use Rattle.club_core.specs.Run as machine;
 
 use club_core::StoreFault;
 use club_gate::{Desk, Event, EventReply};

@@ -3,11 +3,11 @@
 
 ghost use Rattle.std.specs.Prelude.{IfErr, IfOk, List};
 ghost use Rattle.club_core.specs.Club.{empty_club};
-ghost use Rattle.club_core.specs.Run as machine;
-ghost use Rattle.club_gate.specs.{Events.AreEventsOf, Runs.{IsLawfulRun, club_left, responses_of}};
+ghost use Rattle.club_gate.specs.Runs.{AreEventsOf, IsLawfulRun, club_left, responses_of};
 ghost use Rattle.club_gate.specs.Served.{IsLawful, RefusesByFormFault};
 ghost use Rattle.club_store.specs.Opening.{IsMemoryFault};
 ghost use Rattle.desk_theorem.specs.FromNothing.{HandlesFromNothing, RepliesFromNothing};
+ghost use Rattle.club_core.specs.Run as machine;
 
 use club_core::{Reply, StoreFault};
 use club_gate::{Desk, Event, EventReply, Words};

@@ -2,17 +2,17 @@
 -- the place that a target names.
 use Rattle.http_request.specs.Words as words
 use Rattle.std.proofs.{Math.Seq.{take-append_seam, drop-append_seam}, lemmas.Slice.Eq.bytes_eq-Decides}
-use Rattle.club_rows.specs.{Limits.{IsBookingNumber, booking_number_limit}, Rows.IsSlot}
-use Rattle.club_values.specs.{Day.day_text, Digits.two_digits, Laws.{IsTextOfDay, ReadsDays, ReadsHours, ReadsNames, ReadsNumbers}}
+use Rattle.club_rows.specs.Rows.{IsBookingNumber, booking_number_limit, IsSlot}
+use Rattle.club_values.specs.{Laws.{IsTextOfDay, ReadsDays, ReadsHours, ReadsNames, ReadsNumbers}, Moment.day_text, Number.two_digits}
 use Rattle.club_values.specs.{computed.TextOf.{name_of_text, day_of_text, hour_of_text}, declared.slot.Slot.Slot}
 use Rattle.http_request.proofs.Common.{◌≡◌, ℕ, ◌<◌, ◌≤◌, inl, inr, List, [], ◌++◌, length, take, drop, sym, ap, ◌∙◌, arith, length-append, cases_order}
 use Rattle.http_request.proofs.Common.{take-append-le, take-append-drop, length-take-le, HeaderSpan, RequestHead, Head, IsHeadOf, IsPiece, AsksForBody}
 use Rattle.http_request.proofs.Common.{IsFramed, IsOneRequest, IsRefusedHead, HasNoPiece, IsHeadAt, ◌⊎◌, ◌-◌, ◌↔◌, append_assoc, length-drop, IsWhole}
 use Rattle.http_request.proofs.Common.{has_frame, endless, bad_head, IsHeadResultOf, OneReading, ReadsPlaces, WholeKeepsItsReading, Bool, true, cond, ◌∷◌}
 use Rattle.http_request.proofs.Common.{Option, Some, None, codes, refl, ◌&&◌, nat_le, IfSome, bytes_eq, cond-true, eqb-true, nat_tests, segments, account_at}
-use Rattle.http_request.{proofs.Common.{place_of, under_root, under_slots}, specs.{Path.{HasRealValues, IsPlace, place_parts}, computed.Parts.number_of_text}}
-use Rattle.http_request.specs.{computed.Parts.{slot_of_parts, within_limits, ◌>>=◌}, declared.head_result.HeadResult.{HeadResult, TheVariants.Refused}}
-use Rattle.http_request.specs.declared.{head_result.HeadResult.TheVariants.Asking, path.Place.Place}
+use Rattle.http_request.{proofs.Common.{place_of, under_root, under_slots}, specs.{Path.{HasRealValues, IsPlace, place_parts}, computed.Path.number_of_text}}
+use Rattle.http_request.specs.{computed.Path.{slot_of_parts, within_limits, ◌>>=◌}, declared.head_result.HeadResult.{HeadResult, TheVariants.{Refused, Asking}}}
+use Rattle.http_request.specs.declared.path.Place.{Place}
 use Rattle.httparse.proofs.GrammarLemmas.{request_unique}
 
 -- The bytes are a piece that ends with an empty line, followed by the rest of the bytes.

@@ -1,7 +1,7 @@
 -- This file proves that every place of the desk has a route. It has lemmas about the parts of a path
 -- between its slashes, and about matchit's search for the route of a path.
 use Rattle.std.{proofs.lemmas.{Fmt.decimal_nonempty, Grind.common_steps}, specs.{Cmp.Lexicographic.pointwise, Fmt.decimal}}
-use Rattle.club_values.specs.{Day.day_text, Digits.two_digits, declared.slot.Slot.Slot}
+use Rattle.club_values.specs.{Moment.day_text, Number.two_digits, declared.slot.Slot.Slot}
 use Rattle.http_request.proofs.Common.{Bor, List, None, Option, Some, [], ap, cond, eqb, false, refl, segments, sym, true, with_front, ℕ, ◌∙◌, ◌∷◌, ◌≡◌}
 use Rattle.http_request.proofs.Common.{account_at, at_slot, following_parts, is_some, zero, suc, ◌-◌, ◌<◌, ◌++◌, length, drop, ◌==◌, nat_eq, arith}
 use Rattle.http_request.{proofs.Common.{length-append, IsSome, and_right, append-nil, codes, subst, eqb-true, ReadsPlaces}, specs.Path.{HasRealValues, IsPlace}}

@@ -1,8 +1,8 @@
 -- This file defines the number of guests in the body of a request.
 use Rattle.std.specs.Prelude.{ℕ, ◌&&◌, Bool, true, false, List, codes, nat_le, if◌then◌else◌, Option, Some, None, option_and_then, option_map, unwrap_or}
 use Rattle.std.specs.Str.{bytes_eq, is_utf8}
+use Rattle.club_values.specs.Moment.{guests_limit}
 use Rattle.serde_json.specs.{Data.{Data, Members, no_members, member}, Find.{get, as_number, as_object, as_u64}, Read.read}
-use Rattle.club_values.specs.Slot.{guests_limit}
 
 -- Every member of the object has the given name.
 abbrev pub only_named : List ℕ → Members → Bool

@@ -1,8 +1,27 @@
--- This file defines a request as a head and a body (RFC 9112, section 6). The file also defines
--- when a request is complete.
-use Rattle.std.specs.{List.ends_with, Prelude.{◌≡◌, ℕ, ◌≤◌, false, List, ◌++◌, length, take, map, nat_eq, Some}}
-use Rattle.httparse.specs.{Grammar.RequestHead, Spans.name_and_value}
-use Rattle.http_request.specs.{Head.{empty_line, IsPiece, IsHeadOf}, Length.asked_length, Limits.max_head_len}
+-- This file defines the head of a request, a request as a head and a body (RFC 9112, section 6),
+-- and when a request is complete. The file also defines the result of looking for a head at the
+-- start of the given bytes.
+use Rattle.std.specs.{List.ends_with, Prelude.{◌≡◌, ℕ, ◌<◌, ◌≤◌, true, false, List, [], length, take, nat_eq, codes, ◌++◌, map, Some}}
+use Rattle.http_request.specs.{Length.{max_fields, max_head_len, asked_length}, declared.head_result.{Head.Head, HeadResult.{HeadResult, TheVariants.NoPiece}}}
+use Rattle.http_request.specs.declared.{head_result.HeadResult.TheVariants.{Refused, Asking}, scan.HeadScan.HeadScan}
+use Rattle.httparse.specs.{Grammar.{RequestHead, ReadsRequest}, Spans.{name_and_value, IsRequestWithin, IsRequestAt}, declared.spans.HeaderSpan.HeaderSpan}
+
+-- The end of the last line of a head, and an empty line.
+abbrev pub empty_line : List ℕ
+empty_line = codes "\r\n\r\n"
+
+-- The piece ends with an empty line, but no shorter prefix of the piece ends with an empty line.
+-- The piece isn't longer than the limit for a head.
+pub record IsPiece (piece : List ℕ) : Type 0 where
+  pub ends : ends_with nat_eq piece empty_line ≡ true
+  pub shortest : (n : ℕ) → n < length piece → ends_with nat_eq (take n piece) empty_line ≡ false
+  pub short : length piece ≤ max_head_len
+
+-- The piece is exactly the head of a request, as httparse parses it (RFC 9112). The head has at
+-- most `max_fields` fields.
+pub record IsHeadOf (piece : List ℕ) (head : RequestHead) : Type 0 where
+  pub reads : ReadsRequest piece head []
+  pub few : length head.fields ≤ max_fields
 
 -- The names and the values of a head's fields.
 abbrev pub header_fields : RequestHead → List (List ℕ × List ℕ)
@@ -50,3 +69,24 @@ pub record IsOneRequest (bytes : List ℕ) : Type 0 where
   pub cut : IsPiece piece
   pub parts : bytes ≡ piece ++ body
   pub asks : AsksForBody piece head (length body)
+
+-- The bytes begin with a head. `fields` and `found.spans` are the positions of the head's parts.
+pub record IsHeadAt (bytes : List ℕ) (fields : List HeaderSpan) (found : Head) : Type 0 where
+  pub head : RequestHead
+  pub inside : found.len ≤ length bytes
+  pub cut : IsPiece (take found.len bytes)
+  pub asks : AsksForBody (take found.len bytes) head found.body_len
+  pub within : IsRequestWithin (take found.len bytes) fields found.spans
+  pub spans : IsRequestAt (take found.len bytes) fields found.spans head
+
+-- The result of looking for a head at the start of the bytes. Either no head ends within the first
+-- `max_head_len` bytes, or the desk refuses the head, or the head announces a body of a known
+-- length.
+abbrev pub IsHeadResultOf : List ℕ → List HeaderSpan → HeadResult → Type 0
+IsHeadResultOf bytes fields NoPiece = HasNoPiece bytes
+IsHeadResultOf bytes fields Refused = IsRefusedHead bytes
+IsHeadResultOf bytes fields (Asking found) = IsHeadAt bytes fields found
+
+-- The scan has the result of looking for a head at the start of the bytes.
+abbrev pub Covers : HeadScan → List ℕ → Type 0
+Covers scan bytes = IsHeadResultOf bytes scan.fields scan.front

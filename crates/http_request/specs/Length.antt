@@ -1,7 +1,24 @@
--- This file defines the length of a request's body (RFC 9112, section 6.2).
-use Rattle.std.specs.{Prelude.{ℕ, ◌==◌, ◌||◌, List, [], ◌∷◌, length, nat_le, codes, if◌then◌else◌, Option, Some, None, option_and_then}, Str.bytes_eq}
+-- This file defines the limits of a request, and the length of a request's body (RFC 9112, section
+-- 6.2).
+use Rattle.std.specs.{Prelude.{ℕ, ◌+◌, ◌==◌, ◌||◌, List, [], ◌∷◌, length, nat_le, codes, if◌then◌else◌, Option, Some, None, option_and_then}, Str.bytes_eq}
 use Rattle.club_values.specs.Number.{number_of_digits}
-use Rattle.http_request.specs.{Fields.values_of, Limits.max_body_len}
+use Rattle.http_request.specs.Fields.{values_of}
+
+-- The maximum number of bytes in a head.
+abbrev pub max_head_len : ℕ
+max_head_len = 16_384
+
+-- The maximum number of fields in a head.
+abbrev pub max_fields : ℕ
+max_fields = 32
+
+-- The maximum number of bytes in a body.
+abbrev pub max_body_len : ℕ
+max_body_len = 256
+
+-- The maximum number of bytes in a request.
+abbrev pub max_request_len : ℕ
+max_request_len = max_head_len + max_body_len
 
 -- The given length of a body, or `None` if the length is over the limit for a body.
 abbrev pub body_length : ℕ → Option ℕ

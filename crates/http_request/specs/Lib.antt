@@ -1,15 +1,10 @@
-pub mod Limits
-pub mod Head
-pub mod Fields
 pub mod Length
 pub mod Frame
-pub mod HeadResult
+pub mod Fields
 pub mod Body
 pub mod Pass
-pub mod Refused
-pub mod Parts
+pub mod Routes
 pub mod Path
 pub mod Words
 pub mod Laws
-pub mod Routes
 pub mod computed

@@ -1,10 +1,9 @@
 //! The body of a request.
 
-ghost use Rattle.std.specs.{BTreeMap.keys, List.list_all};
-ghost use Rattle.std.specs.Prelude.{◌≡◌, ◌<◌, length, Some, codes, MatchResult, IfOk, IfErr};
-ghost use Rattle.std.specs.{Str.bytes_eq, String.string_bytes};
+ghost use Rattle.std.specs.{BTreeMap.keys, List.list_all, Prelude.{◌≡◌, ◌<◌, length, Some, codes}};
+ghost use Rattle.std.specs.{Prelude.{MatchResult, IfOk, IfErr}, Str.bytes_eq, String.string_bytes};
+ghost use Rattle.http_request.specs.Routes.{Refuses};
 ghost use Rattle.serde_json.specs.{Find.get, View.view};
-ghost use Rattle.http_request.specs.Refused.{Refuses};
 ghost use Rattle.http_request.specs.Body as spec;
 
 use club_core::Refusal;

@@ -1,8 +1,8 @@
 //! The head of a request.
 
 ghost use Rattle.std.specs.Prelude.{◌≤◌, length, take, MatchOption};
+ghost use Rattle.http_request.specs.Frame.{HasNoPiece, IsPiece, IsHeadOf};
 ghost use Rattle.httparse.specs.{Grammar.RequestHead, Spans.{IsRequestWithin, IsRequestAt}};
-ghost use Rattle.http_request.specs.{Frame.HasNoPiece, Head.{IsPiece, IsHeadOf}};
 
 use httparse::Status;
 use httparse::spans::{HeaderSpan, RequestSpans, parse_request};

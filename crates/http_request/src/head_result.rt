@@ -1,7 +1,7 @@
 //! Looks for a head at the start of the given bytes.
 
 ghost use Rattle.std.specs.Prelude.{◌≡◌, ◌≤◌, length, map, take, All};
-ghost use Rattle.http_request.specs.{Frame.HasNoPiece, HeadResult.IsHeadResultOf};
+ghost use Rattle.http_request.specs.Frame.{HasNoPiece, IsHeadResultOf};
 
 use crate::head::{MAX_FIELDS, piece_len, read_head};
 use crate::length::asked_length;

@@ -1,8 +1,8 @@
 //! The paths of the desk.
 
 ghost use Rattle.std.specs.Prelude.{◌≡◌, ◌∷◌, [], MatchOption};
-ghost use Rattle.http_request.specs.Parts.{segments, BeginsWith, following_parts};
-ghost use Rattle.http_request.specs.computed.Parts.{number_of_text, slot_of_parts};
+ghost use Rattle.http_request.specs.Path.{segments, BeginsWith, following_parts};
+ghost use Rattle.http_request.specs.computed.Path.{number_of_text, slot_of_parts};
 ghost use Rattle.http_request.specs.computed.Path as spec;
 
 use club_rows::BookingNumber;
@@ -31,14 +31,14 @@ fn next_part(path: &[u8]) -> (&[u8], Option<&[u8]>)
 }
 
 /// Parses a booking number: decimal digits without leading zeros.
-#[tactic(auto, unfolding(crate::specs::computed::Parts::number_of_text))]
+#[tactic(auto, unfolding(crate::specs::computed::Path::number_of_text))]
 fn read_booking_number(text: &[u8]) -> Option<BookingNumber>
     ensures { result ≡ number_of_text text.now }
 {
     BookingNumber::new(read_number(text)?)
 }
 
-#[tactic(auto, unfolding(crate::specs::computed::Parts::slot_of_parts))]
+#[tactic(auto, unfolding(crate::specs::computed::Path::slot_of_parts))]
 fn read_slot(facility: &[u8], day: &[u8], hour: &[u8]) -> Option<Slot>
     ensures { result ≡ slot_of_parts facility.now day.now hour.now }
 {

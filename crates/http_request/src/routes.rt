@@ -2,12 +2,12 @@
 
 ghost use Rattle.std.specs.Prelude.{◌≡◌, length, map, All, codes, IfOk, MatchResult, Some, Ok};
 ghost use Rattle.std.specs.Str.{IsUtf8};
-ghost use Rattle.matchit.specs.{Route.parse_route, Router.InsertsRead};
-ghost use Rattle.http_request.specs.computed.Path as path;
-ghost use Rattle.http_request.specs.{HeadResult.Covers, Refused.Refuses, Routes.KnowsPlaces};
+ghost use Rattle.http_request.specs.{Frame.Covers, Routes.{Refuses, KnowsPlaces}};
 ghost use Rattle.http_request.specs.Words.{guests_by_method, decoded_request, IsRequestReading};
 ghost use Rattle.http_request.specs.Words.{NeedsMemory, HoldsBody, OrUnavailable};
 ghost use Rattle.httparse.specs.Spans.{IsHeaderWithin, header_bytes};
+ghost use Rattle.matchit.specs.{Route.parse_route, Router.InsertsRead};
+ghost use Rattle.http_request.specs.computed.Path as path;
 
 use crate::body::guests_in;
 use crate::head_result::HeadResult;

@@ -1,8 +1,7 @@
 //! Looks for the head of a request while the bytes of the request arrive.
 
 ghost use Rattle.std.specs.{Bool.OnFalse, Prelude.{◌<◌, ◌≤◌, ◌↔◌, [], length, take, IsTrue}};
-ghost use Rattle.http_request.specs.{Frame.{IsOneRequest, IsWhole}, HeadResult.Covers};
-ghost use Rattle.http_request.specs.Limits.{max_request_len};
+ghost use Rattle.http_request.specs.{Frame.{IsOneRequest, IsWhole, Covers}, Length.max_request_len};
 
 use crate::head::{MAX_FIELDS, MAX_HEAD_LEN};
 use crate::head_result::{HeadResult, head_result_of};

@@ -1,9 +1,13 @@
--- This file defines the bodies of replies. A body is a JSON object (RFC 8259) whose members have a
--- fixed order.
+-- This file defines the limits and the bodies of replies. A body is a JSON object (RFC 8259) whose
+-- members have a fixed order.
 use Rattle.std.specs.{Fmt.decimal, List.join_by, Prelude.{ℕ, Bool, true, false, List, [], ◌∷◌, ◌++◌, codes, Option, Some, None}}
-use Rattle.club_values.specs.{Day.day_text, Kind.kind_text}
-use Rattle.club_core.specs.{Refusal.{details_of, caveat_of_refusal}, declared.reply.Reply.Reply}
-use Rattle.club_core.specs.declared.reply.Reply.TheVariants.{SlotShown, Booked, Cancelled, AccountShown, Refused}
+use Rattle.club_core.specs.{Refusal.{details_of, caveat_of_refusal}, declared.reply.Reply.{Reply, TheVariants.{SlotShown, Booked, Cancelled, AccountShown}}}
+use Rattle.club_core.specs.declared.reply.Reply.TheVariants.{Refused}
+use Rattle.club_values.specs.{Kind.kind_text, Moment.day_text}
+
+-- The maximum number of bytes in a `Line`.
+abbrev pub max_line_len : ℕ
+max_line_len = 256
 
 -- The value of a member: a text that needs no escapes, a number, or a truth value.
 pub data Value : Type 0 where

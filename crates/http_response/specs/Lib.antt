@@ -1,4 +1,2 @@
-pub mod Limits
 pub mod Body
-pub mod Status
 pub mod Text

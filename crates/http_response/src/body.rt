@@ -3,8 +3,8 @@
 ghost use Rattle.std.specs.Prelude.{◌≡◌, ◌≤◌, ◌+◌, ◌++◌, length, codes};
 ghost use Rattle.club_core.specs.declared.reply.Reply.TheVariants.{SlotShown, Booked, Cancelled};
 ghost use Rattle.club_core.specs.declared.reply.Reply.TheVariants.{AccountShown, Refused};
+ghost use Rattle.http_response.specs.Body.{max_line_len};
 ghost use Rattle.http_response.specs.Body as spec;
-ghost use Rattle.http_response.specs.Limits.{max_line_len};
 
 use crate::line::Line;
 use club_core::{Refusal, Reply};

@@ -1,7 +1,7 @@
 //! Writes the head of a reply.
 
 ghost use Rattle.std.specs.Prelude.{◌≡◌, ◌≤◌, ◌+◌, ◌++◌, length};
-ghost use Rattle.http_response.specs.{Limits.max_line_len, Status.status_of as number_of};
+ghost use Rattle.http_response.specs.{Body.max_line_len, Text.status_of as number_of};
 ghost use Rattle.http_response.specs.Text as spec;
 
 use crate::line::Line;

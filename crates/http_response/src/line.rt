@@ -17,7 +17,7 @@ pub struct Line {
 
 impl Model for Line {
     ghost use Rattle.std.specs.Prelude.{ℕ, ◌≤◌, List, take};
-    ghost use Rattle.http_response.specs.Limits.{max_line_len};
+    ghost use Rattle.http_response.specs.Body.{max_line_len};
 
     ghost Value = { List ℕ };
 
@@ -28,7 +28,7 @@ impl Model for Line {
 
 impl Line {
     ghost use Rattle.std.specs.{Fmt.decimal, Prelude.{◌≡◌, ◌≤◌, ◌+◌, ◌++◌, [], length}};
-    ghost use Rattle.http_response.specs.Limits.{max_line_len};
+    ghost use Rattle.http_response.specs.Body.{max_line_len};
 
     /// Returns an empty text.
     pub fn new() -> Line

@@ -1,7 +1,7 @@
 //! The HTTP statuses of replies, and the methods of the resource that a path names.
 
 ghost use Rattle.std.specs.Prelude.{◌≡◌, ◌≤◌, length};
-ghost use Rattle.http_response.specs.Status as spec;
+ghost use Rattle.http_response.specs.Text as spec;
 
 use club_core::{Refusal, Reply, Resource};
 

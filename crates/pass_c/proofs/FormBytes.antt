@@ -4,7 +4,7 @@ use Rattle.std.proofs.{Common.{◌∙◌, ap, arith, is_eq, bytes_eq}, lemmas.{B
 use Rattle.std.{proofs.lemmas.Slice.Eq.bytes_eq-Decides, specs.List.{flat_map, sum_by}}
 use Rattle.base64.{proofs.RoundTrip.length-encode_symbols, specs.{Engines.{url_safe_no_pad, url_safe, standard_no_pad, standard}, GeneralPurpose.encode_of}}
 use Rattle.base64.specs.{Rfc4648.{encode_symbols, padding_len}, declared.engine.general_purpose.GeneralPurpose.GeneralPurpose}
-use Rattle.pass_c.{proofs.JsonBytes.{data_bytes, items_bytes, read_fits, Apart, bytes_at, found_bytes, one_value, three_values}, specs.Laws.fields_len}
+use Rattle.pass_c.{proofs.JsonBytes.{data_bytes, items_bytes, read_fits, Apart, bytes_at, found_bytes, one_value, three_values}, specs.Object.fields_len}
 use Rattle.pass_forms.specs.{Envelope.IsBase64, Pass.{Plain, as_wide_pass, widened_caveat}, V1.{SpellsV1, caveat_packets}, V2.{SpellsV2, caveat_section}}
 use Rattle.pass_json.specs.Json.{AreCaveats, IsCaveatList, IsCaveatObject, IsField, SpellsJson}
 use Rattle.serde_json.specs.{Data.{Data, Items, no_items, item}, Find.get}

@@ -1,11 +1,11 @@
 -- Defines the ask that an object of plain numbers represents. An ask has those values of a request
 -- that caveats test.
 use Rattle.std.specs.{Int.is_in_range, Prelude.{◌≡◌, ℕ, ◌==◌, if◌then◌else◌, take, List, Option, None, Some, ◌≤◌, MatchOption, option_and_then, option_map}}
-use Rattle.club_values.specs.{Day.{first_day, last_day}, Moment.{first_moment, last_moment}, Name.{IsName, max_name_len}, Reading.Reads}
-use Rattle.club_values.specs.declared.{action.Action.{Action, TheVariants.{View, Book, Cancel, Account}}, kind.Kind.{Kind, TheVariants.{Court, Boat, Room}}}
+use Rattle.club_values.specs.{Moment.{first_day, last_day, first_moment, last_moment}, Name.{IsName, max_name_len}, Number.Reads, declared.action.Action.Action}
+use Rattle.club_values.specs.declared.{action.Action.TheVariants.{View, Book, Cancel, Account}, kind.Kind.{Kind, TheVariants.{Court, Boat, Room}}}
 use Rattle.club_values.specs.declared.slot.Slot.{Slot}
-use Rattle.pass_caveats.specs.{Fault.IsFirstFault, declared.{ask.Ask.Ask, fault.CaveatFault.{CaveatFault, TheVariants.{NotUnderstood, Denied}}}}
 use Rattle.pass_c.specs.{Code.{ok_code, bad_ask_code, not_understood_code, denied_code}, declared.ask.AskObject.AskObject}
+use Rattle.pass_caveats.specs.{Fault.IsFirstFault, declared.{ask.Ask.Ask, fault.CaveatFault.{CaveatFault, TheVariants.{NotUnderstood, Denied}}}}
 
 -- The action with this number, or `None` if no action has this number.
 abbrev pub action_of : ℕ → Option Action

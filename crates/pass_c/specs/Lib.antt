@@ -1,5 +1,4 @@
 pub mod Ask
 pub mod Code
-pub mod Laws
 pub mod Object
 pub mod Output

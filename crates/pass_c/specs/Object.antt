@@ -1,7 +1,8 @@
--- Defines the pass that an object of plain data represents.
-use Rattle.std.specs.Prelude.{◌≡◌, ℕ, ◌+◌, nat_le, if◌then◌else◌, List, [], ◌∷◌, ◌++◌, take, drop, sum, Result, Ok, Err}
-use Rattle.pass_forms.specs.{FieldSource.no_fields, Pass.Plain, declared.{fault.FormFault.FormFault, form.Form.Form}}
+-- Defines the pass that an object of plain data represents, and a law about it.
+use Rattle.std.specs.{List.sum_by, Prelude.{◌≡◌, ℕ, ◌+◌, nat_le, if◌then◌else◌, List, [], ◌∷◌, ◌++◌, take, drop, sum, Result, Ok, Err, ◌≤◌, length}}
 use Rattle.pass_c.specs.{Code.{form_with_number, memory_code, no_form_number, ok_code}, declared.object.PassObject.PassObject}
+use Rattle.pass_forms.specs.{FieldSource.no_fields, Pass.Plain, declared.{fault.FormFault.FormFault, form.Form.Form}}
+use Rattle.pass_json.specs.AnyForm.{IsAnyReading}
 
 -- Splits the bytes into pieces with these lengths, from left to right.
 abbrev pub pieces_of : List ℕ → List ℕ → List (List ℕ)
@@ -47,3 +48,11 @@ pub record IsEmpty (object : PassObject) : Type 0 where
 -- The pass with one more caveat and with an unchanged signature.
 abbrev pub with_one_more : List ℕ → Plain → Plain
 with_one_more caveat pass = record pass { caveats = pass.caveats ++ caveat ∷ [] }
+
+-- The number of bytes that the fields of a pass need in an object.
+abbrev pub fields_len : Plain → ℕ
+fields_len pass = length pass.location + length pass.identifier + sum_by length pass.caveats
+
+-- An object has room for every pass that a text encodes in any form.
+abbrev pub ReadablePassesFit : Type 0
+ReadablePassesFit = (text : List ℕ) (form : Form) (pass : Plain) → IsAnyReading text (Ok (form, pass)) → fields_len pass ≤ room

@@ -1,8 +1,8 @@
 //! An ask as an object of plain numbers. An ask has those values of a request that caveats test.
 
 ghost use Rattle.std.specs.Prelude.{◌≡◌};
+ghost use Rattle.club_values.specs.Moment.{first_day, last_day, first_moment, last_moment};
 ghost use Rattle.pass_c.specs.Ask as spec;
-ghost use Rattle.club_values.specs.{Day.{first_day, last_day}, Moment.{first_moment, last_moment}};
 
 use pass_caveats::{Action, Ask, Day, Hour, Kind, MAX_NAME_LEN, Moment, Name, Slot};
 

@@ -1,7 +1,7 @@
 //! The numbers of forms and faults in C.
 
 ghost use Rattle.std.specs.Prelude.{◌≡◌};
-ghost use Rattle.club_values.specs.Reading.{Reads};
+ghost use Rattle.club_values.specs.Number.{Reads};
 ghost use Rattle.pass_c.specs.Ask.{verdict_code, verdict_number};
 ghost use Rattle.pass_c.specs.Code as spec;
 

@@ -3,18 +3,17 @@
 
 ghost use Rattle.std.specs.Prelude.{◌≡◌, ◌≢◌, ◌↔◌, ◌+◌, ◌<◌, ◌≤◌, ◌⊎◌, ℕ, List, Err, IfOk, IsTrue};
 ghost use Rattle.std.specs.Prelude.{MatchOption, length, slice_get};
-ghost use Rattle.pass_caveats.specs.{Caveat.Understood, Fault.IsFirstFault};
-ghost use Rattle.pass_caveats.specs.declared.caveat.Caveat.{Caveat};
-ghost use Rattle.pass_forms.specs.Pass.{IsSigned, minted_pass};
-ghost use Rattle.pass_forms.specs.{Reading.{UnlessMemory, max_caveats}, Writing.with_caveat};
-ghost use Rattle.pass_forms.specs.computed.Pass.{is_signed};
-ghost use Rattle.pass_forms.specs.declared.fault.FormFault.TheVariants.{Memory, TooMany};
-ghost use Rattle.pass_forms.specs.declared.form.Form.TheVariants.{V2};
-ghost use Rattle.pass_json.specs.{AnyForm.{IsAnyReading, MayRunOut}, computed.AnyForm.reading};
 ghost use Rattle.pass_c.specs.{Ask.Answers, Code.{code_of, memory_code, no_caveat_code}};
 ghost use Rattle.pass_c.specs.Code.{number_of_form, ok_code, result_of, too_many_code};
 ghost use Rattle.pass_c.specs.Object.{IsEmpty, filled, form_in, held, room, room_code, taken};
 ghost use Rattle.pass_c.specs.Output.{IsCopied, IsLeft, IsTextCopied, WritesForm};
+ghost use Rattle.pass_caveats.specs.{Caveat.Understood, Fault.IsFirstFault};
+ghost use Rattle.pass_caveats.specs.declared.caveat.Caveat.{Caveat};
+ghost use Rattle.pass_forms.specs.declared.fault.FormFault.TheVariants.{Memory, TooMany};
+ghost use Rattle.pass_forms.specs.{Reading.{UnlessMemory, max_caveats}, computed.Reading.is_signed};
+ghost use Rattle.pass_forms.specs.{Pass.{IsSigned, minted_pass}, declared.form.Form.TheVariants.V2};
+ghost use Rattle.pass_forms.specs.Writing.{with_caveat};
+ghost use Rattle.pass_json.specs.{AnyForm.{IsAnyReading, MayRunOut}, computed.AnyForm.reading};
 
 use crate::ask::AskObject;
 use crate::code::{

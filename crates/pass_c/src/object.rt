@@ -35,18 +35,18 @@ impl PassObject {
     ghost use Rattle.std.specs.Prelude.{IfErr, IfOk, IsTrue, IsFalse, MatchResult, Ok, OnErr, OnOk};
     ghost use Rattle.std.specs.Prelude.{drop, length, map, option_map, slice_get, sum, take};
     ghost use Rattle.std.specs.String.{string_bytes};
+    ghost use Rattle.pass_c.specs.Object.{IsEmpty, filled, form_in, held, room, taken};
+    ghost use Rattle.pass_c.specs.Object.{with_one_more};
     ghost use Rattle.pass_caveats.specs.Fault.{IsFirstFault};
     ghost use Rattle.pass_forms.specs.{FieldSource.no_fields, Pass.{IsSigned, Plain, minted_pass}};
     ghost use Rattle.pass_forms.specs.Reading.{UnlessMemory, max_caveats};
     ghost use Rattle.pass_forms.specs.Writing.{IsNarrowingFault, IsWritableText, with_caveat};
-    ghost use Rattle.pass_forms.specs.computed.Pass.{is_signed};
+    ghost use Rattle.pass_forms.specs.computed.Reading.{is_signed};
     ghost use Rattle.pass_forms.specs.declared.fault.FormFault.TheVariants.{Memory, TooMany};
     ghost use Rattle.pass_forms.specs.declared.form.Form.TheVariants.{V2};
     ghost use Rattle.pass_json.specs.AnyForm.{IsAnyReading, IsRefusedIn, IsTextIn, MayRunOut};
     ghost use Rattle.pass_json.specs.computed.AnyForm.{reading, writing};
     ghost use Rattle.pass_c.specs.Code as code;
-    ghost use Rattle.pass_c.specs.Object.{IsEmpty, filled, form_in, held, room, taken};
-    ghost use Rattle.pass_c.specs.Object.{with_one_more};
 
     /// Returns the location, which is a hint about where the pass is valid.
     pub fn location(&self) -> &[u8]
@@ -239,7 +239,7 @@ impl PassObject {
     }
 
     /// Returns true if the pass is signed under this root.
-    #[tactic(auto, unfolding(pass_forms::specs::computed::Pass::is_signed))]
+    #[tactic(auto, unfolding(pass_forms::specs::computed::Reading::is_signed))]
     pub fn is_signed(&self, root: &[u8]) -> bool
         ensures signed { IsTrue result ↔ IsSigned root.now (held self.now) }
         ensures computed { result ≡ is_signed root.now (held self.now) }

@@ -1,15 +1,16 @@
 -- Lemmas for the proof that the functions in `specs/computed/CaveatOf.antt` agree with the
 -- definitions in `specs/`, and about kinds, earlier spending and the first fault.
-use Rattle.std.proofs.{Math.Seq.take-suc, lemmas.{Bool.{cases_Bool, false_from_ne_true, both_ways}, List.append_assoc, Option.cond_some}}
-use Rattle.club_values.specs.{Number.number_limit, Reading.Reads, declared.{action.Action.TheVariants.View, kind.Kind.{Kind as AKind, TheVariants.Court}}}
-use Rattle.pass_caveats.proofs.{ChoiceLemmas.{candidate-caveat_text, Decides-spells, Decides-permits, one_caveat}, Common.{◌≡◌, ◌↔◌, ℕ, ◌+◌, List, [], ◌∷◌}}
-use Rattle.pass_caveats.proofs.Common.{◌++◌, length, map, ◌⊎◌, Option, Some, None, inl, inr, refl, sym, ◌∙◌, arith, add-zero, option_or, All-head, All-tail}
-use Rattle.pass_caveats.proofs.Common.{All-push, All-nil, All-cons, append-nil, Caveat, Ask, Understood, permits, candidate, spells, caveat_of}
-use Rattle.pass_caveats.proofs.Common.{first_fault_from, first_fault_of, Allows, Allowed, AreUnderstoodAs, IsUnknown, Denies, IsFaultAt, IsFirstFault, false}
-use Rattle.pass_caveats.proofs.Common.{ap, Kind, ◌-◌, ◌≤◌, ◌==◌, ◌||◌, true, nat_le, All, IfSome, nat_tests, Spend, IsCaveat, Permits, common_steps, ◌<◌}
-use Rattle.pass_caveats.{proofs.Common.{get_or, take, drop, add-one, Vec, vec_items, take-append-drop, length-take-le, IsFirstAt}, specs.Kinds.IsBlindToKind}
-use Rattle.pass_caveats.specs.{Kinds.{at_kind, is_on_kind}, Spending.{HoldsWithin, IsWithin, LimitsNoMore, after_spending, slack_under}}
-use Rattle.pass_caveats.specs.declared.fault.CaveatFault.{CaveatFault, TheVariants.{NotUnderstood, Denied}}
+use Rattle.std.proofs.Common.{◌≡◌, ◌↔◌, ℕ, ◌+◌, List, [], ◌∷◌, ◌++◌, length, map, ◌⊎◌, Option, Some, None, inl, inr, refl, sym, ◌∙◌, arith, add-zero, false, ap}
+use Rattle.std.proofs.{Common.{◌-◌, ◌≤◌, ◌==◌, ◌||◌, true, nat_le, All, IfSome, ◌<◌, get_or, take, drop, add-one, Vec}, Math.Seq.take-suc}
+use Rattle.std.proofs.lemmas.{Bool.{cases_Bool, false_from_ne_true, both_ways, Decides.nat_tests}, Grind.common_steps, List.{append_assoc, append-nil}}
+use Rattle.std.proofs.lemmas.{List.{take-append-drop, length-take-le, Elements.{All-head, All-tail, All-push, All-nil, All-cons}}, Option.cond_some}
+use Rattle.std.specs.{Option.option_or, Vec.vec_items}
+use Rattle.club_values.specs.{Number.{number_limit, Reads}, declared.{action.Action.TheVariants.View, kind.Kind.{Kind as AKind, TheVariants.Court}}}
+use Rattle.pass_caveats.{proofs.ChoiceLemmas.{candidate-caveat_text, Decides-spells, Decides-permits, one_caveat}, specs.Caveat.{Understood, permits, IsCaveat}}
+use Rattle.pass_caveats.specs.{Caveat.Permits, Fault.{first_fault_from, first_fault_of, Allows, Allowed, AreUnderstoodAs, IsUnknown, Denies, IsFaultAt}}
+use Rattle.pass_caveats.specs.{Fault.{IsFirstFault, IsFirstAt, IsBlindToKind, at_kind, is_on_kind}, Spending.{HoldsWithin, IsWithin, LimitsNoMore}}
+use Rattle.pass_caveats.specs.{Spending.{after_spending, slack_under}, computed.CaveatOf.{candidate, spells, caveat_of}, declared.ask.Ask.Ask}
+use Rattle.pass_caveats.specs.declared.{caveat.Caveat.{Caveat, TheVariants.{Kind, Spend}}, fault.CaveatFault.{CaveatFault, TheVariants.{NotUnderstood, Denied}}}
 
 pub caveat_of-understood : (text : List ℕ) (caveat : Caveat) → Understood text caveat → caveat_of text ≡ Some caveat
 unfolding caveat_of

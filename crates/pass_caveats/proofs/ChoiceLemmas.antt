@@ -1,20 +1,21 @@
 -- Lemmas about the parts and words of comma-separated lists, and for the proofs that a text is
 -- understood as at most one caveat and that `permits` decides it.
-use Rattle.std.proofs.lemmas.{Bool.cond_both, Fmt.{decimal_is_IsNumeral, decimal_injective}, List.Splits.{slice_split_none, slice_split_at, length-slice_split}}
-use Rattle.std.{proofs.lemmas.List.Splits.join_with_byte-slice_split, specs.{Bool.MatchBool, Str.bytes_eq}}
+use Rattle.std.proofs.Common.{◌≡◌, ◌≢◌, ℕ, ◌+◌, ◌<◌, ◌≤◌, ◌↔◌, ◌-◌, Bool, true, false, cond, List, [], ◌∷◌, ◌++◌, length, get_or, take, drop, refl, ap, ◌∙◌}
+use Rattle.std.proofs.Common.{arith, IsTrue, All, Contains, ◌==◌, map, Option, Some, None, sym, Bor, ◌&&◌, ◌||◌, not, filter, is_some, codes, nat_lt, Decides}
+use Rattle.std.proofs.{Common.{IsSomeAnd, rules}, lemmas.Bool.{cond_both, Decides.{nat_tests, same_from_decides, Decides-like, Decides-and, Decides-ltb}}}
+use Rattle.std.proofs.lemmas.{Bool.Decides.{Decides-by_and, Decides-by_or}, Fmt.{decimal_is_IsNumeral, decimal_injective}, Grind.common_steps}
+use Rattle.std.proofs.lemmas.List.{take-append-drop, length-map, append-nil, Elements.{All-head, All-tail, All-nil, All-cons, at_from_Contains}}
+use Rattle.std.proofs.lemmas.{List.Splits.{slice_split_none, slice_split_at, length-slice_split, join_with_byte-slice_split}, Slice.Eq.bytes_eq-Decides}
+use Rattle.std.specs.{Bool.MatchBool, List.{HoldsAt, AllWithin, list_all, list_any}, Option.{option_copied, option_map_or}, Str.bytes_eq}
 use Rattle.club_values.proofs.DayLemmas.{day_text-spells, spells-day_text, day_text_injective, moment_text-spells, spells-moment_text, two_again}
-use Rattle.club_values.{proofs.{DayLemmas.{day_of-day_text, moment_of-moment_text}, TextLemmas.{Decides-leb, Decides-is_name}}, specs.Action.action_text}
-use Rattle.club_values.specs.{Day.{IsDay, day_text, SpellsDay}, Moment.SpellsMoment, Number.SpellsNumber, Reading.Reads, Weekday.weekdays}
+use Rattle.club_values.{proofs.{DayLemmas.{day_of-day_text, moment_of-moment_text}, TextLemmas.{Decides-leb, Decides-is_name}}, specs.Kind.action_text}
+use Rattle.club_values.specs.{Kind.weekdays, Moment.{IsDay, day_text, SpellsDay, SpellsMoment}, Name.IsName, Number.{SpellsNumber, Reads}}
 use Rattle.club_values.specs.{computed.TextOf.{day_of, is_name}, declared.{kind.Kind.{Kind as AKind, TheVariants.Court}, slot.Slot.Slot}}
-use Rattle.pass_caveats.proofs.Common.{◌≡◌, ◌≢◌, ℕ, ◌+◌, ◌<◌, ◌≤◌, ◌↔◌, ◌-◌, Bool, true, false, cond, List, [], ◌∷◌, ◌++◌, length, get_or, take, drop, refl, ap}
-use Rattle.pass_caveats.proofs.Common.{◌∙◌, arith, IsTrue, take-append-drop, All, Contains, ◌==◌, HoldsAt, AllWithin, nat_tests, All-head, All-tail, IsName}
-use Rattle.pass_caveats.proofs.Common.{AreNames, comma_parts, comma_list, Skips, is_next, after_next, bytes_eq-Decides, common_steps, map, Option, Some, None}
-use Rattle.pass_caveats.proofs.Common.{sym, Bor, ◌&&◌, ◌||◌, not, filter, is_some, option_copied, list_all, length-map, append-nil, All-nil, All-cons}
-use Rattle.pass_caveats.proofs.Common.{parts_left, words_found, codes, Caveat, Facility, Kind, Hours, Days, Weekdays, Until, Guests, Spend, Actions, IsCaveat}
-use Rattle.pass_caveats.proofs.Common.{caveat_text, Understood, candidate, actions_from, weekdays_from, nat_lt, Decides, IsSomeAnd, list_any, option_map_or}
-use Rattle.pass_caveats.proofs.Common.{same_from_decides, Decides-like, Decides-and, Decides-ltb, Decides-by_and, Decides-by_or, at_from_Contains, Ask, Permits}
-use Rattle.pass_caveats.{proofs.Common.{permits, is_caveat, spells, rules, SpellsCaveat}, specs.{Actions.{all_actions, has_action}, Weekdays.weekday_text}}
-use Rattle.pass_caveats.specs.{Weekdays.has_weekday, declared.{actions.Actions.Actions as SomeActions, weekdays.Weekdays.Weekdays as SomeWeekdays}}
+use Rattle.pass_caveats.specs.{Caveat.{IsCaveat, caveat_text, Understood, Permits, permits, SpellsCaveat}, Choices.{AreNames, comma_parts, comma_list, Skips}}
+use Rattle.pass_caveats.specs.{Choices.{parts_left, all_actions, has_action, weekday_text, has_weekday}, computed.CaveatOf.{is_next, after_next, words_found}}
+use Rattle.pass_caveats.specs.{computed.CaveatOf.{candidate, actions_from, weekdays_from, is_caveat, spells}, declared.actions.Actions.Actions as SomeActions}
+use Rattle.pass_caveats.specs.declared.{ask.Ask.Ask, caveat.Caveat.{Caveat, TheVariants.{Facility, Kind, Hours, Days, Weekdays, Until, Guests, Spend, Actions}}}
+use Rattle.pass_caveats.specs.declared.weekdays.Weekdays.{Weekdays as SomeWeekdays}
 
 pub contains_from_any : (r : Bool) (xs : List (List ℕ)) (x : List ℕ) →
     MatchBool r ((k : ℕ) × (k < length xs) × HoldsAt (λ y. y ≡ x) xs k) (AllWithin (λ y. y ≢ x) xs 0 (length xs)) → IsTrue r ↔ Contains xs x

@@ -1,10 +1,12 @@
 -- Defines the lines of the caveat language, and the requests that each line allows. This project
--- designed the caveat language.
-use Rattle.std.specs.{Fmt.decimal, Prelude.{◌≡◌, ◌≢◌, ◌⊎◌, ℕ, ◌+◌, ◌<◌, ◌≤◌, IsTrue, List, [], ◌∷◌, ◌++◌, length, Contains, Some, IsSomeAnd, codes, ⊤}}
-use Rattle.pass_caveats.specs.{Actions.{has_action, action_texts}, Names.AreNames, Parts.comma_list, Weekdays.{has_weekday, weekday_texts}}
-use Rattle.pass_caveats.specs.declared.{ask.Ask.Ask, caveat.Caveat.{Caveat, TheVariants.{Facility, Kind, Hours, Days, Weekdays, Until, Guests, Spend, Actions}}}
-use Rattle.club_values.specs.{Day.{IsDay, day_text}, Digits.two_digits, Hour.hours_a_day, Kind.kind_text, Moment.{IsMoment, moment_text}, Number.number_limit}
-use Rattle.club_values.specs.{Slot.guests_limit, Weekday.weekday_of}
+-- designed the caveat language. The law `tests_the_set` states that the function `permits` agrees
+-- with the definition `Permits`.
+use Rattle.std.specs.{Fmt.decimal, List.list_any, Option.option_map_or, Prelude.{◌≡◌, ◌≢◌, ◌⊎◌, ℕ, ◌+◌, ◌<◌, ◌≤◌, IsTrue, List, [], ◌∷◌, ◌++◌, length}}
+use Rattle.std.specs.{Prelude.{Contains, Some, IsSomeAnd, codes, ⊤, ◌==◌, ◌&&◌, ◌||◌, Bool, true, false, nat_lt, nat_le, Option, is_some}, Str.bytes_eq}
+use Rattle.club_values.specs.{Kind.{kind_text, weekday_of}, Moment.{IsDay, day_text, hours_a_day, IsMoment, moment_text, guests_limit}, Number.two_digits}
+use Rattle.club_values.specs.{Number.number_limit, declared.{kind.Kind.{Kind as AKind, TheVariants.{Court, Boat, Room}}, slot.Slot.Slot}}
+use Rattle.pass_caveats.specs.{Choices.{has_action, action_texts, AreNames, comma_list, has_weekday, weekday_texts}, declared.ask.Ask.Ask}
+use Rattle.pass_caveats.specs.declared.caveat.Caveat.{Caveat, TheVariants.{Facility, Kind, Hours, Days, Weekdays, Until, Guests, Spend, Actions}}
 
 -- A row of the table that defines the caveat language. A row contains a caveat's line, the
 -- conditions on the caveat's values, and the requests that the caveat allows.
@@ -64,3 +66,25 @@ max_caveat_len = 256
 pub record Understood (text : List ℕ) (caveat : Caveat) : Type 0 where
   pub line : SpellsCaveat text caveat
   pub short : length text ≤ max_caveat_len
+
+-- Returns true if the request is for a slot and `test` returns true for this slot.
+abbrev pub in_slot : (Slot → Bool) → Ask → Bool
+in_slot test ask = option_map_or test ask.slot false
+
+-- Returns true if the facility's kind is known and equals the given kind.
+abbrev pub is_kind : Option AKind → AKind → Bool
+is_kind (Some Court) Court = true
+is_kind (Some Boat) Boat = true
+is_kind (Some Room) Room = true
+is_kind known kind = false
+
+unfoldable pub permits : Caveat → Ask → Bool
+permits (Facility names) ask = in_slot (λ slot. list_any (λ name. bytes_eq name slot.facility) names) ask
+permits (Kind kind) ask = is_some ask.slot && is_kind ask.kind kind
+permits (Hours from until) ask = in_slot (λ slot. nat_le from slot.hour && nat_lt slot.hour until) ask
+permits (Days first last) ask = in_slot (λ slot. nat_le first slot.day && nat_le slot.day last) ask
+permits (Weekdays set) ask = in_slot (λ slot. has_weekday set (weekday_of slot.day)) ask
+permits (Until moment) ask = nat_lt ask.moment moment
+permits (Guests n) ask = nat_le ask.guests n
+permits (Spend n) ask = ask.owed == 0 || nat_le (ask.spent + ask.owed) n
+permits (Actions actions) ask = has_action actions ask.action

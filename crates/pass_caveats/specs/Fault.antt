@@ -1,8 +1,10 @@
--- Defines the faults of a list of caveats. Each caveat of a pass is a text.
-use Rattle.std.specs.{Fmt.decimal, List.AllZip, Prelude.{◌≡◌, ℕ, ◌+◌, List, [], ◌∷◌, ◌++◌, length, All, Option, Some, None, if◌then◌else◌, codes}}
-use Rattle.pass_caveats.specs.{Caveat.{Understood, Permits}, Tests.permits, declared.{ask.Ask.Ask, caveat.Caveat.Caveat, fault.CaveatFault.CaveatFault}}
-use Rattle.pass_caveats.specs.declared.fault.CaveatFault.TheVariants.{NotUnderstood, Denied}
-use Rattle.club_values.specs.Reading.{Reads}
+-- Defines the faults of a list of caveats, and the caveats that depend on the kind of a slot's
+-- facility. Each caveat of a pass is a text.
+use Rattle.std.specs.{Fmt.decimal, List.AllZip, Prelude.{◌≡◌, ℕ, ◌+◌, List, [], ◌∷◌, ◌++◌, length, All, Option, Some, None, if◌then◌else◌, codes, ◌↔◌, Bool}}
+use Rattle.std.specs.Prelude.{true, false}
+use Rattle.club_values.specs.{Number.Reads, declared.kind.Kind.Kind as AKind}
+use Rattle.pass_caveats.specs.{Caveat.{Understood, Permits, permits}, declared.{ask.Ask.Ask, caveat.Caveat.{Caveat, TheVariants.Kind}}}
+use Rattle.pass_caveats.specs.declared.fault.CaveatFault.{CaveatFault, TheVariants.{NotUnderstood, Denied}}
 
 -- The text is understood as a caveat that allows the request. A text that isn't understood allows
 -- no request.
@@ -65,3 +67,18 @@ first_fault_of caveats ask = first_fault_from 1 caveats ask
 abbrev pub caveat_fault_text : CaveatFault → List ℕ
 caveat_fault_text (NotUnderstood n) = codes "caveat " ++ (decimal n ++ codes " not understood")
 caveat_fault_text (Denied n) = codes "caveat " ++ (decimal n ++ codes " denies")
+
+-- Returns true if the caveat restricts the kind of a facility, as in `kind = court`.
+abbrev pub is_on_kind : Option Caveat → Bool
+is_on_kind (Some (Kind kind)) = true
+is_on_kind caveat = false
+
+-- Returns a copy of the request with a different kind of facility.
+abbrev pub at_kind : Option AKind → Ask → Ask
+at_kind kind ask = record ask { kind = kind }
+
+-- The fault of the text doesn't depend on the kind of the facility.
+abbrev pub IsBlindToKind : List ℕ → Type 0
+IsBlindToKind text =
+    (number : ℕ) (ask : Ask) (kind : Option AKind) (fault : Option CaveatFault)
+    → IsFaultAt text number (at_kind kind ask) fault ↔ IsFaultAt text number ask fault

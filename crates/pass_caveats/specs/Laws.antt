@@ -1,8 +1,8 @@
 -- Defines the laws of this crate. Each law relates definitions in `specs/` to each other.
 use Rattle.std.specs.{Option.option_or, Prelude.{◌≡◌, ◌↔◌, ℕ, ◌+◌, List, [], ◌∷◌, ◌++◌, length, IsTrue, Option, Some, None}}
-use Rattle.pass_caveats.specs.{Caveat.{Understood, Permits}, Fault.{Allowed, AreUnderstoodAs, IsFaultAt, IsFirstFault, first_fault_from, first_fault_of}}
-use Rattle.pass_caveats.specs.{Tests.permits, computed.CaveatOf.caveat_of, declared.{ask.Ask.Ask, caveat.Caveat.Caveat, fault.CaveatFault.CaveatFault}}
-use Rattle.club_values.specs.Reading.{Reads}
+use Rattle.club_values.specs.Number.{Reads}
+use Rattle.pass_caveats.specs.{Caveat.{Understood, Permits, permits}, Fault.{Allowed, AreUnderstoodAs, IsFaultAt, IsFirstFault, first_fault_from}}
+use Rattle.pass_caveats.specs.{Fault.first_fault_of, computed.CaveatOf.caveat_of, declared.{ask.Ask.Ask, caveat.Caveat.Caveat, fault.CaveatFault.CaveatFault}}
 
 -- If a list of caveats allows a request, every prefix of the list allows the request too.
 abbrev pub Narrows : Type 0

@@ -1,11 +1,6 @@
-pub mod Names
-pub mod Parts
-pub mod Actions
-pub mod Weekdays
+pub mod Choices
 pub mod Caveat
-pub mod Tests
 pub mod Fault
 pub mod Laws
 pub mod Spending
-pub mod Kinds
 pub mod computed

@@ -1,7 +1,7 @@
 //! Defines sets of actions in a caveat.
 
 ghost use Rattle.std.specs.Prelude.{◌≡◌};
-ghost use Rattle.club_values.specs.Reading.{Reads};
+ghost use Rattle.club_values.specs.Number.{Reads};
 
 use crate::parts::skip;
 use club_values::Action;
@@ -16,7 +16,7 @@ pub struct Actions {
 }
 
 impl Actions {
-    ghost use Rattle.pass_caveats.specs.Actions.{has_action, SpellsActions};
+    ghost use Rattle.pass_caveats.specs.Choices.{has_action, SpellsActions};
 
     /// Parses a comma-separated list of one or more of the actions `view`, `book`, `cancel` and
     /// `account`. Each action occurs at most once, and the actions must be in this order. Returns

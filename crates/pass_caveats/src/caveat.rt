@@ -1,9 +1,9 @@
 //! Defines the caveats of the language, and the requests that each caveat allows.
 
 ghost use Rattle.std.specs.Prelude.{◌≡◌, ◌⊎◌, ◌+◌, ◌≤◌, ◌↔◌, IsTrue, Some, false};
-ghost use Rattle.club_values.specs.Reading.{Reads};
-ghost use Rattle.pass_caveats.specs.Caveat.{SpellsCaveat, Understood, Permits};
-ghost use Rattle.pass_caveats.specs.{Kinds.{IsBlindToKind, is_on_kind}, Tests.permits};
+ghost use Rattle.club_values.specs.Number.{Reads};
+ghost use Rattle.pass_caveats.specs.Caveat.{SpellsCaveat, Understood, Permits, permits};
+ghost use Rattle.pass_caveats.specs.Fault.{IsBlindToKind, is_on_kind};
 ghost use Rattle.pass_caveats.specs.computed.CaveatOf.{caveat_of};
 
 use crate::actions::Actions;

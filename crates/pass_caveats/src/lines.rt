@@ -1,7 +1,7 @@
 //! Parses each kind of caveat line.
 
 ghost use Rattle.std.specs.Prelude.{◌≡◌, ◌++◌, List, ℕ, MatchOption};
-ghost use Rattle.club_values.specs.Reading.{Reads};
+ghost use Rattle.club_values.specs.Number.{Reads};
 ghost use Rattle.pass_caveats.specs.Caveat.{SpellsCaveat};
 ghost use Rattle.pass_caveats.specs.declared.caveat.Caveat.TheVariants as caveats;
 

@@ -1,8 +1,8 @@
 //! Defines lists of names in a caveat.
 
 ghost use Rattle.std.specs.Prelude.{◌≡◌, ◌↔◌, IsTrue, Contains};
-ghost use Rattle.club_values.specs.Reading.{Reads};
-ghost use Rattle.pass_caveats.specs.{Names.AreNames, Parts.comma_list};
+ghost use Rattle.club_values.specs.Number.{Reads};
+ghost use Rattle.pass_caveats.specs.Choices.{AreNames, comma_list};
 
 use crate::parts::{are_all_names, count_of_parts, has_part};
 use club_values::Name;
@@ -23,7 +23,7 @@ impl<'a> Model for Names<'a> {
 
     ghost Value = { List (List ℕ) };
 
-    ghost use Rattle.pass_caveats.specs.{Names.AreNames, Parts.comma_parts};
+    ghost use Rattle.pass_caveats.specs.Choices.{AreNames, comma_parts};
 
     ghost view = { λ names. comma_parts names.text.now };
 

@@ -1,9 +1,9 @@
 //! Splits a text at its commas.
 
-ghost use Rattle.std.specs.Option.{option_copied};
-ghost use Rattle.std.specs.Prelude.{◌≡◌, ◌↔◌, ◌∷◌, IsTrue, All, Contains, length};
+ghost use Rattle.std.specs.{Option.option_copied, Prelude.{◌≡◌, ◌↔◌, ◌∷◌, IsTrue, All, Contains}};
+ghost use Rattle.std.specs.Prelude.{length};
 ghost use Rattle.club_values.specs.Name.{IsName};
-ghost use Rattle.pass_caveats.specs.Parts.{comma_parts, parts_left, Skips};
+ghost use Rattle.pass_caveats.specs.Choices.{comma_parts, parts_left, Skips};
 
 use club_values::Name;
 

@@ -1,7 +1,7 @@
 //! Defines sets of weekdays in a caveat.
 
 ghost use Rattle.std.specs.Prelude.{◌≡◌};
-ghost use Rattle.club_values.specs.Reading.{Reads};
+ghost use Rattle.club_values.specs.Number.{Reads};
 
 use crate::parts::skip;
 use club_values::Weekday;
@@ -19,7 +19,7 @@ pub struct Weekdays {
 }
 
 impl Weekdays {
-    ghost use Rattle.pass_caveats.specs.Weekdays.{has_weekday, SpellsWeekdays};
+    ghost use Rattle.pass_caveats.specs.Choices.{has_weekday, SpellsWeekdays};
 
     /// Parses a comma-separated list of one or more of the weekdays `mon`, `tue`, `wed`, `thu`,
     /// `fri`, `sat` and `sun`. Each weekday occurs at most once, and the weekdays must be in this

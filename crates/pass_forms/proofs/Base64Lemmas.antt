@@ -1,17 +1,18 @@
 -- Lemmas about base64, and about the bytes that a pass text wraps. A byte is a number below 256.
-use Rattle.std.{proofs.lemmas.Slice.Eq.starts_is, specs.{Option.{option_map, option_or, ok_or, option_and_then}, declared.option.Option.Option}}
+use Rattle.std.proofs.{Common.{◌*◌, Bool, true, slice_index, false, inl, not, ◌==◌, inr, if◌then◌else◌, replicate, ◌%◌, ◌⊎◌, cond}, lemmas.Bool.and_parts}
+use Rattle.std.proofs.lemmas.{Bool.{cases_Bool, cases_lt, Decides.Decides-eqb}, Grind.elements, List.{get_or-drop, take-append-drop}, Slice.Eq.starts_is}
+use Rattle.std.specs.{List.list_all, Option.{option_map, option_or, ok_or, option_and_then}, Result.{IfOk, result_ok}, declared.option.Option.Option}
 use Rattle.std.specs.declared.{option.Option.TheVariants.{None, Some}, result.Result.{Result, TheVariants.{Ok, Err}}}
 use Rattle.base64.proofs.{Decoding.{IsLeftover, IsLeftover_next}, EngineFacts.{decode_of_bytes, front_bytes, decode_of-encode_of, decode_of_strict}}
 use Rattle.base64.{proofs.{RoundTrip.decode-encode, Tables.{IsDecodeTable_from, are_tables_inverse}}, specs.Decode.{IsDecodeTable, decode_group}}
 use Rattle.base64.specs.Decode.{decode_outcome, decoded_bytes, groups_bytes, groups_error, no_leftover, push_leftover, scan_bytes, scan_steps}
-use Rattle.base64.specs.declared.engine.DecodePaddingMode.TheVariants.{Indifferent}
-use Rattle.pass_forms.proofs.Common.{◌≡◌, ℕ, zero, suc, ◌+◌, ◌*◌, ◌/◌, ◌<◌, Bool, true, ltb, List, [], ◌∷◌, ◌++◌, take, drop, slice_index, refl, arith}
-use Rattle.pass_forms.proofs.Common.{list_all, lt-ltb, get_or-drop, take-append-drop, DecodeError, GeneralPurpose, IsBytes, decode_of, elements, nat_tests}
-use Rattle.pass_forms.proofs.Common.{IfOk, false, inl, map, not, sym, ◌==◌, ◌∙◌, Decides-eqb, IsConsistent, IsStrict, decoded_of, inr, result_ok, standard}
-use Rattle.pass_forms.proofs.Common.{url_safe, IsBase64, encode, encode_of, engine_symbols, starts_with_brace, url_safe_no_pad, and_parts, ap, if◌then◌else◌}
-use Rattle.pass_forms.proofs.Common.{replicate, standard_no_pad, ◌%◌, ◌⊎◌, common_steps, encode_symbols, cond, by_decoders, from_base64, ◌≤◌, length, ◌↔◌}
-use Rattle.pass_forms.proofs.Common.{subst, rules, cases_Bool, cases_lt, le-ltb, FormFault, TooLong, Malformed, Form, IsUnwrapped, Wraps, form_of, unwrapping}
-use Rattle.pass_forms.proofs.Common.{with_its_form, max_text_len}
+use Rattle.base64.specs.{Engines.{standard, url_safe, url_safe_no_pad, standard_no_pad}, GeneralPurpose.{IsBytes, decode_of, IsConsistent, IsStrict, encode_of}}
+use Rattle.base64.specs.{GeneralPurpose.engine_symbols, Rfc4648.{encode, encode_symbols}, declared.decode.DecodeError.DecodeError}
+use Rattle.base64.specs.declared.engine.{DecodePaddingMode.TheVariants.Indifferent, general_purpose.GeneralPurpose.GeneralPurpose}
+use Rattle.pass_forms.proofs.Common.{◌≡◌, ℕ, zero, suc, ◌+◌, ◌/◌, ◌<◌, ltb, List, [], ◌∷◌, ◌++◌, take, drop, refl, arith, lt-ltb, nat_tests, map, sym, ◌∙◌}
+use Rattle.pass_forms.proofs.Common.{decoded_of, ap, common_steps, ◌≤◌, length, ◌↔◌, subst, rules, le-ltb, FormFault, TooLong, Malformed, Form, IsUnwrapped}
+use Rattle.pass_forms.{proofs.Common.{unwrapping, max_text_len}, specs.{Envelope.{IsBase64, starts_with_brace, Wraps, form_of}, computed.Reading.by_decoders}}
+use Rattle.pass_forms.specs.computed.Reading.{from_base64, with_its_form}
 
 abbrev TypeOf : {A : Type 0} → A → Type 0
 TypeOf {A} x = A

@@ -1,11 +1,11 @@
 -- Lemmas for the proof that the readers recover each written V1 packet, varint and V2 field.
-use Rattle.std.proofs.{Math.Seq.take-append-add, lemmas.Slice.Eq.bytes_eq-Decides}
-use Rattle.pass_forms.proofs.Common.{List, None, Some, [], ap, drop, leb, length, refl, sym, take, ℕ, ◌&&◌, ◌++◌, ◌+◌, ◌-◌, ◌<◌, ◌^◌, ◌∙◌, ◌∷◌, ◌≡◌, ◌≤◌}
-use Rattle.pass_forms.proofs.Common.{FitsPacket, and_parts, append_assoc, arith, cond_some, drop-take, drop_at, leb-true, some_pair_parts, take-take, take_at}
-use Rattle.pass_forms.proofs.Common.{Option, after_prefix, four_hex_digits, length-append, length-drop, length-take, packet, packet_len, take-append-drop}
-use Rattle.pass_forms.proofs.Common.{before_suffix, codes, common_steps, digit_value, hex_digit, len_at, nat_tests, packet_at, same_Some, ◌*◌, ◌>>=◌, ◌/◌}
-use Rattle.pass_forms.proofs.Common.{lt-ltb, le-ltb, above, varint_up_to, zero, suc, ◌%◌, inl, inr, cases_lt, groups, varint, field, optional_field, field_at}
-use Rattle.pass_forms.specs.computed.V2Reading.{optional_at}
+use Rattle.std.proofs.{Common.{leb, ◌&&◌, ◌^◌, codes, ◌*◌, ◌%◌, inl, inr}, Math.Seq.take-append-add, lemmas.Bool.{and_parts, leb-true, cases_lt}}
+use Rattle.std.proofs.lemmas.{List.{drop-take, drop_at, take-take, take_at, length-drop, length-take, take-append-drop}, Option.{cond_some, some_pair_parts}}
+use Rattle.std.proofs.lemmas.{Option.same_Some, Slice.Eq.bytes_eq-Decides}
+use Rattle.pass_forms.proofs.Common.{List, None, Some, [], ap, drop, length, refl, sym, take, ℕ, ◌++◌, ◌+◌, ◌-◌, ◌<◌, ◌∙◌, ◌∷◌, ◌≡◌, ◌≤◌, FitsPacket}
+use Rattle.pass_forms.proofs.Common.{append_assoc, arith, Option, length-append, packet, common_steps, nat_tests, ◌/◌, lt-ltb, le-ltb, zero, suc, field}
+use Rattle.pass_forms.specs.{V2.{groups, varint}, computed.{Parts.{after_prefix, before_suffix, ◌>>=◌}, V2Reading.{above, varint_up_to, field_at, optional_at}}}
+use Rattle.pass_forms.{proofs.Common.optional_field, specs.{V1.{four_hex_digits, packet_len, hex_digit}, computed.V1Reading.{digit_value, len_at, packet_at}}}
 
 -- The keys of V1's packets.
 abbrev pub location_key : List ℕ

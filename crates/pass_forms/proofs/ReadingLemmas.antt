@@ -1,15 +1,15 @@
 -- Lemmas for the proof that reading a text, in V1 or V2, has exactly one result. A reader scans
 -- the header, the caveats one by one, and the signature of a pass.
-use Rattle.std.{proofs.lemmas.{List.Concat.flat_map-cons, Slice.Eq.bytes_eq-Decides}, specs.{Prelude.IsTrue, Str.bytes_eq}}
-use Rattle.pass_forms.proofs.{Base64Lemmas.{wraps_one, unwrapped_answers}, Common.{Bool, List, None, Option, Some, [], and_others, arith, length, list_any}}
-use Rattle.pass_forms.proofs.Common.{option_map, refl, suc, zero, ℕ, ◌+◌, ◌||◌, ◌≡◌, Global, Vec, WideCaveat, caveats_at, drop, flat_map, is_third_party, map}
-use Rattle.pass_forms.proofs.Common.{summary, widened_caveat, ◌≤◌, ◌∷◌, ◌++◌, sym, ap, ◌∙◌, subst, AllByRecursion, length-append, common_steps, ◌↔◌, false, ltb}
-use Rattle.pass_forms.proofs.Common.{Result, Ok, Err, is_some, length-map, or_parts, le-ltb, lt-ltb, FormFault, TooLong, Malformed, ThirdParty, TooMany, Memory}
-use Rattle.pass_forms.proofs.Common.{ComputesSpelled, OnePassEach, Plain, WidePass, as_wide_pass, first_party_caveat, max_text_len, max_caveats, IsReadAs}
-use Rattle.pass_forms.proofs.Common.{nat_tests, append_assoc, append-nil, PassField, caveat_field, signature_field, with_fields, whole_at, ◌>>=◌}
-use Rattle.pass_forms.proofs.Common.{last_signature, rules, Form, Wraps, IsUnwrapped, unwrapping, fold, location_field, identifier_field}
-use Rattle.pass_forms.specs.{FieldSource.AreSignedBy, Text.{SpellsText, IsTextReading}, computed.{Reading.{checked_if_any, reading_of}, Text.in_form}}
-use Rattle.pass_forms.specs.computed.Text.{reading_in, text_reading}
+use Rattle.std.proofs.{Common.{Bool, option_map, ◌||◌, Global, Vec, false, is_some, fold}, lemmas.{Bool.or_parts, List.{length-map, Concat.flat_map-cons}}}
+use Rattle.std.{proofs.lemmas.Slice.Eq.bytes_eq-Decides, specs.{List.list_any, Prelude.IsTrue, Str.bytes_eq}}
+use Rattle.pass_forms.proofs.Common.{List, None, Option, Some, [], arith, length, refl, suc, zero, ℕ, ◌+◌, ◌≡◌, WideCaveat, caveats_at, drop, flat_map, map}
+use Rattle.pass_forms.proofs.Common.{◌≤◌, ◌∷◌, ◌++◌, sym, ap, ◌∙◌, subst, AllByRecursion, length-append, common_steps, ◌↔◌, ltb, Result, Ok, Err, le-ltb}
+use Rattle.pass_forms.proofs.Common.{lt-ltb, FormFault, TooLong, Malformed, ComputesSpelled, Plain, WidePass, max_text_len, nat_tests, append_assoc, append-nil}
+use Rattle.pass_forms.specs.FieldSource.{PassField, caveat_field, signature_field, with_fields, location_field, identifier_field, AreSignedBy}
+use Rattle.pass_forms.specs.{Envelope.{Wraps, SpellsText, IsTextReading}, computed.Reading.{checked_if_any, reading_of, in_form, reading_in, text_reading}}
+use Rattle.pass_forms.{proofs.Common.{rules, Form, IsUnwrapped, unwrapping}, specs.Pass.{is_third_party, widened_caveat, as_wide_pass, first_party_caveat}}
+use Rattle.pass_forms.{proofs.Base64Lemmas.{wraps_one, unwrapped_answers}, specs.computed.Parts.{and_others, summary, whole_at, ◌>>=◌, last_signature}}
+use Rattle.pass_forms.specs.{Laws.OnePassEach, Reading.{max_caveats, IsReadAs}, declared.fault.FormFault.TheVariants.{ThirdParty, TooMany, Memory}}
 use Rattle.pass_mac.specs.Hmac.{hmac}
 
 abbrev pub Reader : Type 0

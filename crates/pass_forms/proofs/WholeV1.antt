@@ -1,12 +1,12 @@
 -- Lemmas for the proof that the V1 reader accepts exactly the bytes that encode a pass.
-use Rattle.std.proofs.Common.{rules}
-use Rattle.pass_forms.proofs.Common.{List, None, Some, [], ap, append-nil, FitsCaveat, FitsPacket, FitsPackets, SpellsV1, WidePass, arith, flat_map, length}
-use Rattle.pass_forms.proofs.Common.{refl, subst, ℕ, ◌++◌, ◌∙◌, ◌≡◌, ◌≤◌, ComputesSpelled, ReadsExactly, caveat_at, caveat_packets, caveats_at, length-append}
-use Rattle.pass_forms.proofs.Common.{packet, packets_of, same_Some, IfSome, Option, WideCaveat, append_assoc, found_or_none, header_at, packet_at, reading_v1}
-use Rattle.pass_forms.proofs.{Common.{signature_at, sym, wide_at, common_steps, optional_at, optional_packet}, FieldLemmas.{bind_some, caveat_key}}
-use Rattle.pass_forms.proofs.FieldLemmas.{caveat_location_key, identifier_key, length-packet, location_key, packet_again, packet_other, packet_takes}
-use Rattle.pass_forms.proofs.{FieldLemmas.{signature_key, verifier_id_key}, ReadingLemmas.{Exact, caveats_again, caveats_fit, caveats_take, exactly}}
-use Rattle.pass_forms.proofs.ReadingLemmas.{last_takes, made, whole_again, whole_parts}
+use Rattle.std.proofs.{Common.{rules, IfSome}, lemmas.Option.same_Some}
+use Rattle.pass_forms.proofs.Common.{List, None, Some, [], ap, append-nil, FitsPacket, SpellsV1, WidePass, arith, flat_map, length, refl, subst, ℕ, ◌++◌, ◌∙◌}
+use Rattle.pass_forms.proofs.Common.{◌≡◌, ◌≤◌, ComputesSpelled, caveat_packets, caveats_at, length-append, packet, Option, WideCaveat, append_assoc, sym}
+use Rattle.pass_forms.proofs.{Common.common_steps, FieldLemmas.{bind_some, caveat_key, caveat_location_key, identifier_key, length-packet, location_key}}
+use Rattle.pass_forms.proofs.{FieldLemmas.{packet_again, packet_other, packet_takes, signature_key, verifier_id_key}, ReadingLemmas.{Exact, caveats_again}}
+use Rattle.pass_forms.{proofs.ReadingLemmas.{caveats_fit, caveats_take, exactly, last_takes, made, whole_again, whole_parts}, specs.Laws.ReadsExactly}
+use Rattle.pass_forms.specs.{V1.{FitsCaveat, FitsPackets, packets_of, optional_packet}, computed.{Parts.found_or_none, V1Reading.{caveat_at, header_at}}}
+use Rattle.pass_forms.specs.computed.V1Reading.{packet_at, reading_v1, signature_at, wide_at, optional_at}
 
 optional_takes : (key bytes : List ℕ) → (bytes ≡ optional_packet key (optional_at key bytes).0 ++ (optional_at key bytes).1)
     × IfSome (optional_at key bytes).0 (FitsPacket key)

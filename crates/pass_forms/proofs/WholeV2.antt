@@ -1,11 +1,11 @@
 -- Lemmas for the proof that the V2 reader accepts exactly the bytes that encode a pass.
 use Rattle.std.specs.Prelude.{unwrap_or}
 use Rattle.pass_forms.proofs.Common.{List, [], ℕ, ◌++◌, ◌∷◌, ◌≡◌, ◌≤◌, AllByRecursion, None, Option, Some, ap, append-nil, append_assoc, arith, flat_map}
-use Rattle.pass_forms.proofs.Common.{length, refl, subst, sym, ◌∙◌, WideCaveat, WidePass, caveat_section, caveats_at, end_of_section, field, length-append}
-use Rattle.pass_forms.proofs.Common.{optional_field, sections, types, ComputesSpelled, ReadsExactly, SpellsV2, common_steps, field_at, footer_at, reading_v2}
-use Rattle.pass_forms.proofs.{FieldLemmas.{field_takes, field_again, optional_again, optional_takes, after_prefix_takes, bind_some}, ReadingLemmas.Exact}
-use Rattle.pass_forms.proofs.ReadingLemmas.{caveats_again, caveats_fit, caveats_take, exactly, last_takes, made, whole_again, whole_parts}
-use Rattle.pass_forms.specs.computed.V2Reading.{caveat_at, header_at, wide_at}
+use Rattle.pass_forms.proofs.Common.{length, refl, subst, sym, ◌∙◌, WideCaveat, WidePass, caveat_section, caveats_at, field, length-append, optional_field}
+use Rattle.pass_forms.proofs.{Common.{ComputesSpelled, SpellsV2, common_steps}, FieldLemmas.{field_takes, field_again, optional_again, optional_takes}}
+use Rattle.pass_forms.proofs.{FieldLemmas.{after_prefix_takes, bind_some}, ReadingLemmas.{Exact, caveats_again, caveats_fit, caveats_take, exactly, last_takes}}
+use Rattle.pass_forms.{proofs.ReadingLemmas.{made, whole_again, whole_parts}, specs.{Laws.ReadsExactly, V2.{end_of_section, sections, types}}}
+use Rattle.pass_forms.specs.computed.V2Reading.{field_at, footer_at, reading_v2, caveat_at, header_at, wide_at}
 
 section_assoc : (a b c rest : List ℕ) → (a ++ (b ++ (c ++ end_of_section))) ++ rest ≡ a ++ (b ++ (c ++ (end_of_section ++ rest)))
 section_assoc a b c rest = simp append_assoc

@@ -1,16 +1,16 @@
 -- Lemmas about writing the bytes and the text of a pass, in V1 or V2, and about reading the text
 -- back.
-use Rattle.std.proofs.Common.{IfErr, IfOk}
-use Rattle.base64.proofs.RoundTrip.{length-encode_symbols}
+use Rattle.std.{proofs.Common.{IfErr, IfOk, true, IsOk, MatchResult}, specs.List.list_all}
+use Rattle.base64.{proofs.RoundTrip.length-encode_symbols, specs.{Engines.url_safe_no_pad, GeneralPurpose.{IsBytes, engine_symbols}, Rfc4648.unpadded_len}}
 use Rattle.pass_forms.proofs.{Base64Lemmas.{append_is_bytes, bytes_from_passes, nil_is_bytes, one_more}, Common.{suc, zero, ℕ, ◌/◌, ◌<◌, ◌≡◌, AllByRecursion}}
-use Rattle.pass_forms.proofs.Common.{List, [], arith, flat_map, list_all, ltb, map, refl, true, ◌++◌, ◌∷◌, ◌≤◌, FitsCaveat, FitsPacket, FitsPackets, IsBytes}
-use Rattle.pass_forms.proofs.Common.{Plain, as_wide_pass, caveat_packets, widened_caveat, HasBytes, caveat_section, end_of_section, field, groups}
-use Rattle.pass_forms.proofs.Common.{optional_field, packet, types, varint, nonempty_location, rules, v1_bytes, v2_bytes, Err, Ok, Some, append-nil}
-use Rattle.pass_forms.proofs.Common.{engine_symbols, length, unpadded_len, url_safe_no_pad, Form, IsUnwrapped, TooLong, buffer_len, form_of, in_base64}
-use Rattle.pass_forms.proofs.Common.{max_caveats, max_text_len, nat_tests, writing_of, ◌↔◌, FormFault, IsOk, MatchResult, Memory, Result, TooMany, WidePass}
-use Rattle.pass_forms.proofs.Common.{FailsAs, IsReadBack, IsTextBy, IsWritableText, IsWriteFault, IsWriting, form_of_byte, IsV1Text, SpellsV1, hex_digit}
-use Rattle.pass_forms.proofs.{Common.{packet_len, common_steps, writing_v1, SpellsV2, IsV2Text, writing_v2}, FieldLemmas.{identifier_key, location_key}}
-use Rattle.pass_forms.{proofs.FieldLemmas.signature_key, specs.declared.form.Form.TheVariants.{V1, V2}}
+use Rattle.pass_forms.proofs.Common.{List, [], arith, flat_map, ltb, map, refl, ◌++◌, ◌∷◌, ◌≤◌, FitsPacket, Plain, caveat_packets, caveat_section, field}
+use Rattle.pass_forms.proofs.Common.{optional_field, packet, rules, Err, Ok, Some, append-nil, length, Form, IsUnwrapped, TooLong, max_text_len, nat_tests, ◌↔◌}
+use Rattle.pass_forms.proofs.{Common.{FormFault, Result, WidePass, SpellsV1, common_steps, SpellsV2}, FieldLemmas.{identifier_key, location_key, signature_key}}
+use Rattle.pass_forms.specs.{Envelope.{form_of, form_of_byte}, Pass.{as_wide_pass, widened_caveat}, Reading.max_caveats, V1.{FitsCaveat, FitsPackets}}
+use Rattle.pass_forms.specs.{V1.{hex_digit, packet_len}, V2.{end_of_section, groups, types, varint}, Writing.{HasBytes, nonempty_location, v1_bytes, v2_bytes}}
+use Rattle.pass_forms.specs.Writing.{buffer_len, in_base64, FailsAs, IsReadBack, IsTextBy, IsWritableText, IsWriteFault, IsWriting, IsV1Text, IsV2Text}
+use Rattle.pass_forms.specs.{computed.Reading.{writing_of, writing_v1, writing_v2}, declared.fault.FormFault.TheVariants.{Memory, TooMany}}
+use Rattle.pass_forms.specs.declared.form.Form.TheVariants.{V1, V2}
 
 packet_is_bytes : (key bytes : List ℕ) → list_all (λ byte. ltb byte 256) key ≡ true → FitsPacket key bytes → IsBytes bytes → IsBytes (packet key bytes)
 packet_is_bytes key bytes passes fits are = search (rules, append_is_bytes, one_more, nil_is_bytes, arith, bytes_from_passes)

@@ -1,10 +1,12 @@
--- Defines the envelope of a pass text. A pass text is plain JSON or base64. This project chose the
--- envelope, the way to determine the form, and the order of the faults.
+-- Defines the envelope of a pass text, and the results of reading the text. A pass text is plain
+-- JSON or base64. This project chose the envelope, the way to determine the form, and the order of
+-- the faults. The parameter `Spells` defines the encoding of each form, so a new form requires no
+-- change in this file.
 use Rattle.std.specs.{List.starts_with, Option.option_and_then, Prelude.{◌≡◌, ◌==◌, ◌≤◌, ◌<◌, ◌&&◌, ◌||◌, ◌⊎◌, ℕ, Bool, List, length, take, slice_get, nat_eq}}
 use Rattle.std.specs.Prelude.{nat_le, IsTrue, codes, if◌then◌else◌, Option, None, Some, Result, Ok, Err}
 use Rattle.base64.specs.{Engines.{url_safe_no_pad, url_safe, standard_no_pad, standard}, GeneralPurpose.{IsBytes, encode_of}}
-use Rattle.pass_forms.specs.{Reading.max_text_len, declared.{envelope.Unwrapped.Unwrapped, fault.FormFault.{FormFault, TheVariants.{TooLong, Malformed}}}}
-use Rattle.pass_forms.specs.declared.form.Form.{Form, TheVariants.{V1, V2, Json}}
+use Rattle.pass_forms.specs.{Pass.{Plain, WidePass}, Reading.{max_text_len, IsReadAs}, declared.{envelope.Unwrapped.Unwrapped, fault.FormFault.FormFault}}
+use Rattle.pass_forms.specs.declared.{fault.FormFault.TheVariants.{TooLong, Malformed}, form.Form.{Form, TheVariants.{V1, V2, Json}}}
 
 -- `IsBase64 text bytes` means that `text` is a base64 encoding of `bytes`. The alphabet is URL-safe
 -- (RFC 4648, section 5) or standard (section 4). The padding is complete or absent (section 3.2).
@@ -64,3 +66,13 @@ unwrapped_bytes unwrapping text buffer = if unwrapping.plain then text else take
 abbrev pub unwrapped_result : Result Unwrapped FormFault → List ℕ → List ℕ → Result (Form × List ℕ) FormFault
 unwrapped_result (Ok unwrapping) text buffer = Ok (unwrapping.form, unwrapped_bytes unwrapping text buffer)
 unwrapped_result (Err fault) text buffer = Err fault
+
+-- The text wraps bytes in the given form, and these bytes encode the wide pass.
+abbrev pub SpellsText : (Form → List ℕ → WidePass → Type 0) → List ℕ → Form → WidePass → Type 0
+SpellsText Spells text form wide = (bytes : List ℕ) × Wraps text form bytes × Spells form bytes wide
+
+-- The result of reading a text is the form and the pass, or the first fault that applies.
+abbrev pub IsTextReading : (Form → List ℕ → WidePass → Type 0) → List ℕ → Result (Form × Plain) FormFault → Type 0
+IsTextReading Spells text (Ok read) = IsReadAs (length text) (SpellsText Spells text read.0) (Ok read.1)
+IsTextReading Spells text (Err fault) =
+    IsReadAs (length text) (λ wide. (form : Form) × SpellsText Spells text form wide) (Err fault)

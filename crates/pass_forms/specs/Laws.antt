@@ -1,10 +1,10 @@
 -- Defines the laws of this crate. Each law relates definitions in `specs/` to each other.
 use Rattle.std.specs.Prelude.{◌≡◌, ◌↔◌, ℕ, List, length, Option, Some, Result, true}
-use Rattle.pass_forms.specs.{Envelope.{IsBase64, Wraps, IsUnwrapped}, Pass.{Plain, WidePass, IsSigned}, Reading.IsReadAs, Text.IsTextReading, V1.SpellsV1}
-use Rattle.pass_forms.specs.{V2.SpellsV2, Writing.{v1_bytes, v2_bytes, IsV1Text, IsV2Text, IsWritableText, IsWriting, IsReadBack, HasBytes, with_caveat}}
-use Rattle.pass_forms.specs.computed.{Envelope.{from_base64, unwrapping}, Pass.is_signed, Reading.reading_of, Text.text_reading}
-use Rattle.pass_forms.specs.{computed.Writing.{writing_v1, writing_v2}, declared.{fault.FormFault.FormFault, form.Form.{Form, TheVariants.{V1, V2}}}}
 use Rattle.base64.specs.GeneralPurpose.{IsBytes}
+use Rattle.pass_forms.specs.{Envelope.{IsBase64, Wraps, IsUnwrapped, IsTextReading}, Pass.{Plain, WidePass, IsSigned}, Reading.IsReadAs, V1.SpellsV1}
+use Rattle.pass_forms.specs.{V2.SpellsV2, Writing.{v1_bytes, v2_bytes, IsV1Text, IsV2Text, IsWritableText, IsWriting, IsReadBack, HasBytes, with_caveat}}
+use Rattle.pass_forms.specs.computed.Reading.{from_base64, unwrapping, is_signed, reading_of, text_reading, writing_v1, writing_v2}
+use Rattle.pass_forms.specs.declared.{fault.FormFault.FormFault, form.Form.{Form, TheVariants.{V1, V2}}}
 
 -- `reading_of` returns the only result that `IsReadAs` allows. `len` is the length of a text.
 -- `computed` is the wide pass that the text encodes, or `None`.

@@ -1,12 +1,9 @@
 pub mod Pass
-pub mod FormFault
-pub mod FieldSource
 pub mod Reading
+pub mod FieldSource
 pub mod V1
 pub mod Envelope
-pub mod Text
 pub mod V2
 pub mod Writing
-pub mod Putting
 pub mod Laws
 pub mod computed

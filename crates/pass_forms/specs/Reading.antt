@@ -1,8 +1,15 @@
--- Defines the results of reading a pass in any form. This project chose the limits and the order of
--- the faults.
-use Rattle.std.specs.Prelude.{◌≡◌, ℕ, ◌<◌, ◌≤◌, true, false, length, Result, Ok, Err}
-use Rattle.pass_forms.specs.{Pass.{Plain, WidePass, has_third_party, as_wide_pass}, declared.fault.FormFault.FormFault}
-use Rattle.pass_forms.specs.declared.fault.FormFault.TheVariants.{TooLong, Malformed, ThirdParty, TooMany, Memory}
+-- Defines the results of reading a pass in any form, and the text of each fault. This project chose
+-- the limits and the order of the faults.
+use Rattle.std.specs.Prelude.{ℕ, List, codes, ◌≡◌, ◌<◌, ◌≤◌, true, false, length, Result, Ok, Err}
+use Rattle.pass_forms.specs.{Pass.{Plain, WidePass, has_third_party, as_wide_pass}, declared.fault.FormFault.{FormFault, TheVariants.{TooLong, Malformed}}}
+use Rattle.pass_forms.specs.declared.fault.FormFault.TheVariants.{ThirdParty, TooMany, Memory}
+
+abbrev pub fault_text : FormFault → List ℕ
+fault_text TooLong = codes "too long"
+fault_text Malformed = codes "malformed"
+fault_text ThirdParty = codes "third-party caveat"
+fault_text TooMany = codes "too many caveats"
+fault_text Memory = codes "out of memory"
 
 -- The maximum length of a pass text, in bytes.
 abbrev pub max_text_len : ℕ

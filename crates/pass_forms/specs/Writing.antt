@@ -1,11 +1,22 @@
--- Defines the results of writing a pass. In each form, a writer may return only one text for a
--- pass. This project chose the limits, the order of the faults, and base64 without padding.
-use Rattle.std.specs.{List.AllByRecursion, Prelude.{◌≡◌, ℕ, ◌<◌, ◌≤◌, List, [], ◌∷◌, ◌++◌, length, Option, None, Some, Result, Ok, Err, IsOk}}
+-- Defines the results of writing a pass, and the buffer where the writers put their bytes. In each
+-- form, a writer may return only one text for a pass. This project chose the limits, the order of
+-- the faults, and base64 without padding.
+use Rattle.std.specs.{List.AllByRecursion, Prelude.{◌≡◌, ℕ, ◌<◌, List, ◌++◌, length, Result, Ok, Err, ◌≤◌, [], ◌∷◌, Option, None, Some, IsOk}}
 use Rattle.base64.specs.{Engines.url_safe_no_pad, GeneralPurpose.{IsBytes, encode_of}}
+use Rattle.pass_forms.specs.{Envelope.IsUnwrapped, Pass.{Plain, WidePass, as_wide_pass}, Reading.{IsReadAs, max_caveats, max_text_len}, V1.SpellsV1}
+use Rattle.pass_forms.specs.{V1.packets_of, V2.{SpellsV2, sections}, declared.fault.FormFault.{FormFault, TheVariants.{TooLong, Malformed, ThirdParty}}}
+use Rattle.pass_forms.specs.declared.{fault.FormFault.TheVariants.{TooMany, Memory}, form.Form.Form}
 use Rattle.pass_mac.specs.Hmac.{hmac}
-use Rattle.pass_forms.specs.{Envelope.IsUnwrapped, Pass.{Plain, WidePass, as_wide_pass}, Reading.{IsReadAs, max_caveats, max_text_len}}
-use Rattle.pass_forms.specs.{V1.{SpellsV1, packets_of}, V2.{SpellsV2, sections}, declared.fault.FormFault.FormFault}
-use Rattle.pass_forms.specs.declared.{fault.FormFault.TheVariants.{TooLong, Malformed, ThirdParty, TooMany, Memory}, form.Form.Form}
+
+-- The length of the buffer. A base64 text of 8,192 characters encodes at most 6,144 bytes.
+abbrev pub buffer_len : ℕ
+buffer_len = 6144
+
+-- The result of appending `bytes` to a buffer. The call either appends all bytes, or fails with
+-- `TooLong` because the buffer has no room.
+abbrev pub Puts : List ℕ → List ℕ → List ℕ → Result (Unit {0}) FormFault → Type 0
+Puts bytes old new (Ok _) = new ≡ old ++ bytes
+Puts bytes old new (Err fault) = (fault ≡ TooLong) × (buffer_len < length (old ++ bytes))
 
 -- Encodes bytes in URL-safe base64 (RFC 4648, section 5) without padding (section 3.2).
 abbrev pub in_base64 : List ℕ → List ℕ

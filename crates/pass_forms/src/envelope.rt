@@ -6,8 +6,8 @@ ghost use Rattle.std.specs.Prelude.{Option, Some, length, take, IfOk, IfSome};
 ghost use Rattle.base64.specs.{Decode.decoded_estimate, GeneralPurpose.decoded_of};
 ghost use Rattle.pass_forms.specs.Envelope.{IsBase64, IsUnwrapped, form_of, starts_with_brace};
 ghost use Rattle.pass_forms.specs.Envelope.{unwrapped_result, unwrapped_bytes};
-ghost use Rattle.pass_forms.specs.Reading.{max_text_len};
-ghost use Rattle.pass_forms.specs.computed.Envelope.{from_base64, unwrapping};
+ghost use Rattle.pass_forms.specs.{Reading.max_text_len, computed.Reading.from_base64};
+ghost use Rattle.pass_forms.specs.computed.Reading.{unwrapping};
 
 use crate::fault::FormFault;
 use crate::form::Form;
@@ -64,7 +64,7 @@ impl Unwrapped {
 /// Fails with `TooLong` if the text has more than 8,192 bytes. Otherwise fails with `Malformed` if
 /// the text doesn't start with `{` and isn't base64. Also fails with `Malformed` if the decoded
 /// bytes are empty or don't begin with the first byte of a form. No other fault can occur.
-#[tactic(auto, unfolding(crate::specs::computed::Envelope::unwrapping))]
+#[tactic(auto, unfolding(crate::specs::computed::Reading::unwrapping))]
 pub fn unwrap_text(text: &[u8], buffer: &mut [u8; MAX_BYTES]) -> Result<Unwrapped, FormFault>
     ensures reading { IsUnwrapped text.now (unwrapped_result result text.now buffer.new) }
     // The result equals the result of `unwrapping` for the text.

@@ -24,7 +24,7 @@ pub enum FormFault {
 
 impl fmt::Display for FormFault {
     ghost use Rattle.std.specs.Prelude.{Some};
-    ghost use Rattle.pass_forms.specs.FormFault.{fault_text};
+    ghost use Rattle.pass_forms.specs.Reading.{fault_text};
 
     ghost output = { λ fault. Some (fault_text fault) };
 

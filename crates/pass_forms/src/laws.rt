@@ -97,7 +97,7 @@ pub fn narrowed_stays_signed()
 {}
 
 /// `is_signed` returns true if and only if the pass is signed under the root.
-#[tactic(auto, unfolding(crate::specs::computed::Pass::is_signed))]
+#[tactic(auto, unfolding(crate::specs::computed::Reading::is_signed))]
 pub fn decides_signed()
     ensures { DecidesSigned }
 {}

@@ -4,8 +4,8 @@
 
 ghost use Rattle.std.specs.Prelude.{◌≡◌, [], ◌∷◌, IfNone, IfSome, length, option_map};
 ghost use Rattle.pass_forms.specs.{FieldSource.opening_of, Reading.{IsReadAs, OrOutOfMemory}};
-ghost use Rattle.pass_forms.specs.computed.Caveats.{caveats_at, identifiers_at, scan_summary};
-ghost use Rattle.pass_forms.specs.computed.{Caveats.{whole_at, Counts}, Reading.reading_of};
+ghost use Rattle.pass_forms.specs.computed.Parts.{caveats_at, identifiers_at, scan_summary};
+ghost use Rattle.pass_forms.specs.computed.{Parts.{whole_at, Counts}, Reading.reading_of};
 
 use crate::{Field, FieldSource, FormFault, MAX_CAVEATS, MAX_TEXT, Pass};
 use std::alloc::{AllocError, Global};
@@ -50,7 +50,7 @@ pub struct Fields<'a, L: Layout> {
 impl<'a, L: Layout> Model for Fields<'a, L> {
     ghost use Rattle.std.specs.Prelude.{List};
     ghost use Rattle.pass_forms.specs.FieldSource.{PassField, those_left};
-    ghost use Rattle.pass_forms.specs.computed.Caveats.{identifiers_at};
+    ghost use Rattle.pass_forms.specs.computed.Parts.{identifiers_at};
 
     ghost Value = { List PassField };
 
@@ -71,7 +71,7 @@ struct ScanResult<'a, L: Layout> {
 pub trait Layout: Copy {
     ghost use Rattle.std.specs.Prelude.{◌≡◌, ℕ, List, Option, Result, length, option_map};
     ghost use Rattle.pass_forms.specs.{Laws.ReadsExactly, Pass.{Plain, WideCaveat, WidePass}};
-    ghost use Rattle.pass_forms.specs.computed.{Caveats.{summary, whole_at}, Reading.reading_of};
+    ghost use Rattle.pass_forms.specs.computed.{Parts.{summary, whole_at}, Reading.reading_of};
     ghost use Rattle.pass_forms.specs.declared.fault.FormFault.{FormFault as FaultOfForm};
 
     // Relates a list of bytes to the wide pass that the bytes encode.
@@ -147,7 +147,7 @@ fn skip_caveats<L: Layout>(bytes: &[u8]) -> Skipped<'_>
 
 // Scans all bytes of a pass. Returns `None` if the bytes don't encode a pass. The scan accepts
 // third-party caveats.
-#[tactic(auto, using(crate::proofs::ReadingLemmas::as_many), unfolding(crate::specs::computed::Caveats::whole_at))]
+#[tactic(auto, using(crate::proofs::ReadingLemmas::as_many), unfolding(crate::specs::computed::Parts::whole_at))]
 fn scan_pass<L: Layout>(bytes: &[u8]) -> Option<ScanResult<'_, L>>
     ensures { option_map (λ pass. (pass.fields, pass.caveat_count, pass.third_party)) result
         ≡ option_map scan_summary (whole_at L.header_at L.caveat_at L.footer_at bytes.now) }

@@ -57,7 +57,7 @@ impl Model for Pass {
 impl Pass {
     ghost use Rattle.std.specs.Prelude.{◌≡◌, ◌↔◌, length, map, IfOk, IsTrue, OnOk};
     ghost use Rattle.pass_forms.specs.FieldSource.{as_field, no_fields, pass_fields, with_field};
-    ghost use Rattle.pass_forms.specs.{Pass.{IsSigned, minted_pass}, computed.Pass.is_signed};
+    ghost use Rattle.pass_forms.specs.{Pass.{IsSigned, minted_pass}, computed.Reading.is_signed};
 
     /// Makes a pass from its parts, without checking the signature.
     pub fn new(
@@ -191,7 +191,7 @@ impl Pass {
 
     /// Returns whether the pass is signed under this root. The root may have any length. Allocates
     /// no memory.
-    #[tactic(auto, unfolding(crate::specs::computed::Pass::is_signed))]
+    #[tactic(auto, unfolding(crate::specs::computed::Reading::is_signed))]
     pub fn is_signed(&self, root: &[u8]) -> bool
         ensures signed { IsTrue result ↔ IsSigned root.now self.now }
         ensures computed { result ≡ is_signed root.now self.now }

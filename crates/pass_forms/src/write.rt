@@ -6,7 +6,7 @@ ghost use Rattle.base64.specs.GeneralPurpose.{IsBytes};
 ghost use Rattle.pass_forms.specs.{V1.SpellsV1, V2.SpellsV2, Writing.{FailsAs, IsReadBack}};
 ghost use Rattle.pass_forms.specs.Writing.{IsWriteFault, IsV1Text, IsV2Text, IsWritableText};
 ghost use Rattle.pass_forms.specs.Writing.{in_base64, v1_bytes, v2_bytes};
-ghost use Rattle.pass_forms.specs.computed.Writing.{writing_of, writing_v1, writing_v2};
+ghost use Rattle.pass_forms.specs.computed.Reading.{writing_of, writing_v1, writing_v2};
 ghost use Rattle.pass_forms.specs.declared.form.Form.TheVariants.{V1, V2};
 
 use crate::v1::Packets;
@@ -23,7 +23,7 @@ mod sections;
 /// A byte layout in which a writer can write a pass.
 trait PutLayout {
     ghost use Rattle.std.specs.Prelude.{◌≡◌, ℕ, List, OnOk, length};
-    ghost use Rattle.pass_forms.specs.{Pass.Plain, Putting.Puts};
+    ghost use Rattle.pass_forms.specs.{Pass.Plain, Writing.Puts};
 
     // The bytes of a pass in this layout.
     ghost bytes_of: { Plain → List ℕ };

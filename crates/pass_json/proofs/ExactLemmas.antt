@@ -2,20 +2,22 @@
 -- the result for the bytes that the text wraps.
 use Rattle.pass_forms.specs.computed.V1Reading as v1
 use Rattle.pass_forms.specs.computed.V2Reading as v2
-use Rattle.std.proofs.lemmas.{Bool.Decides.nat_tests, Cmp.nat_list_eq_equiv, Map.{Text.is_eq-slice_cmp, Views.{Contains-from_any, list_any-from_Contains}}}
-use Rattle.std.{proofs.lemmas.Slice.Eq.bytes_eq-Decides, specs.{Cmp.Lexicographic.slice_cmp, Ordering.{is_eq, match_ordering, nat_cmp}}}
+use Rattle.std.proofs.Common.{ℕ, ◌<◌, ◌≤◌, Result, arith, ◌≡◌, ◌↔◌, List, length, Some, Ok, Err, Bool, None, Option, [], ap, codes, cond, refl, sym, true, ◌&&◌}
+use Rattle.std.proofs.{Common.{◌∷◌, ◌∙◌, Contains, inl, inr, ◌⊎◌}, lemmas.{Bool.{eq-eqb, Decides.nat_tests}, Cmp.nat_list_eq_equiv, Map.Text.is_eq-slice_cmp}}
+use Rattle.std.proofs.lemmas.{Map.Views.{Contains-from_any, list_any-from_Contains}, Slice.Eq.bytes_eq-Decides, Str.{IsUtf8-from_is_utf8, is_utf8-from_IsUtf8}}
+use Rattle.std.specs.{Cmp.Lexicographic.slice_cmp, Option.{unwrap_or, IsSome}, Ordering.{is_eq, match_ordering, nat_cmp}, Str.{IsUtf8, is_utf8}}
 use Rattle.std.specs.declared.cmp.Ordering.{Ordering}
-use Rattle.pass_forms.specs.{Text.{SpellsText, IsTextReading}, V1.SpellsV1, V2.SpellsV2, computed.Parts.◌>>=◌}
-use Rattle.pass_json.proofs.Common.{ℕ, ◌<◌, ◌≤◌, Result, FormFault, Plain, WidePass, IsReadAs, UnlessMemory, max_text_len, arith, ◌≡◌, ◌↔◌, List, length, Some}
-use Rattle.pass_json.proofs.Common.{Ok, Err, Form, ReadsTextsExactly, ComputesSpelled, SpellsForm, IsAnyReading, OneReadingEachText, reading, wide_in}
-use Rattle.pass_json.proofs.Common.{SpellsJson, wide_json, Bool, None, Option, [], ap, codes, cond, refl, sym, true, ◌&&◌, ◌∷◌, Data, IsUtf8}
-use Rattle.pass_json.proofs.Common.{IsUtf8-from_is_utf8, eq-eqb, is_utf8, is_utf8-from_IsUtf8, unwrap_or, ◌∙◌, AnswersExactly, FromBase64IsBase64, Items}
-use Rattle.pass_json.proofs.Common.{Members, WideCaveat, get, item, read, AreCaveats, HasOnly, IsCaveatList, IsCaveatObject, IsPass, IsVersion, caveat_names}
-use Rattle.pass_json.proofs.Common.{Contains, caveat_from, caveat_list, caveats_of, field_from, has_only_names, is_version, must_have, of_length, pass_names}
-use Rattle.pass_json.proofs.Common.{IsSome, get_member, inl, inr, member, no_members, pass_from, reading_json, signature_from, value_of, ◌⊎◌, IsBase64, IsField}
-use Rattle.pass_json.proofs.Common.{decoded_text, field_bytes, only_among, string, TooLong, Malformed, Json, IsUnwrapped, Wraps, WrapsOne, as_wide_pass}
-use Rattle.pass_json.proofs.Common.{IsReadingInForm, MayRunOut, V1, V2, FailsAs, HasBytes, IsReadBack, IsWritableText, IsWriting, v1_bytes, v2_bytes}
-use Rattle.pass_json.proofs.Common.{TextsReadBack, WritesExactly, IsTextIn, writing, JsonReadsBack, WritesJsonExactly, MayFailAs}
+use Rattle.pass_forms.specs.{Envelope.{SpellsText, IsTextReading, IsBase64, IsUnwrapped, Wraps}, Laws.{ReadsTextsExactly, ComputesSpelled, AnswersExactly}}
+use Rattle.pass_forms.specs.{Laws.{FromBase64IsBase64, WrapsOne, TextsReadBack, WritesExactly}, Pass.{Plain, WidePass, WideCaveat, as_wide_pass}}
+use Rattle.pass_forms.specs.{Reading.{IsReadAs, UnlessMemory, max_text_len}, V1.SpellsV1, V2.SpellsV2, Writing.{FailsAs, HasBytes, IsReadBack, IsWritableText}}
+use Rattle.pass_forms.specs.{Writing.{IsWriting, v1_bytes, v2_bytes}, computed.Parts.◌>>=◌, declared.fault.FormFault.{FormFault, TheVariants.TooLong}}
+use Rattle.pass_forms.specs.declared.{fault.FormFault.TheVariants.Malformed, form.Form.{Form, TheVariants.{Json, V1, V2}}}
+use Rattle.pass_json.specs.{AnyForm.{SpellsForm, IsAnyReading, IsReadingInForm, MayRunOut, IsTextIn}, Json.{SpellsJson, AreCaveats, HasOnly, IsCaveatList}}
+use Rattle.pass_json.specs.{Json.{IsCaveatObject, IsPass, IsVersion, caveat_names, pass_names, IsField}, JsonWriting.MayFailAs, Laws.OneReadingEachText}
+use Rattle.pass_json.specs.{Laws.{JsonReadsBack, WritesJsonExactly}, computed.{AnyForm.{reading, wide_in, writing}, JsonReading.{wide_json, caveat_from}}}
+use Rattle.pass_json.specs.computed.JsonReading.{caveat_list, caveats_of, field_from, has_only_names, is_version, must_have, of_length, pass_from, reading_json}
+use Rattle.pass_json.specs.computed.JsonReading.{signature_from, value_of, decoded_text, field_bytes, only_among}
+use Rattle.serde_json.specs.{Data.{Data, Items, Members, item, member, no_members, string}, Find.{get, get_member}, Read.read}
 
 abbrev pub Spelling : Type 1
 Spelling = WidePass → Type 0

@@ -1,4 +1,3 @@
-pub mod Common
 pub mod ObjectLemmas
 pub mod ExactLemmas
 pub mod WrittenLemmas

@@ -1,20 +1,20 @@
 -- Lemmas about the JSON object of a pass, and for the proof that a JSON value's text is read back
 -- as the same value.
 use Rattle.json.specs.Tree as tree
-use Rattle.std.{proofs.Common.rules, specs.Fmt.digits}
-use Rattle.base64.{proofs.EngineFacts.IsAscii-encode_of, specs.Engines.url_safe_no_pad}
+use Rattle.std.proofs.Common.{rules, ◌≡◌, ℕ, ◌+◌, ◌<◌, ◌≤◌, Bool, ◌||◌, List, [], ◌∷◌, ◌++◌, length, drop, get_or, Option, Some, None, arith, true, false}
+use Rattle.std.proofs.{Common.{option_and_then, refl, sym, ap, subst, ◌∙◌, append-nil, append_assoc, codes, decimal}, lemmas.{Bool.or_from, Grind.common_steps}}
+use Rattle.std.{proofs.lemmas.Str.{IsUtf8-append, IsUtf8-from_ascii, IsUtf8-from_is_utf8}, specs.{Fmt.digits, Option.option_map, Str.{IsUtf8, is_utf8}}}
+use Rattle.base64.{proofs.EngineFacts.IsAscii-encode_of, specs.{Engines.url_safe_no_pad, GeneralPurpose.encode_of}}
 use Rattle.json.proofs.Printed.{Tokens.tokens-print, Trees.{ArePrintable-json_tokens, value-json_tokens}, Utf8.{IsUtf8-are_ascii, IsUtf8-boolean, IsUtf8-key}}
 use Rattle.json.{proofs.Printed.Utf8.IsUtf8-quoted, specs.{Json.{Json, if_last, value}, Lex.tokens, Print.quoted, Token.Token, Tree.{HasNumbers, json_tokens}}}
 use Rattle.json.specs.Tree.{ItemsHaveNumbers, MembersHaveNumbers}
-use Rattle.pass_forms.specs.computed.Parts.{◌>>=◌}
-use Rattle.pass_json.proofs.Common.{◌≡◌, ℕ, ◌+◌, ◌<◌, ◌≤◌, Bool, ◌||◌, List, [], ◌∷◌, ◌++◌, length, drop, get_or, Option, Some, None, option_map, FormFault}
-use Rattle.pass_json.proofs.Common.{WideCaveat, Items, item, items_view, view, caveat_from, caveats_of, kept_caveat, kept_caveats, RefusesPart, arith}
-use Rattle.pass_json.proofs.Common.{common_steps, true, false, option_and_then, refl, sym, ap, subst, ◌∙◌, append-nil, append_assoc, IsUtf8, IsUtf8-append}
-use Rattle.pass_json.proofs.Common.{Data, null, boolean, number, string, array, object, no_items, Members, no_members, member, max_depth, of_json, read}
-use Rattle.pass_json.proofs.Common.{comma_if, compact_text, items_text, members_text, number_text, outline, codes, decimal, is_utf8, or_from, IsUtf8-from_ascii}
-use Rattle.pass_json.proofs.Common.{IsUtf8-from_is_utf8, encode_of, unsigned, put, number_of, of_items, has_float, items_have_float, members_have_float}
-use Rattle.pass_json.proofs.Common.{items_outline, members_outline, Plain, caveat_object, caveat_objects, object_of, put_member, with_location}
-use Rattle.serde_json.{proofs.{OnLiterals.serde_json_on_literals, Texts.print-outline}, specs.declared.value.Value.Value}
+use Rattle.pass_forms.specs.{Pass.{WideCaveat, Plain}, computed.Parts.◌>>=◌, declared.fault.FormFault.FormFault}
+use Rattle.pass_json.specs.{JsonWriting.{caveat_object, caveat_objects, object_of, put_member, with_location}, computed.JsonReading.{caveat_from, caveats_of}}
+use Rattle.pass_json.specs.computed.JsonReading.{kept_caveat, kept_caveats, RefusesPart}
+use Rattle.serde_json.{proofs.{OnLiterals.serde_json_on_literals, Texts.print-outline}, specs.Data.{Items, item, Data, null, boolean, number, string, array}}
+use Rattle.serde_json.specs.{Data.{object, no_items, Members, no_members, member, unsigned, put}, Read.{max_depth, of_json, read, number_of, of_items}}
+use Rattle.serde_json.specs.{View.{items_view, view}, Written.{comma_if, compact_text, items_text, members_text, number_text, outline, has_float}}
+use Rattle.serde_json.specs.{Written.{items_have_float, members_have_float, items_outline, members_outline}, declared.value.Value.Value}
 
 -- Returns the identifiers of all caveats in a list, and whether any caveat is a third-party caveat.
 -- The result is `None` if a caveat is malformed.

@@ -1,14 +1,15 @@
 -- Lemmas for the proof that `write_json` writes JSON that encodes the pass.
-use Rattle.std.{proofs.lemmas.Bool.Decides.nat_tests, specs.Result.{IfOk, MatchResult, OnOk}}
-use Rattle.base64.specs.Engines.{url_safe_no_pad}
-use Rattle.pass_forms.specs.computed.Envelope.{from_base64}
-use Rattle.pass_json.proofs.Common.{◌≡◌, ℕ, Bool, true, false, List, [], ◌∷◌, length, map, Option, Some, None, refl, ap, ◌∙◌, arith, AllByRecursion, IsUtf8}
-use Rattle.pass_json.proofs.Common.{is_utf8, eq-eqb, IsBytes, encode_of, read, FromBase64IsBase64, starts_with_brace, Plain, as_wide_pass, widened_caveat}
-use Rattle.pass_json.proofs.Common.{HasBytes, SpellsJson, caveat_from, caveats_of, field_from, has_only_names, pass_from, caveat_object, caveat_objects}
-use Rattle.pass_json.proofs.Common.{json_text, object_of, Err, FormFault, Json, Ok, Result, TooLong, TooMany, cond, ltb, ◌↔◌, IsJsonText, IsReadBack}
-use Rattle.pass_json.proofs.Common.{IsWritableText, IsWriting, max_caveats, max_text_len, MayFailAs, OneTextEachForm, OneWritingEachForm, WritesJsonExactly}
-use Rattle.pass_json.proofs.{ExactLemmas.pass_takes, ObjectLemmas.{FieldText, caveat_is, object_is, object_is_fine, field_text, text_by_test, location_text}}
-use Rattle.pass_json.{proofs.ObjectLemmas.{reads_text, utf8_text, two_is_two, caveats_read}, specs.computed.JsonWriting.writing_json}
+use Rattle.std.proofs.Common.{◌≡◌, ℕ, Bool, true, false, List, [], ◌∷◌, length, map, Option, Some, None, refl, ap, ◌∙◌, arith, Err, Ok, Result, cond, ltb, ◌↔◌}
+use Rattle.std.{proofs.lemmas.Bool.{eq-eqb, Decides.nat_tests}, specs.{List.AllByRecursion, Result.{IfOk, MatchResult, OnOk}, Str.{IsUtf8, is_utf8}}}
+use Rattle.base64.specs.{Engines.url_safe_no_pad, GeneralPurpose.{IsBytes, encode_of}}
+use Rattle.pass_forms.specs.{Envelope.starts_with_brace, Laws.FromBase64IsBase64, Pass.{Plain, as_wide_pass, widened_caveat}, Reading.max_caveats}
+use Rattle.pass_forms.specs.{Reading.max_text_len, Writing.{HasBytes, IsReadBack, IsWritableText, IsWriting}, computed.Reading.from_base64}
+use Rattle.pass_forms.specs.declared.{fault.FormFault.{FormFault, TheVariants.{TooLong, TooMany}}, form.Form.TheVariants.Json}
+use Rattle.pass_json.proofs.ObjectLemmas.{FieldText, caveat_is, object_is, object_is_fine, field_text, text_by_test, location_text, reads_text, utf8_text}
+use Rattle.pass_json.{proofs.ObjectLemmas.{two_is_two, caveats_read}, specs.JsonWriting.{caveat_object, caveat_objects, json_text, object_of, IsJsonText}}
+use Rattle.pass_json.specs.{JsonWriting.MayFailAs, computed.JsonReading.{caveat_from, caveats_of, field_from, has_only_names, pass_from}, Laws.OneTextEachForm}
+use Rattle.pass_json.{specs.{Laws.{OneWritingEachForm, WritesJsonExactly}, computed.AnyForm.writing_json, Json.SpellsJson}, proofs.ExactLemmas.pass_takes}
+use Rattle.serde_json.specs.Read.{read}
 
 -- The text of a field encodes the given bytes. Under the plain name, the text equals the bytes.
 -- Under the base64 name, the text is base64 of the bytes.

@@ -1,7 +1,7 @@
 -- Defines reading and writing a pass text in any of the three forms.
 use Rattle.std.specs.Prelude.{◌≡◌, ◌⊎◌, ℕ, List, length, Result, Ok, Err}
-use Rattle.pass_forms.specs.{Envelope.IsUnwrapped, Pass.{Plain, WidePass}, Reading.IsReadAs, Text.IsTextReading, V1.SpellsV1, V2.SpellsV2}
-use Rattle.pass_forms.specs.{Writing.{IsWriteFault, IsV1Text, IsV2Text}, declared.{fault.FormFault.FormFault, form.Form.{Form, TheVariants.{V1, V2, Json}}}}
+use Rattle.pass_forms.specs.{Envelope.{IsUnwrapped, IsTextReading}, Pass.{Plain, WidePass}, Reading.IsReadAs, V1.SpellsV1, V2.SpellsV2, Writing.IsWriteFault}
+use Rattle.pass_forms.specs.{Writing.{IsV1Text, IsV2Text}, declared.{fault.FormFault.FormFault, form.Form.{Form, TheVariants.{V1, V2, Json}}}}
 use Rattle.pass_json.specs.{Json.SpellsJson, JsonWriting.{IsJsonText, IsRefusedJson}}
 
 -- The bytes encode the wide pass in the given form.

@@ -1,10 +1,10 @@
 -- Defines the laws of this crate. Each law relates definitions in `specs/` to each other.
 use Rattle.std.specs.Prelude.{◌≡◌, ◌↔◌, ℕ, List, length, Ok, ◌≤◌, Result, Err}
+use Rattle.base64.specs.GeneralPurpose.{IsBytes}
 use Rattle.pass_forms.specs.{Envelope.IsUnwrapped, Pass.Plain, Reading.max_text_len, Writing.{HasBytes, IsReadBack, IsWritableText, IsWriting}}
 use Rattle.pass_forms.specs.declared.{fault.FormFault.FormFault, form.Form.{Form, TheVariants.Json}}
 use Rattle.pass_json.specs.{AnyForm.{IsAnyReading, IsReadingInForm, IsTextIn}, Json.SpellsJson, JsonWriting.IsJsonText, computed.AnyForm.{reading, writing}}
-use Rattle.pass_json.specs.computed.JsonWriting.{writing_json}
-use Rattle.base64.specs.GeneralPurpose.{IsBytes}
+use Rattle.pass_json.specs.computed.AnyForm.{writing_json}
 
 -- Reading a text that `write_json` wrote gives the same pass again.
 abbrev pub JsonReadsBack : Type 0

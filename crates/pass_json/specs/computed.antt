@@ -3,4 +3,3 @@
 
 pub mod AnyForm
 pub mod JsonReading
-pub mod JsonWriting

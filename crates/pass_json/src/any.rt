@@ -2,9 +2,8 @@
 
 ghost use Rattle.std.specs.Prelude.{◌≡◌, ◌⊎◌, Err, IfErr, IfOk, MatchResult, Ok, length};
 ghost use Rattle.std.specs.String.{string_bytes};
-ghost use Rattle.pass_forms.specs.{Pass.Plain, Reading.{IsReadAs, UnlessMemory}};
-ghost use Rattle.pass_forms.specs.Writing.{IsWritableText};
-ghost use Rattle.pass_forms.specs.declared.fault.FormFault.TheVariants.{Memory};
+ghost use Rattle.pass_forms.specs.{Reading.{IsReadAs, UnlessMemory}, Writing.IsWritableText};
+ghost use Rattle.pass_forms.specs.{declared.fault.FormFault.TheVariants.Memory, Pass.Plain};
 ghost use Rattle.pass_forms.specs.declared.form.Form.TheVariants.{Json};
 ghost use Rattle.pass_json.specs.AnyForm.{IsAnyReading, IsRefusedIn, IsTextIn, MayRunOut};
 ghost use Rattle.pass_json.specs.{AnyForm.SpellsForm, JsonWriting.MayFailAs};

@@ -1,16 +1,15 @@
 //! Writes passes as JSON.
 
-ghost use Rattle.std.specs.List.{AllByRecursion};
-ghost use Rattle.std.specs.Prelude.{◌≡◌, Ok, length, map, IfErr, IfOk, MatchResult, OnOk};
-ghost use Rattle.std.specs.String.{string_bytes};
+ghost use Rattle.std.specs.{List.AllByRecursion, Prelude.{◌≡◌, Ok, length, map, IfErr, IfOk}};
+ghost use Rattle.std.specs.{Prelude.{MatchResult, OnOk}, String.string_bytes};
 ghost use Rattle.base64.specs.GeneralPurpose.{IsBytes};
-ghost use Rattle.serde_json.specs.{Data.array, View.{members_view, view}};
-ghost use Rattle.pass_json.specs.JsonWriting as spec;
 ghost use Rattle.pass_forms.specs.Writing.{HasBytes, IsReadBack, IsWritableText};
 ghost use Rattle.pass_forms.specs.declared.form.Form.TheVariants.{Json};
 ghost use Rattle.pass_json.specs.{Json.SpellsJson, JsonWriting.{MayFailAs, IsJsonText}};
 ghost use Rattle.pass_json.specs.JsonWriting.{IsRefusedJson, base64_text, put_member};
-ghost use Rattle.pass_json.specs.{JsonWriting.with_location, computed.JsonWriting.writing_json};
+ghost use Rattle.pass_json.specs.{JsonWriting.with_location, computed.AnyForm.writing_json};
+ghost use Rattle.serde_json.specs.{Data.array, View.{members_view, view}};
+ghost use Rattle.pass_json.specs.JsonWriting as spec;
 
 use crate::laws::{json_reads_back, writes_json_exactly};
 use base64::engine::general_purpose::URL_SAFE_NO_PAD;
@@ -41,7 +40,7 @@ pub fn write_json(alloc: Global, pass: &Pass) -> Result<String, FormFault>
 }
 
 // Returns the JSON text of a pass, or the first fault that applies.
-#[tactic(auto, unfolding(crate::specs::computed::JsonWriting::writing_json, crate::specs::JsonWriting::json_text))]
+#[tactic(auto, unfolding(crate::specs::computed::AnyForm::writing_json, crate::specs::JsonWriting::json_text))]
 fn short_text(alloc: Global, pass: &Pass) -> Result<String, FormFault>
     ensures bytes { OnOk result (HasBytes pass.now) }
     ensures signature { OnOk result (length pass.now.signature ≡ 32) }

@@ -7,8 +7,8 @@ use Rattle.std.{proofs.lemmas.List.{append-nil, drop_more, length-append, length
 use Rattle.std.specs.{Io.KnownBytes.Appends, List.{slice_index_or, position, prefix_len}, Prelude.Vec}
 use Rattle.clap.{proofs.{OnLiterals.clap_on_literals, WalkLemmas.raw_values-rows}, specs.Words.{Row, Text, all_of, matched_of, raw_values, rows_of}}
 use Rattle.clap.specs.declared.parser.matches.Found.{Found}
-use Rattle.command_line.specs.{Job.Answers, JobLaws.{RowsAnswerOnce, ReadsOnce}, Output.AppendsFront, Table.IsGood}
-use Rattle.command_line.specs.declared.{errors.ArgumentsFault.{ArgumentsFault, TheVariants.{BadValue, Memory as OutOfMemory}}, job.Asked.TheVariants.Perform}
+use Rattle.command_line.specs.{Job.{Answers, RowsAnswerOnce, ReadsOnce}, Process.AppendsFront, Table.IsGood, declared.errors.ArgumentsFault.ArgumentsFault}
+use Rattle.command_line.specs.declared.{errors.ArgumentsFault.TheVariants.{BadValue, Memory as OutOfMemory}, job.Asked.TheVariants.Perform}
 use Rattle.pass_caveats.specs.{Laws.ReadsWhatIsUnderstood, computed.CaveatOf.caveat_of, declared.caveat.Caveat.Caveat}
 use Rattle.pass_forms.specs.{Pass.Plain, Reading.{UnlessMemory, max_caveats}, Writing.{IsNarrowingFault, with_caveat, IsV1Text, IsV2Text, IsWritableText}}
 use Rattle.pass_forms.specs.{Writing.{IsWriteFault, IsWriting}, declared.{fault.FormFault.{FormFault, TheVariants.{TooMany, Memory}}, form.Form.Form}}
@@ -16,10 +16,10 @@ use Rattle.pass_forms.specs.declared.form.Form.TheVariants.{V1, V2, Json}
 use Rattle.pass_json.specs.{AnyForm.{IsAnyReading, IsRefusedIn, IsTextIn}, JsonWriting.IsJsonText, Laws.{OneReadingEachText, OneWritingEachForm}}
 use Rattle.pass_mac.specs.{Chain.{derived_key, extended_signature}, Hmac.hmac}
 use Rattle.passtool_commands.specs.Answer.{narrowing, with_caveats, IsOnly, Results, ◌>>=◌, IsAnswer, OutcomeText, reads_input, IsVerdict, ReadsPass}
-use Rattle.passtool_commands.specs.{Answer.{WritesPass, new_pass, AnswersText}, Application.passtool, Arguments.{IsCaveatTest, IsCaveatText, ReadsCommand}}
-use Rattle.passtool_commands.specs.{Arguments.{command_of, AskForCommand, ReadsArguments}, Fault.of_arguments, Laws.{AskForOneCommand, AnswersOnce, MintSigns}}
-use Rattle.passtool_commands.specs.{Laws.{NarrowingKeepsSigned, VerifyDecidesSigned}, Listing.{caveat_lines, escaped_text, escaped_byte, value_line}}
-use Rattle.passtool_commands.specs.{Listing.{listing_text, with_line_feed}, Run.{AnswersArguments, Performs, ReadsInput, Writes, WritesFront}}
+use Rattle.passtool_commands.specs.Answer.{WritesPass, new_pass, AnswersText, caveat_lines, escaped_text, escaped_byte, value_line, listing_text}
+use Rattle.passtool_commands.specs.{Answer.with_line_feed, Application.passtool, Arguments.{IsCaveatTest, IsCaveatText, ReadsCommand, command_of}}
+use Rattle.passtool_commands.specs.{Arguments.{AskForCommand, ReadsArguments}, Fault.of_arguments, Laws.{AskForOneCommand, AnswersOnce, MintSigns}}
+use Rattle.passtool_commands.specs.{Laws.{NarrowingKeepsSigned, VerifyDecidesSigned}, Run.{AnswersArguments, Performs, ReadsInput, Writes, WritesFront}}
 use Rattle.passtool_commands.specs.{computed.Arguments.is_understood, declared.answer.{BadValue.{BadValue as OurBadValue, TheVariants.Root}, Fault.Fault}}
 use Rattle.passtool_commands.specs.declared.answer.{Fault.TheVariants.{Pass, InputOutput}, Outcome.{Outcome, TheVariants.{Done, NotSigned}}}
 use Rattle.passtool_commands.specs.declared.{command.Command.{Command, TheVariants.{Mint, Show, Narrow, Convert, Verify}}, table.Name.Name}

@@ -1,13 +1,13 @@
 -- Defines the command that a run's arguments ask for.
-use Rattle.std.specs.Option.{ok_or}
-use Rattle.std.specs.Prelude.{◌↔◌, ℕ, ◌+◌, Bool, IsTrue, not, if◌then◌else◌, List, [], Option, Some, None, Result, Ok, Err, codes, position, unwrap_or}
+use Rattle.passtool_commands.specs.declared.table.Name.TheVariants as name
+use Rattle.std.specs.{Option.ok_or, Prelude.{◌↔◌, ℕ, ◌+◌, Bool, IsTrue, not, if◌then◌else◌, List, [], Option, Some, None, Result, Ok, Err, codes, position}}
+use Rattle.std.specs.Prelude.{unwrap_or}
 use Rattle.clap.specs.Words.{Row, Text, all_of}
-use Rattle.command_line.specs.{Arguments.{is_set, value_in}, Job.{Answers, JobOf, ReadsJob, Refusal, bad_value, ◌>>=◌, form_given}, Root.root_of}
+use Rattle.command_line.specs.{Arguments.{is_set, value_in, root_of}, Job.{Answers, JobOf, ReadsJob, Refusal, bad_value, ◌>>=◌, form_given}}
 use Rattle.command_line.specs.declared.{errors.ArgumentsFault.ArgumentsFault, job.Asked.{Asked, TheVariants.Perform}}
 use Rattle.pass_caveats.specs.{Caveat.Understood, declared.caveat.Caveat.Caveat as ACaveat}
 use Rattle.passtool_commands.specs.{Application.passtool, declared.{answer.BadValue.{BadValue, TheVariants.{Root, Caveat}}, command.Command.Command}}
 use Rattle.passtool_commands.specs.declared.{command.Command.TheVariants.{Mint, Show, Narrow, Convert, Verify}, table.Name.Name}
-use Rattle.passtool_commands.specs.declared.table.Name.TheVariants as name
 
 abbrev pub root_in : List Row → Result (List ℕ) (Refusal BadValue)
 root_in rows = ok_or (root_of (value_in (codes "root") rows)) (bad_value Root)

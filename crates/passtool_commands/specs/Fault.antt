@@ -1,12 +1,11 @@
 -- Defines the exit status of each outcome and each fault, and the line of each fault.
+use Rattle.command_line.specs.declared.errors.ArgumentsFault.TheVariants as arguments
+use Rattle.pass_forms.specs.declared.fault.FormFault.TheVariants as form
 use Rattle.std.specs.{Fmt.{decimal, with_newline}, Prelude.{ℕ, List, ◌++◌, Option, Some, None, Result, Ok, Err, codes}}
 use Rattle.command_line.specs.declared.errors.ArgumentsFault.{ArgumentsFault}
-use Rattle.command_line.specs.declared.errors.ArgumentsFault.TheVariants as arguments
-use Rattle.pass_forms.specs.{FormFault.fault_text, declared.fault.FormFault.FormFault}
-use Rattle.pass_forms.specs.declared.fault.FormFault.TheVariants as form
-use Rattle.passtool_commands.specs.declared.answer.{BadValue.{BadValue, TheVariants.{Root, Caveat}}, Fault.Fault}
-use Rattle.passtool_commands.specs.declared.answer.{Fault.TheVariants.{Arguments, Pass, CaveatNotUnderstood, BadRoot, InputOutput}, Outcome.Outcome}
-use Rattle.passtool_commands.specs.declared.answer.Outcome.TheVariants.{Done, NotSigned}
+use Rattle.pass_forms.specs.{Reading.fault_text, declared.fault.FormFault.FormFault}
+use Rattle.passtool_commands.specs.declared.answer.{Fault.TheVariants.{Arguments, Pass, CaveatNotUnderstood, BadRoot, InputOutput}, Outcome.TheVariants.Done}
+use Rattle.passtool_commands.specs.declared.answer.{Outcome.{Outcome, TheVariants.NotSigned}, BadValue.{BadValue, TheVariants.{Root, Caveat}}, Fault.Fault}
 
 abbrev pub outcome_status : Outcome → ℕ
 outcome_status Done = 0

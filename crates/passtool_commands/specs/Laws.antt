@@ -1,10 +1,10 @@
 -- States laws about the commands, their arguments and their answers.
 use Rattle.std.specs.Prelude.{◌≡◌, ◌↔◌, ℕ, List, Result, Ok, codes}
+use Rattle.command_line.specs.Job.{AskOnce}
 use Rattle.pass_forms.specs.{Pass.{IsSigned, Plain}, declared.{fault.FormFault.FormFault, form.Form.Form}}
-use Rattle.passtool_commands.specs.{Answer.{IsAnswer, OutcomeText, ReadsPass, narrowing, new_pass}, Application.passtool, Arguments.ReadsCommand}
-use Rattle.passtool_commands.specs.{Minting.Minting, Listing.with_line_feed, declared.{answer.Outcome.TheVariants.Done, command.Command.Command}}
+use Rattle.passtool_commands.specs.{Answer.{IsAnswer, OutcomeText, ReadsPass, narrowing, new_pass, with_line_feed}, Application.passtool}
+use Rattle.passtool_commands.specs.{Arguments.ReadsCommand, Minting.Minting, declared.{answer.Outcome.TheVariants.Done, command.Command.Command}}
 use Rattle.passtool_commands.specs.declared.command.Command.TheVariants.{Verify}
-use Rattle.command_line.specs.JobLaws.{AskOnce}
 
 -- If arguments ask for a command, parsing them returns this command or runs out of memory.
 abbrev pub AskForOneCommand : Type 0

@@ -1,8 +1,7 @@
 pub mod Application
 pub mod Minting
-pub mod Fault
-pub mod Listing
 pub mod Answer
+pub mod Fault
 pub mod Arguments
 pub mod computed
 pub mod Run

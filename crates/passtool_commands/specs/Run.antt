@@ -1,12 +1,11 @@
 -- Defines how a run of the program affects its reader and its writer.
 use Rattle.std.specs.{Io.{StartsWith, KnownBytes.{Appends, Keeps}}, Prelude.{◌≡◌, ◌⊎◌, ℕ, List, [], Option, Result, Ok, Err, Bool, false, true}}
 use Rattle.clap.specs.Words.{Text}
+use Rattle.command_line.specs.{Arguments.HasText, Process.ReadsAtMost, Table.refusals, declared.errors.ArgumentsFault.TheVariants.{Refused, BadValue}}
 use Rattle.pass_forms.specs.declared.fault.FormFault.TheVariants.{Memory}
+use Rattle.passtool_commands.specs.declared.{answer.Fault.TheVariants.{Arguments, Pass, BadRoot, CaveatNotUnderstood, InputOutput}, command.Command.Command}
+use Rattle.passtool_commands.specs.declared.answer.{BadValue.TheVariants.{Root, Caveat}, Fault.Fault, Outcome.{Outcome, TheVariants.{Done, NotSigned}}}
 use Rattle.passtool_commands.specs.{Answer.{IsAnswer, OutcomeText, reads_input}, Application.passtool, Arguments.{AskForCommand, ReadsArguments}}
-use Rattle.passtool_commands.specs.declared.answer.{BadValue.TheVariants.{Root, Caveat}, Fault.Fault}
-use Rattle.passtool_commands.specs.declared.answer.{Fault.TheVariants.{Arguments, Pass, BadRoot, CaveatNotUnderstood, InputOutput}, Outcome.Outcome}
-use Rattle.passtool_commands.specs.declared.{answer.Outcome.TheVariants.{Done, NotSigned}, command.Command.Command}
-use Rattle.command_line.specs.{Arguments.HasText, Input.ReadsAtMost, Table.refusals, declared.errors.ArgumentsFault.TheVariants.{Refused, BadValue}}
 
 -- A command that reads input reads all remaining bytes of the reader, or the first 8,194 of these
 -- bytes. For any other command, `bytes` is empty.

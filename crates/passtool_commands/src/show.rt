@@ -4,7 +4,7 @@ ghost use Rattle.std.specs.Prelude.{◌≡◌, ◌+◌, ◌<◌, ◌^◌, ◌++�
 ghost use Rattle.std.specs.String.{string_bytes};
 ghost use Rattle.pass_forms.specs.Reading.{UnlessMemory};
 ghost use Rattle.passtool_commands.specs.Answer.{ShowsPass};
-ghost use Rattle.passtool_commands.specs.Listing as spec;
+ghost use Rattle.passtool_commands.specs.Answer as spec;
 
 use crate::answer::{Answer, Outcome};
 use crate::input::read_pass;
@@ -21,7 +21,7 @@ pub fn show(alloc: Global, bytes: &[u8]) -> Result<Answer, FormFault>
     Ok(Answer::new(Outcome::Done, text))
 }
 
-#[tactic(auto, unfolding(crate::specs::Listing::listing_text))]
+#[tactic(auto, unfolding(crate::specs::Answer::listing_text))]
 fn listing_text(alloc: Global, form: Form, pass: &Pass) -> Result<String, AllocError>
     ensures { IfOk result (λ text. string_bytes text ≡ spec.listing_text form pass.now) }
 {
@@ -70,7 +70,7 @@ fn push_escaped(alloc: Global, text: &mut String, bytes: &[u8]) -> Result<(), Al
     Ok(())
 }
 
-#[tactic(auto, unfolding(crate::specs::Listing::escaped_byte))]
+#[tactic(auto, unfolding(crate::specs::Answer::escaped_byte))]
 fn push_byte(alloc: Global, text: &mut String, byte: u8) -> Result<(), AllocError>
     ensures { OnOk result
         (string_bytes text.new ≡ string_bytes text.old ++ spec.escaped_byte byte) }

@@ -1,13 +1,13 @@
 -- Functions that compute the decoded pass of a text, and the machine's event for an event at the
 -- desk.
-use Rattle.std.specs.Prelude.{ℕ, List, map, Result, Ok, Err}
-use Rattle.pass_caveats.specs.computed.CaveatOf.{caveat_of}
-use Rattle.pass_forms.specs.{Pass.Plain, computed.Pass.is_signed, declared.{fault.FormFault.FormFault, form.Form.Form}}
-use Rattle.pass_json.specs.computed.AnyForm.{reading, reading_in_form}
-use Rattle.club_core.specs.{Pass.{Pass, Words}, declared.{pass_fault.PassFault.PassFault, request.Request.Request}}
 use Rattle.club_core.specs.Run as machine
-use Rattle.club_gate.specs.{DecodedPass.fault_of, Identifier.key_name_in, declared.event.Event.Event}
 use Rattle.club_gate.specs.declared.event.Event.TheVariants as events
+use Rattle.std.specs.Prelude.{ℕ, List, map, Result, Ok, Err}
+use Rattle.club_core.specs.{Request.{Pass, Words}, declared.{pass_fault.PassFault.PassFault, request.Request.Request}}
+use Rattle.club_gate.specs.{DecodedPass.{fault_of, key_name_in}, declared.event.Event.Event}
+use Rattle.pass_caveats.specs.computed.CaveatOf.{caveat_of}
+use Rattle.pass_forms.specs.{Pass.Plain, computed.Reading.is_signed, declared.{fault.FormFault.FormFault, form.Form.Form}}
+use Rattle.pass_json.specs.computed.AnyForm.{reading, reading_in_form}
 
 -- The decoded pass that the rules of the club use. `is_signed` tests whether the pass is signed
 -- under a root.

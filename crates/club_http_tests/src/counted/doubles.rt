@@ -30,7 +30,7 @@ impl<'a> Pieces<'a> {
 
 impl Inlet for Pieces<'_> {
     ghost use Rattle.std.specs.Prelude.{◌≡◌, Some};
-    ghost use Rattle.club_http.specs.Ends.{one_more};
+    ghost use Rattle.club_http.specs.Exchange.{one_more};
 
     ghost to_come = { λ reader. Some reader.left.now };
 
@@ -89,7 +89,7 @@ impl Narrow {
 
 impl Outlet for Narrow {
     ghost use Rattle.std.specs.Prelude.{◌≡◌, Some, take};
-    ghost use Rattle.club_http.specs.Ends.{one_more};
+    ghost use Rattle.club_http.specs.Exchange.{one_more};
 
     ghost taken = { λ writer. Some (take writer.len writer.bytes) };
 

@@ -1,9 +1,9 @@
 -- Computes the model of the code's `Words`. `IsModelOf` defines the model, and a law states that
 -- the computed model agrees with `IsModelOf`.
 use Rattle.std.specs.{List.list_any, Prelude.{map, Result, Ok, Err}, Str.bytes_eq, Vec.vec_items}
-use Rattle.pass_caveats.specs.computed.CaveatOf.{caveat_of}
-use Rattle.club_core.specs.{Pass.{Pass, Words}, declared.pass_fault.PassFault.PassFault}
+use Rattle.club_core.specs.{Request.{Pass, Words}, declared.pass_fault.PassFault.PassFault}
 use Rattle.club_reference.specs.declared.words.{Pass.Pass as PassInCode, Words.Words as WordsInCode}
+use Rattle.pass_caveats.specs.computed.CaveatOf.{caveat_of}
 
 -- The model of a pass, with the parsed caveats. A root signs the model if and only if the root is
 -- in the pass's list of roots.

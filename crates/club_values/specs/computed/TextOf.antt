@@ -1,13 +1,12 @@
 -- Functions that compute the value that a text encodes. `IsName`, `SpellsDay` and similar
 -- definitions describe the same values without computing them. The contracts of the parsers use
 -- both the functions and the descriptions.
-use Rattle.std.specs.{Int.is_in_range, List.list_all}
-use Rattle.std.specs.Prelude.{ℕ, ◌+◌, ◌-◌, ◌*◌, ◌/◌, ◌==◌, ◌&&◌, not, Bool, true, List, length, slice_index, nat_lt, nat_le, if◌then◌else◌, Option, Some, None}
-use Rattle.std.specs.Str.{bytes_eq}
-use Rattle.club_values.specs.{Action.action_text, Day.{day_text, first_day, last_day}, Digits.two_digits, Hour.hours_a_day, Kind.kind_text}
-use Rattle.club_values.specs.{Moment.{moment_text, first_moment, last_moment, minutes_a_day, minutes_an_hour}, Name.{is_name_byte, max_name_len}}
-use Rattle.club_values.specs.{Number.number_of_digits, declared.{action.Action.{Action, TheVariants.{View, Book, Cancel, Account}}, kind.Kind.Kind as AKind}}
-use Rattle.club_values.specs.declared.kind.Kind.TheVariants.{Court, Boat, Room}
+use Rattle.std.specs.{Int.is_in_range, List.list_all, Prelude.{ℕ, ◌+◌, ◌-◌, ◌*◌, ◌/◌, ◌==◌, ◌&&◌, not, Bool, true, List, length, slice_index, nat_lt, nat_le}}
+use Rattle.std.specs.{Prelude.{if◌then◌else◌, Option, Some, None}, Str.bytes_eq}
+use Rattle.club_values.specs.{Kind.{action_text, kind_text}, Moment.{day_text, first_day, last_day, hours_a_day, moment_text, first_moment, last_moment}}
+use Rattle.club_values.specs.{Moment.{minutes_a_day, minutes_an_hour}, Name.{is_name_byte, max_name_len}, Number.{two_digits, number_of_digits}}
+use Rattle.club_values.specs.declared.{action.Action.{Action, TheVariants.{View, Book, Cancel, Account}}, kind.Kind.{Kind as AKind, TheVariants.{Court, Boat}}}
+use Rattle.club_values.specs.declared.kind.Kind.TheVariants.{Room}
 
 abbrev pub is_name : List ℕ → Bool
 is_name bytes =

@@ -2,12 +2,11 @@
 -- `Understood`.
 use Rattle.std.specs.{Int.is_in_range, List.list_all, Prelude.{ℕ, ◌==◌, ◌&&◌, Bool, true, false, List, [], ◌∷◌, length, drop, slice_index, slice_index_or, map}}
 use Rattle.std.specs.{Prelude.{nat_lt, nat_le, if◌then◌else◌, Option, Some, None}, Str.{bytes_eq, Parse.digits_value}}
-use Rattle.pass_caveats.specs.{Actions.{all_actions, action_texts}, Caveat.{caveat_text, max_caveat_len}, Names.max_names, Parts.comma_parts}
-use Rattle.pass_caveats.specs.{Weekdays.{weekday_text, weekday_texts}, declared.{actions.Actions.Actions as SomeActions, caveat.Caveat.Caveat}}
-use Rattle.pass_caveats.specs.declared.caveat.Caveat.TheVariants.{Facility, Kind, Hours, Days, Weekdays, Until, Guests, Spend, Actions}
-use Rattle.pass_caveats.specs.declared.weekdays.Weekdays.{Weekdays as SomeWeekdays}
-use Rattle.club_values.specs.{Action.action_text, Day.{first_day, last_day}, Hour.hours_a_day, Moment.{first_moment, last_moment}, Number.number_limit}
-use Rattle.club_values.specs.{Slot.guests_limit, Weekday.weekdays, computed.TextOf.{two_at, day_of, moment_of, candidate_kind, is_name}}
+use Rattle.club_values.specs.{Kind.{action_text, weekdays}, Moment.{first_day, last_day, hours_a_day, first_moment, last_moment, guests_limit}}
+use Rattle.club_values.specs.{Number.number_limit, computed.TextOf.{two_at, day_of, moment_of, candidate_kind, is_name}}
+use Rattle.pass_caveats.specs.{Caveat.{caveat_text, max_caveat_len}, Choices.{all_actions, action_texts, max_names, comma_parts, weekday_text, weekday_texts}}
+use Rattle.pass_caveats.specs.declared.{actions.Actions.Actions as SomeActions, caveat.Caveat.{Caveat, TheVariants.{Facility, Kind, Hours, Days, Weekdays}}}
+use Rattle.pass_caveats.specs.declared.{caveat.Caveat.TheVariants.{Until, Guests, Spend, Actions}, weekdays.Weekdays.Weekdays as SomeWeekdays}
 
 -- Returns true if the first part equals the word.
 abbrev pub is_next : List ℕ → List (List ℕ) → Bool

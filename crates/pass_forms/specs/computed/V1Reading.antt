@@ -1,9 +1,8 @@
 -- Defines a parser of V1. Most functions parse a value at the start of the bytes, and return the
 -- value and the remaining bytes.
 use Rattle.std.specs.Prelude.{ℕ, ◌+◌, ◌-◌, ◌*◌, nat_le, ◌&&◌, if◌then◌else◌, List, [], ◌∷◌, length, take, drop, codes, Option, Some, None, Result}
-use Rattle.pass_forms.specs.{Pass.{Plain, WideCaveat, WidePass}, computed.Caveats.whole_at}
-use Rattle.pass_forms.specs.computed.{Parts.{◌>>=◌, after_prefix, before_suffix, found_or_none, last_signature}, Reading.reading_of}
-use Rattle.pass_forms.specs.declared.fault.FormFault.{FormFault}
+use Rattle.pass_forms.specs.{Pass.{Plain, WideCaveat, WidePass}, computed.Parts.{whole_at, ◌>>=◌, after_prefix, before_suffix, found_or_none, last_signature}}
+use Rattle.pass_forms.specs.{computed.Reading.reading_of, declared.fault.FormFault.FormFault}
 
 abbrev pub digit_value : ℕ → Option ℕ
 digit_value byte =

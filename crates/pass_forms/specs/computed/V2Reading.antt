@@ -2,8 +2,8 @@
 -- value and the remaining bytes.
 use Rattle.std.specs.Prelude.{ℕ, ◌+◌, ◌-◌, ◌*◌, ◌/◌, nat_lt, nat_le, ◌==◌, if◌then◌else◌, List, [], ◌∷◌, length, take, drop, Option, Some, None, Result}
 use Rattle.std.specs.Prelude.{unwrap_or}
-use Rattle.pass_forms.specs.{Pass.{Plain, WideCaveat, WidePass}, V2.{end_of_section, types}, computed.Caveats.whole_at}
-use Rattle.pass_forms.specs.{computed.{Parts.{◌>>=◌, after_prefix, found_or_none, last_signature}, Reading.reading_of}, declared.fault.FormFault.FormFault}
+use Rattle.pass_forms.specs.{Pass.{Plain, WideCaveat, WidePass}, V2.{end_of_section, types}, computed.Parts.{whole_at, ◌>>=◌, after_prefix, found_or_none}}
+use Rattle.pass_forms.specs.{computed.{Parts.last_signature, Reading.reading_of}, declared.fault.FormFault.FormFault}
 
 -- Combines the seven low bits of a number with its higher bits. The result is `None` if the higher
 -- bits are zero or the number is above `most`.

@@ -14,7 +14,7 @@ pub struct Buffer {
 
 impl Model for Buffer {
     ghost use Rattle.std.specs.Prelude.{ℕ, ◌≤◌, List, take};
-    ghost use Rattle.pass_forms.specs.Putting.{buffer_len};
+    ghost use Rattle.pass_forms.specs.Writing.{buffer_len};
 
     ghost Value = { List ℕ };
 
@@ -25,7 +25,7 @@ impl Model for Buffer {
 
 impl Buffer {
     ghost use Rattle.std.specs.Prelude.{◌≡◌, ◌≤◌, [], length};
-    ghost use Rattle.pass_forms.specs.Putting.{Puts, buffer_len};
+    ghost use Rattle.pass_forms.specs.Writing.{Puts, buffer_len};
 
     /// Returns an empty buffer.
     pub fn new() -> Buffer

@@ -1,7 +1,7 @@
 //! Writes a pass as the packets of V1.
 
 ghost use Rattle.std.specs.{List.flat_map, Prelude.{◌≡◌, ◌<◌, ◌≤◌, ◌^◌, length, map}};
-ghost use Rattle.pass_forms.specs.{Pass.widened_caveat, Putting.Puts};
+ghost use Rattle.pass_forms.specs.{Pass.widened_caveat, Writing.Puts};
 ghost use Rattle.pass_forms.specs.V1 as spec;
 
 use crate::v1::{CAVEAT, IDENTIFIER, LOCATION, Packets, SIGNATURE};

@@ -1,7 +1,7 @@
 //! Writes a pass as the sections of V2.
 
 ghost use Rattle.std.specs.{List.flat_map, Prelude.{◌<◌, ◌^◌, ◌++◌, map}};
-ghost use Rattle.pass_forms.specs.{Pass.widened_caveat, Putting.Puts, Writing.nonempty_location};
+ghost use Rattle.pass_forms.specs.{Pass.widened_caveat, Writing.{Puts, nonempty_location}};
 ghost use Rattle.pass_forms.specs.V2 as spec;
 
 use crate::v2::{END_OF_SECTION, IDENTIFIER, LOCATION, SIGNATURE, Sections, VERSION};

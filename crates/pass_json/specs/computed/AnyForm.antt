@@ -1,10 +1,16 @@
--- Computes the results of reading and writing a pass text in any form.
-use Rattle.std.specs.Prelude.{ℕ, List, Option, Result}
-use Rattle.pass_forms.specs.{Pass.{Plain, WidePass}, computed.{Text.text_reading, Writing.{writing_v1, writing_v2}}, declared.fault.FormFault.FormFault}
-use Rattle.pass_forms.specs.declared.form.Form.{Form, TheVariants.{V1, V2, Json}}
+-- Computes the results of reading and writing a pass text in any form. The JSON writer returns the
+-- text, or the first fault that applies.
 use Rattle.pass_forms.specs.computed.V1Reading as v1
 use Rattle.pass_forms.specs.computed.V2Reading as v2
-use Rattle.pass_json.specs.computed.{JsonReading.{reading_json, wide_json}, JsonWriting.writing_json}
+use Rattle.std.specs.Prelude.{ℕ, nat_lt, if◌then◌else◌, List, length, Result, Ok, Err, Option}
+use Rattle.pass_forms.specs.{Pass.{Plain, WidePass}, Reading.{max_caveats, max_text_len}, computed.Reading.{text_reading, writing_v1, writing_v2}}
+use Rattle.pass_forms.specs.declared.{fault.FormFault.{FormFault, TheVariants.{TooLong, TooMany}}, form.Form.{Form, TheVariants.{V1, V2, Json}}}
+use Rattle.pass_json.specs.{JsonWriting.json_text, computed.JsonReading.{reading_json, wide_json}}
+
+unfoldable pub writing_json : Plain → Result (List ℕ) FormFault
+writing_json pass =
+    if nat_lt max_caveats (length pass.caveats) then Err TooMany
+    else (if nat_lt max_text_len (length (json_text pass)) then Err TooLong else Ok (json_text pass))
 
 -- Returns the wide pass that the bytes encode in the given form, or `None`.
 unfoldable pub wide_in : Form → List ℕ → Option WidePass

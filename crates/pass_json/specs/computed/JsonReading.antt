@@ -1,11 +1,11 @@
 -- Defines a parser of the JSON form. Most functions parse one part of an object.
 use Rattle.std.specs.{List.list_any, Prelude.{◌≡◌, ℕ, ◌==◌, ◌&&◌, if◌then◌else◌, Bool, true, false, List, [], ◌∷◌, codes, length, map, Option, None, Some}}
 use Rattle.std.specs.{Prelude.{option_map, unwrap_or, Result}, Str.{bytes_eq, is_utf8}}
+use Rattle.pass_forms.specs.{Pass.{Plain, WideCaveat, WidePass, is_third_party, first_party_caveat}, computed.{Parts.◌>>=◌, Reading.{from_base64, reading_of}}}
+use Rattle.pass_forms.specs.declared.fault.FormFault.{FormFault, TheVariants.{Malformed, Memory}}
+use Rattle.pass_json.specs.Json.{caveat_names, pass_names}
 use Rattle.serde_json.specs.{Data.{Data, Items, no_items, item, Members, no_members, member}, Find.{get, as_array, as_number, as_object, as_str, as_u64}}
 use Rattle.serde_json.specs.Read.{read}
-use Rattle.pass_forms.specs.{Pass.{Plain, WideCaveat, WidePass, is_third_party, first_party_caveat}, computed.{Envelope.from_base64, Parts.{◌>>=◌}}}
-use Rattle.pass_forms.specs.{computed.Reading.reading_of, declared.fault.FormFault.{FormFault, TheVariants.{Malformed, Memory}}}
-use Rattle.pass_json.specs.Json.{caveat_names, pass_names}
 
 -- Decodes a base64 string. Returns `None` if the JSON value isn't a string or the string isn't
 -- base64.

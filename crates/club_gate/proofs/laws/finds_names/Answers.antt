@@ -1,8 +1,8 @@
-use Rattle.club_gate.proofs.Common.{Bool, List, None, Option, Some, arith, bytes_eq, codes, cond, drop, refl, sym, take, true, ℕ, ◌∙◌, ◌≡◌}
-use Rattle.club_gate.proofs.Common.{identifier_of, key_name_in, take-append-drop}
-use Rattle.std.proofs.lemmas.Slice.Eq.{bytes_eq-Decides}
-use Rattle.club_values.specs.{Laws.ReadsNames, Name.IsName, computed.TextOf.name_of_text}
 use Rattle.club_gate.proofs.laws.finds_names.Goals as goal
+use Rattle.std.proofs.{Common.{codes, cond, drop}, lemmas.{List.take-append-drop, Slice.Eq.bytes_eq-Decides}}
+use Rattle.club_gate.{proofs.Common.{Bool, List, None, Option, Some, arith, bytes_eq, refl, sym, take, true, ℕ, ◌∙◌, ◌≡◌}, specs.DecodedPass.identifier_of}
+use Rattle.club_gate.specs.DecodedPass.{key_name_in}
+use Rattle.club_values.specs.{Laws.ReadsNames, Name.IsName, computed.TextOf.name_of_text}
 
 found : (b : Bool) (o : Option (List ℕ)) (name : List ℕ) → cond b o None ≡ Some name → (b ≡ true) × (o ≡ Some name)
 found b o name e = grind arith

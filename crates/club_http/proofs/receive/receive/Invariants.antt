@@ -1,7 +1,7 @@
+use Rattle.club_http.proofs.receive.receive.Given as goal
 use Rattle.std.{proofs.Common.{◌≡◌, ◌≤◌, take, ◌-◌}, specs.Io.KnownBytes.Consumes}
 use Rattle.club_http.specs.Calls.{Gives}
-use Rattle.http_request.specs.HeadResult.{Covers}
-use Rattle.club_http.proofs.receive.receive.Given as goal
+use Rattle.http_request.specs.Frame.{Covers}
 
 abbrev pub invariant-loop-reader : goal.invariant-loop-reader
 invariant-loop-reader g l = record {

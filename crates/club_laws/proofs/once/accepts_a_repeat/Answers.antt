@@ -1,8 +1,8 @@
 use Rattle.club_core.specs.declared.request.Request.TheVariants as asked
 use Rattle.club_laws.proofs.once.accepts_a_repeat.Goals as goal
-use Rattle.club_core.specs.Examples.{opened_club, slot_at, noon, late, root, ask}
-use Rattle.club_laws.proofs.{AnswerCases.basis_with, Common.{[], ◌∷◌, Some, None, Ok, refl, inl, true, false, codes, All-nil, All-cons, IsAllowedBy, ask_of}}
-use Rattle.club_laws.{proofs.Common.{Basis, view_of, club_after}, specs.ExampleRuns.{booked_then_cancelled, words_again}}
+use Rattle.std.proofs.{Common.{[], ◌∷◌, Some, None, Ok, refl, inl, true, false, codes}, lemmas.List.Elements.{All-nil, All-cons}}
+use Rattle.club_core.specs.{Answer.ask_of, Basis.{Basis, view_of}, Examples.{opened_club, slot_at, noon, late, root, ask}, Laws.IsAllowedBy, Run.club_after}
+use Rattle.club_laws.{proofs.AnswerCases.basis_with, specs.Examples.{booked_then_cancelled, words_again}}
 use Rattle.pass_caveats.specs.declared.caveat.Caveat.TheVariants.{Spend}
 
 -- The basis of the repeated request.

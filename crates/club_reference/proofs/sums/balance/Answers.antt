@@ -1,7 +1,7 @@
 use Rattle.club_reference.proofs.sums.balance.Goals as goal
 use Rattle.std.proofs.Common.{◌∙◌}
-use Rattle.club_core.specs.Sums.{cost_of}
-use Rattle.club_reference.{proofs.StepLemmas.fold_less, specs.Ownership.own_bookings}
+use Rattle.club_core.specs.Club.{cost_of}
+use Rattle.club_reference.{proofs.StepLemmas.fold_less, specs.Widths.own_bookings}
 
 pub returns : goal.returns
 returns c =

@@ -1,8 +1,8 @@
-use Rattle.club_reference.specs.Ownership.{is_key_of}
-use Rattle.std.proofs.{Common.{◌∙◌, ◌==◌, ◌&&◌, rules, tests}, lemmas.Iterator.YieldsList-from_slice}
-use Rattle.std.{proofs.lemmas.Iterator.{Consumers.YieldsList-from_filter, Search.find_from_yields_List}, specs.Str.bytes_eq}
-use Rattle.club_rows.specs.declared.booking.Booking.{Booking}
 use Rattle.club_reference.proofs.sums.recorded_booking.Goals as goal
+use Rattle.std.proofs.{Common.{◌∙◌, ◌==◌, ◌&&◌, rules, tests}, lemmas.Iterator.{YieldsList-from_slice, Consumers.YieldsList-from_filter}}
+use Rattle.std.{proofs.lemmas.Iterator.Search.find_from_yields_List, specs.Str.bytes_eq}
+use Rattle.club_reference.specs.Widths.{is_key_of}
+use Rattle.club_rows.specs.declared.booking.Booking.{Booking}
 
 pub returns : goal.returns
 returns c =

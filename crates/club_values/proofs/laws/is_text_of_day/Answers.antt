@@ -1,6 +1,6 @@
 use Rattle.club_values.proofs.laws.is_text_of_day.Goals as goal
 use Rattle.std.proofs.Common.{List, ℕ, subst, sym}
-use Rattle.club_values.{proofs.DayLemmas.{spells-day_text, day_text-spells}, specs.Day.SpellsDay}
+use Rattle.club_values.{proofs.DayLemmas.{spells-day_text, day_text-spells}, specs.Moment.SpellsDay}
 
 pub returns : goal.returns
 returns c = λ text n.

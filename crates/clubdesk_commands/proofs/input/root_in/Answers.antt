@@ -1,7 +1,7 @@
-use Rattle.std.proofs.{Common.{◌∙◌, ap, sym, refl}, lemmas.{Bool.{cond-false, false_from_ne_true}, Str.{IsUtf8-from_is_utf8, is_utf8-from_IsUtf8}}}
-use Rattle.clubdesk_commands.specs.Input.{root_of_text}
-use Rattle.clubdesk_arguments.specs.Values.{key_root_of}
 use Rattle.clubdesk_commands.proofs.input.root_in.Goals as goal
+use Rattle.std.proofs.{Common.{◌∙◌, ap, sym, refl}, lemmas.{Bool.{cond-false, false_from_ne_true}, Str.{IsUtf8-from_is_utf8, is_utf8-from_IsUtf8}}}
+use Rattle.clubdesk_arguments.specs.Values.{key_root_of}
+use Rattle.clubdesk_commands.specs.HandedCommand.{root_of_text}
 
 pub returns-in-Ok : goal.returns-in-Ok
 returns-in-Ok c =

@@ -1,5 +1,5 @@
 use Rattle.std.{proofs.Common.{map, refl}, specs.String.string_bytes}
-use Rattle.clubdesk_commands.specs.Process as spec
+use Rattle.clubdesk_commands.specs.Run as spec
 use Rattle.clubdesk_commands.proofs.process.run_process.Goals as goal
 
 pub returns-in-Ok : goal.returns-in-Ok

@@ -1,5 +1,5 @@
 use Rattle.std.proofs.Common.{◌≡◌, arith}
-use Rattle.clubdesk_files.specs.Attempts as spec
+use Rattle.clubdesk_files.specs.Retried as spec
 use Rattle.clubdesk_files.proofs.attempts.gain.Goals as goal
 
 pub loop-tried-init : goal.loop-tried-init

@@ -1,14 +1,14 @@
-use Rattle.std.proofs.{Common.{◌≡◌, ◌⊎◌, inl, inr, List, [], ◌∷◌, All, refl, subst, sym}, Math.Logic.{∥∥₁_map}}
-use Rattle.std.proofs.lemmas.List.Elements.{All-nil, All-cons, All-head, All-tail, All-weaker}
 use Rattle.sqlite_disk.specs.declared.Disk as disk
-use Rattle.sqlite.specs.{Files.file_state, Held.Held, Recovery.Image, Tree.Trees, declared.FileStore.FileStore}
-use Rattle.club_core.specs.{Club.{Club, IsSound}, Run.Event}
-use Rattle.club_laws.specs.RunsWithFailures.{RepeatsServedReplies}
-use Rattle.club_store.specs.Crash.{HoldsOneOf, RepresentsOne}
-use Rattle.club_tables.specs.Tables.{IsLeftOf}
-use Rattle.club_gate.specs.Runs.{IsWithinOneEvent, MayBeLeft, DeskResponse, club_left, responses_of}
-use Rattle.desk_theorem.specs.Crash.{IsReopened, RecoversAfterRun}
 use Rattle.desk_theorem.proofs.crash.run_and_leave.Goals as goal
+use Rattle.std.proofs.{Common.{◌≡◌, ◌⊎◌, inl, inr, List, [], ◌∷◌, All, refl, subst, sym}, Math.Logic.∥∥₁_map, lemmas.List.Elements.{All-nil, All-cons}}
+use Rattle.std.proofs.lemmas.List.Elements.{All-head, All-tail, All-weaker}
+use Rattle.club_core.specs.{Club.{Club, IsSound}, Run.Event}
+use Rattle.club_gate.specs.Runs.{IsWithinOneEvent, MayBeLeft, DeskResponse, club_left, responses_of}
+use Rattle.club_laws.specs.RunsWithFailures.{RepeatsServedReplies}
+use Rattle.club_store.specs.Opening.{HoldsOneOf, RepresentsOne}
+use Rattle.club_tables.specs.Tables.{IsLeftOf}
+use Rattle.desk_theorem.specs.Crash.{IsReopened, RecoversAfterRun}
+use Rattle.sqlite.specs.{Files.file_state, Held.Held, Recovery.Image, Tree.Trees, declared.FileStore.FileStore}
 
 -- The club `now` is the club after the run, or another club that a crash after the run may leave.
 abbrev IsOf : Club → List Club → List Event → List DeskResponse → Club → Type 0

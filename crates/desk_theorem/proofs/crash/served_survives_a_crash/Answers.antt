@@ -1,11 +1,11 @@
+use Rattle.desk_theorem.proofs.crash.served_survives_a_crash.Goals as goal
 use Rattle.std.proofs.{Common.{inl, inr, List, [], ◌∷◌, All, refl, arith}, Math.Logic.∥∥₁_map, lemmas.List.Elements.{All-head, All-tail, Contains-append_right}}
 use Rattle.club_core.specs.{Club.Club, Run.Event}
 use Rattle.club_gate.specs.Runs.{DeskResponse}
 use Rattle.club_laws.specs.RunsWithFailures.{RepeatsServedReplies}
-use Rattle.club_store.specs.Crash.{RepresentsOne}
+use Rattle.club_store.specs.Opening.{RepresentsOne}
 use Rattle.desk_theorem.specs.Crash.{RecoversOne}
 use Rattle.sqlite.specs.{Files.file_state, State.State}
-use Rattle.desk_theorem.proofs.crash.served_survives_a_crash.Goals as goal
 
 one_of : (state : State) (clubs : List Club) (events : List Event) (returned : List DeskResponse)
     → All (λ (c : Club). RepeatsServedReplies c events returned) clubs

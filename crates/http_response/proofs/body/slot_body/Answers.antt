@@ -1,6 +1,6 @@
 use Rattle.http_response.proofs.body.slot_body.Goals as goal
 use Rattle.std.proofs.Common.{codes, [], ◌∷◌}
-use Rattle.club_values.specs.{Day.day_text, Kind.kind_text}
+use Rattle.club_values.specs.{Kind.kind_text, Moment.day_text}
 use Rattle.http_response.{proofs.BodyLemmas.written_object, specs.Body.{text, number, truth}}
 
 pub returns : goal.returns

@@ -1,9 +1,8 @@
+use Rattle.pass_c.proofs.laws.readable_passes_fit.Goals as goal
 use Rattle.std.proofs.Common.{ℕ, ◌≤◌, List, length, arith}
+use Rattle.pass_c.{proofs.FormBytes.{base64_fits, json_fits, v1_fits, v2_fits}, specs.Object.fields_len}
 use Rattle.pass_forms.specs.{Envelope.Wraps, Pass.{Plain, as_wide_pass}, declared.form.Form.Form}
 use Rattle.pass_json.specs.AnyForm.{SpellsForm}
-use Rattle.pass_c.proofs.FormBytes.{base64_fits, json_fits, v1_fits, v2_fits}
-use Rattle.pass_c.proofs.laws.readable_passes_fit.Goals as goal
-use Rattle.pass_c.specs.Laws.{fields_len}
 
 wrapped_fits : (text : List ℕ) (form : Form) (bytes : List ℕ) → Wraps text form bytes → length bytes ≤ length text
 wrapped_fits text form bytes h = grind (arith, base64_fits)

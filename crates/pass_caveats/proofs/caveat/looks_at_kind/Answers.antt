@@ -1,5 +1,6 @@
 use Rattle.pass_caveats.proofs.caveat.looks_at_kind.Goals as goal
-use Rattle.pass_caveats.{proofs.{CaveatLemmas.blind_of, Common.{◌∙◌, ap, caveat_of, refl}}, specs.Kinds.is_on_kind}
+use Rattle.std.proofs.Common.{◌∙◌, ap, refl}
+use Rattle.pass_caveats.{proofs.CaveatLemmas.blind_of, specs.{Fault.is_on_kind, computed.CaveatOf.caveat_of}}
 
 pub returns-in-Some-clause-off_kind : goal.returns-in-Some-clause-off_kind
 returns-in-Some-clause-off_kind c = λ blind.

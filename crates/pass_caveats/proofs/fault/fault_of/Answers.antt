@@ -1,5 +1,6 @@
 use Rattle.pass_caveats.proofs.fault.fault_of.Goals as goal
-use Rattle.pass_caveats.proofs.{CaveatLemmas.{text_at, first_fault_at, one_more}, Common.{map, arith, vec_items, length-map, take_all}}
+use Rattle.std.{proofs.{Common.{map, arith}, lemmas.List.{length-map, take_all}}, specs.Vec.vec_items}
+use Rattle.pass_caveats.proofs.CaveatLemmas.{text_at, first_fault_at, one_more}
 
 pub returns-in-Some : goal.returns-in-Some
 returns-in-Some c =

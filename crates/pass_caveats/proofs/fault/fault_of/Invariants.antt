@@ -1,5 +1,6 @@
-use Rattle.pass_caveats.proofs.Common.{map, take, vec_items, Allowed}
 use Rattle.pass_caveats.proofs.fault.fault_of.Given as goal
+use Rattle.std.{proofs.Common.{map, take}, specs.Vec.vec_items}
+use Rattle.pass_caveats.specs.Fault.{Allowed}
 
 -- All caveats before the current index allow the request.
 abbrev pub invariant-loop-index : goal.invariant-loop-index

@@ -1,5 +1,5 @@
-use Rattle.pass_caveats.proofs.Common.{refl}
 use Rattle.pass_caveats.proofs.fault.fault_of_text.Goals as goal
+use Rattle.std.proofs.Common.{refl}
 
 pub returns-in_default : goal.returns-in_default
 returns-in_default c = (refl, c.in_default.ensures.understood)

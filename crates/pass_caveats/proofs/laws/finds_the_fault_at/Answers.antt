@@ -1,6 +1,6 @@
 use Rattle.pass_caveats.proofs.laws.finds_the_fault_at.Goals as goal
-use Rattle.pass_caveats.proofs.{CaveatLemmas.{finds_fault_at, reads_caveat_of}, Common.{◌≡◌, ◌↔◌, [], ◌∷◌, Option, subst, sym, Caveat, IsFaultAt}}
-use Rattle.pass_caveats.proofs.Common.{first_fault_from}
+use Rattle.std.proofs.Common.{◌≡◌, ◌↔◌, [], ◌∷◌, Option, subst, sym}
+use Rattle.pass_caveats.{proofs.CaveatLemmas.{finds_fault_at, reads_caveat_of}, specs.{Fault.{IsFaultAt, first_fault_from}, declared.caveat.Caveat.Caveat}}
 
 pub returns : goal.returns
 returns c = λ text caveat n ask fault understood.

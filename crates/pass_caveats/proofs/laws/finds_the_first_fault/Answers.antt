@@ -1,6 +1,7 @@
 use Rattle.pass_caveats.proofs.laws.finds_the_first_fault.Goals as goal
-use Rattle.pass_caveats.proofs.{CaveatLemmas.{all_caveats_of, is_first_fault, first_fault_of-is_first}, Common.{◌≡◌, ◌↔◌, List, Option, subst, sym, Caveat}}
-use Rattle.pass_caveats.proofs.Common.{CaveatFault, IsFirstFault, first_fault_of}
+use Rattle.std.proofs.Common.{◌≡◌, ◌↔◌, List, Option, subst, sym}
+use Rattle.pass_caveats.{proofs.CaveatLemmas.{all_caveats_of, is_first_fault, first_fault_of-is_first}, specs.Fault.{IsFirstFault, first_fault_of}}
+use Rattle.pass_caveats.specs.declared.{caveat.Caveat.Caveat, fault.CaveatFault.CaveatFault}
 
 pub returns : goal.returns
 returns c = λ texts caveats ask fault understood.

@@ -1,5 +1,6 @@
 use Rattle.pass_caveats.proofs.lines.read_days.Goals as goal
-use Rattle.pass_caveats.proofs.{ChoiceLemmas.{dates_of, no_first_day, no_dots, no_second_day, spells_days, days_fall}, Common.{arith, nat_tests}}
+use Rattle.std.proofs.{Common.arith, lemmas.Bool.Decides.nat_tests}
+use Rattle.pass_caveats.proofs.ChoiceLemmas.{dates_of, no_first_day, no_dots, no_second_day, spells_days, days_fall}
 
 pub returns-then-rest-lt10 : goal.returns-then-rest-lt10
 returns-then-rest-lt10 c = λ x h.

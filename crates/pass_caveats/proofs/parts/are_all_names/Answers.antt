@@ -1,5 +1,7 @@
 use Rattle.pass_caveats.proofs.parts.are_all_names.Goals as goal
-use Rattle.pass_caveats.proofs.{ChoiceLemmas.all_from_all, Common.{◌==◌, rules, List, ℕ, tests, cases_from_all, YieldsList-from_slice_split, IsName}}
+use Rattle.std.proofs.{Common.{◌==◌, rules, List, ℕ, tests}, lemmas.Iterator.{cases_from_all, Splits.YieldsList-from_slice_split}}
+use Rattle.club_values.specs.Name.{IsName}
+use Rattle.pass_caveats.proofs.ChoiceLemmas.{all_from_all}
 
 pub returns : goal.returns
 returns c =

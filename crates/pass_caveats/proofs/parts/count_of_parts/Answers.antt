@@ -1,6 +1,5 @@
-use Rattle.pass_caveats.proofs.Common.{◌==◌, rules, tests, YieldsList-from_slice_split}
-use Rattle.std.proofs.lemmas.Iterator.Consumers.{count_from_yields_List}
 use Rattle.pass_caveats.proofs.parts.count_of_parts.Goals as goal
+use Rattle.std.proofs.{Common.{◌==◌, rules, tests}, lemmas.Iterator.{Consumers.count_from_yields_List, Splits.YieldsList-from_slice_split}}
 
 pub returns : goal.returns
 returns c =

@@ -1,7 +1,7 @@
 use Rattle.pass_caveats.proofs.parts.first_part.Goals as goal
-use Rattle.std.proofs.lemmas.List.Splits.{slice_split_none}
-use Rattle.pass_caveats.proofs.{ChoiceLemmas.{parts_of-comma, tail_is}, Common.{rules, ◌≡◌, ◌≢◌, tests, IsFirst-from_position, YieldsList-from_slice, arith}}
-use Rattle.pass_caveats.proofs.Common.{nat_tests, common_steps}
+use Rattle.std.proofs.{Common.{rules, ◌≡◌, ◌≢◌, tests, arith}, lemmas.{Bool.Decides.nat_tests, Grind.common_steps, Iterator.IsFirst-from_position}}
+use Rattle.std.proofs.lemmas.{Iterator.YieldsList-from_slice, List.Splits.slice_split_none}
+use Rattle.pass_caveats.proofs.ChoiceLemmas.{parts_of-comma, tail_is}
 
 pub returns-in-Some : goal.returns-in-Some
 returns-in-Some c =

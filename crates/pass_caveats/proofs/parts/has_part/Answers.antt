@@ -1,5 +1,6 @@
 use Rattle.pass_caveats.proofs.parts.has_part.Goals as goal
-use Rattle.pass_caveats.proofs.{ChoiceLemmas.contains_from_any, Common.{◌==◌, rules, List, ℕ, ◌≡◌, ◌≢◌, tests, cases_from_any, YieldsList-from_slice_split}}
+use Rattle.std.proofs.{Common.{◌==◌, rules, List, ℕ, ◌≡◌, ◌≢◌, tests}, lemmas.Iterator.{cases_from_any, Splits.YieldsList-from_slice_split}}
+use Rattle.pass_caveats.proofs.ChoiceLemmas.{contains_from_any}
 
 pub returns : goal.returns
 returns c =

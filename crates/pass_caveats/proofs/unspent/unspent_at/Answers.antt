@@ -1,5 +1,6 @@
 use Rattle.pass_caveats.proofs.unspent.unspent_at.Goals as goal
-use Rattle.pass_caveats.{proofs.{CaveatLemmas.{holds_allowed, holds_denied}, Common.{◌≡◌, true, false, permits}}, specs.Spending.after_spending}
+use Rattle.std.proofs.Common.{◌≡◌, true, false}
+use Rattle.pass_caveats.{proofs.CaveatLemmas.{holds_allowed, holds_denied}, specs.{Caveat.permits, Spending.after_spending}}
 
 pub returns-then-not-allows : goal.returns-then-not-allows
 returns-then-not-allows c =

@@ -1,5 +1,6 @@
 use Rattle.pass_forms.proofs.write.write_in.Goals as goal
-use Rattle.pass_forms.proofs.{Common.{arith, length-map}, WrittenLemmas.{too_long, written}}
+use Rattle.std.proofs.lemmas.List.{length-map}
+use Rattle.pass_forms.proofs.{Common.arith, WrittenLemmas.{too_long, written}}
 
 pub returns-in_err-put_pass-clause-written : goal.returns-in_err-put_pass-clause-written
 returns-in_err-put_pass-clause-written g c = grind (arith, length-map, too_long)

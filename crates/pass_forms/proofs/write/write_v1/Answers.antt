@@ -1,6 +1,6 @@
 use Rattle.pass_forms.proofs.write.write_v1.Goals as goal
 use Rattle.std.specs.String.{string_bytes}
-use Rattle.pass_forms.proofs.{Common.writing_v1, WrittenLemmas.{keeps_promises, v1_form}}
+use Rattle.pass_forms.{proofs.WrittenLemmas.{keeps_promises, v1_form}, specs.computed.Reading.writing_v1}
 
 pub returns : goal.returns
 unfolding writing_v1

@@ -1,6 +1,6 @@
 use Rattle.pass_forms.proofs.write.write_v2.Goals as goal
 use Rattle.std.specs.String.{string_bytes}
-use Rattle.pass_forms.proofs.{Common.writing_v2, WrittenLemmas.{keeps_promises, v2_form}}
+use Rattle.pass_forms.{proofs.WrittenLemmas.{keeps_promises, v2_form}, specs.computed.Reading.writing_v2}
 
 pub returns : goal.returns
 unfolding writing_v2

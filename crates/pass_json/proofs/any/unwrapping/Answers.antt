@@ -1,6 +1,7 @@
 use Rattle.pass_json.proofs.any.unwrapping.Goals as goal
-use Rattle.pass_json.proofs.Common.{◌≡◌, rules, ◌≤◌, length, Ok, Err, ap, err_from_is_err_and, FormFault, Memory, IsUnwrapped, max_text_len, IsAnyReading}
-use Rattle.pass_json.proofs.{Common.IsReadingInForm, ExactLemmas.{unless_memory, may_run_out}}
+use Rattle.std.proofs.{Common.{◌≡◌, rules, ◌≤◌, length, Ok, Err, ap}, lemmas.Result.err_from_is_err_and}
+use Rattle.pass_forms.specs.{Envelope.IsUnwrapped, Reading.max_text_len, declared.fault.FormFault.{FormFault, TheVariants.Memory}}
+use Rattle.pass_json.{proofs.ExactLemmas.{unless_memory, may_run_out}, specs.AnyForm.{IsAnyReading, IsReadingInForm}}
 
 pub returns-in_err-pass-clause-spelling : goal.returns-in_err-pass-clause-spelling
 returns-in_err-pass-clause-spelling c =

@@ -1,8 +1,8 @@
-use Rattle.pass_json.proofs.Common.{Bor, List, Members, Option, [], ap, false, has_only_names, map, only_among, option_map, refl, unwrap_or, ℕ, ◌∙◌, ◌∷◌, ◌≡◌}
-use Rattle.pass_json.proofs.Common.{arith, bytes_eq, list_all, list_any, members_view}
-use Rattle.std.specs.{Map.keys_of, String.string_bytes, declared.{alloc.Global.Global, string.String.String}}
-use Rattle.serde_json.specs.declared.value.Value.{Value}
 use Rattle.pass_json.proofs.names.has_only_names.Goals as goal
+use Rattle.std.{proofs.Common.{Bor, List, Option, [], ap, false, map, refl, ℕ, ◌∙◌, ◌∷◌, ◌≡◌, arith}, specs.{List.{list_all, list_any}, Map.keys_of}}
+use Rattle.std.specs.{Option.{option_map, unwrap_or}, Str.bytes_eq, String.string_bytes, declared.{alloc.Global.Global, string.String.String}}
+use Rattle.pass_json.specs.computed.JsonReading.{has_only_names, only_among}
+use Rattle.serde_json.specs.{Data.Members, View.members_view, declared.value.Value.Value}
 
 one_among : (key : List ℕ) (names : List (Bor (List ℕ))) →
     list_any (λ name. bytes_eq key name.now) names ≡ list_any (bytes_eq key) (map (λ name. name.now) names)

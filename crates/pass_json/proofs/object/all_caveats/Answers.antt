@@ -1,6 +1,6 @@
 use Rattle.pass_json.proofs.object.all_caveats.Goals as goal
-use Rattle.std.proofs.lemmas.List.{map_push}
-use Rattle.pass_json.proofs.{Common.arith, ObjectLemmas.{one_more, all_read, one_refused}}
+use Rattle.std.proofs.{Common.arith, lemmas.List.map_push}
+use Rattle.pass_json.proofs.ObjectLemmas.{one_more, all_read, one_refused}
 
 pub returns-in_err-found-clause-err : goal.returns-in_err-found-clause-err
 returns-in_err-found-clause-err c = grind (arith, one_refused)

@@ -1,9 +1,10 @@
-use Rattle.pass_json.proofs.Common.{Bool, Global, List, Vec, [], ap, arith, codes, common_steps, length, map, option_map, sym, true, unwrap_or, ℕ, ◌∙◌, ◌≡◌}
-use Rattle.pass_json.proofs.Common.{Data, Option, Some, field_from, get, has_only_names, pass_names}
-use Rattle.pass_json.proofs.Common.{caveat_list, is_version, kept_caveats, must_have, pass_from, signature_from}
-use Rattle.std.proofs.lemmas.List.{length-map}
-use Rattle.pass_forms.specs.computed.Reading.{pass_summary}
 use Rattle.pass_json.proofs.object.pass_from.Goals as goal
+use Rattle.std.proofs.{Common.{Bool, Global, List, Vec, [], ap, arith, codes, length, map, sym, true, ℕ, ◌∙◌, ◌≡◌, Option, Some}, lemmas.Grind.common_steps}
+use Rattle.std.{proofs.lemmas.List.length-map, specs.Option.{option_map, unwrap_or}}
+use Rattle.pass_forms.specs.computed.Reading.{pass_summary}
+use Rattle.pass_json.specs.{Json.pass_names, computed.JsonReading.{field_from, has_only_names, caveat_list, is_version, kept_caveats, must_have, pass_from}}
+use Rattle.pass_json.specs.computed.JsonReading.{signature_from}
+use Rattle.serde_json.specs.{Data.Data, Find.get}
 
 kept_pass : (value : Data) (location : Option (List ℕ)) (identifier : List ℕ) (identifiers : List (List ℕ)) (third_party : Bool) (signature : List ℕ)
     → has_only_names pass_names value ≡ true → is_version (get (codes "v") value) ≡ true → field_from (codes "l") (codes "l64") value ≡ Some location

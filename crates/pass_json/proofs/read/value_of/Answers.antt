@@ -1,5 +1,6 @@
 use Rattle.pass_json.proofs.read.value_of.Goals as goal
-use Rattle.pass_json.proofs.Common.{IsUtf8-from_is_utf8, arith, is_utf8-from_IsUtf8, value_of}
+use Rattle.std.proofs.{Common.arith, lemmas.Str.{IsUtf8-from_is_utf8, is_utf8-from_IsUtf8}}
+use Rattle.pass_json.specs.computed.JsonReading.{value_of}
 
 pub returns-in-Ok-clause-ok : goal.returns-in-Ok-clause-ok
 unfolding value_of

@@ -1,5 +1,6 @@
 use Rattle.pass_json.proofs.write.put_field.Goals as goal
-use Rattle.pass_json.proofs.Common.{IsUtf8-from_is_utf8, arith, is_utf8-from_IsUtf8, put_member}
+use Rattle.std.proofs.{Common.arith, lemmas.Str.{IsUtf8-from_is_utf8, is_utf8-from_IsUtf8}}
+use Rattle.pass_json.specs.JsonWriting.{put_member}
 
 pub returns-in_ok-try_from_str-in-Ok-clause-members : goal.returns-in_ok-try_from_str-in-Ok-clause-members
 unfolding put_member

@@ -1,6 +1,6 @@
 use Rattle.pass_json.proofs.write.text_of.Goals as goal
 use Rattle.std.proofs.Common.{arith}
-use Rattle.pass_json.proofs.{Common.json_text, ObjectLemmas.object_is_fine}
+use Rattle.pass_json.{proofs.ObjectLemmas.object_is_fine, specs.JsonWriting.json_text}
 
 pub returns-clause-text : goal.returns-clause-text
 unfolding json_text

@@ -1,6 +1,6 @@
 use Rattle.pass_json.proofs.write.write_json.Goals as goal
-use Rattle.std.{proofs.lemmas.Bool.Decides.nat_tests, specs.String.string_bytes}
-use Rattle.pass_json.{proofs.{Common.{IfOk-weaker, arith}, WrittenLemmas.written_if}, specs.computed.JsonWriting.writing_json}
+use Rattle.std.{proofs.{Common.arith, lemmas.{Bool.Decides.nat_tests, Result.IfOk-weaker}}, specs.String.string_bytes}
+use Rattle.pass_json.{proofs.WrittenLemmas.written_if, specs.computed.AnyForm.writing_json}
 
 pub returns-clause-ok : goal.returns-clause-ok
 returns-clause-ok c =

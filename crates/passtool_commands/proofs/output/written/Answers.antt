@@ -1,6 +1,6 @@
 use Rattle.passtool_commands.proofs.output.written.Goals as goal
 use Rattle.std.{proofs.{Common.{◌≡◌, arith}, lemmas.{Grind.common_steps, Result.err_from_is_err_and}}, specs.String.string_bytes}
-use Rattle.passtool_commands.{proofs.CommandLemmas.{refused, written_text}, specs.{Listing.with_line_feed, declared.answer.Outcome.TheVariants.Done}}
+use Rattle.passtool_commands.{proofs.CommandLemmas.{refused, written_text}, specs.{Answer.with_line_feed, declared.answer.Outcome.TheVariants.Done}}
 
 pub returns-in_err-text : goal.returns-in_err-text
 returns-in_err-text c =

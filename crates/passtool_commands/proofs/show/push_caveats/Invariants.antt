@@ -1,7 +1,7 @@
 -- The current text and the lines of the remaining caveats make up the whole text.
 use Rattle.passtool_commands.proofs.show.push_caveats.Given as goal
 use Rattle.std.{proofs.Common.{◌≡◌, ◌+◌, ◌++◌, drop}, specs.String.string_bytes}
-use Rattle.passtool_commands.{proofs.CommandLemmas.items, specs.Listing.caveat_lines}
+use Rattle.passtool_commands.{proofs.CommandLemmas.items, specs.Answer.caveat_lines}
 
 abbrev pub invariant-loop-index : goal.invariant-loop-index
 invariant-loop-index l =

@@ -1,6 +1,7 @@
 use Rattle.club_core.specs.declared.request.Request.TheVariants as asked
 use Rattle.club_gate.proofs.desk.Desk.account_view.Goals as goal
-use Rattle.club_gate.proofs.{Common.{◌≡◌, Some, refl, ◌∙◌, sym, rules, view_in}, DeskLemmas.reads, VerifyLemmas.account_seen}
+use Rattle.club_core.specs.Basis.{view_in}
+use Rattle.club_gate.proofs.{Common.{◌≡◌, Some, refl, ◌∙◌, sym, rules}, DeskLemmas.reads, VerifyLemmas.account_seen}
 
 pub returns-in-Some-2 : goal.returns-in-Some-2
 returns-in-Some-2 g c = reads g.met.S.ClubStore.sound (search rules) (λ was_clean club others represents sound.

@@ -1,7 +1,8 @@
 use Rattle.club_gate.proofs.desk.Desk.answer_to.Given as given
 use Rattle.club_gate.proofs.desk.Desk.answer_to.Goals as goal
-use Rattle.club_gate.proofs.{Common.{All-head, Club, FitsIfAny, IsSound, List, Ok, arith, office_verdict, sym, ◌≡◌}, DeskLemmas.{command_done, command_failed}}
-use Rattle.club_gate.proofs.{DeskLemmas.command_fits, desk.Desk.answer_to.Goals.After-settle}
+use Rattle.club_core.specs.Office.{office_verdict}
+use Rattle.club_gate.proofs.{Common.{All-head, Club, FitsIfAny, IsSound, List, Ok, arith, sym, ◌≡◌}, DeskLemmas.{command_done, command_failed, command_fits}}
+use Rattle.club_gate.proofs.desk.Desk.answer_to.Goals.{After-settle}
 
 decided : (g : given.Over) (c : After-settle g) → g.S.ClubStore.ghosts.is_clean c.settle.new.self → (club : Club) (others : List Club)
     → g.S.ClubStore.ghosts.represents c.args.self.now club others → (office_verdict club c.args.command.now ≡ Ok c.in-Ok.change)

@@ -1,7 +1,8 @@
 use Rattle.club_gate.proofs.desk.Desk.ask.Goals as goal
 use Rattle.std.specs.Result.{result_unwrap_or}
-use Rattle.club_gate.proofs.Common.{Err, Reply, Result, StoreFault, arith, decoded_words, refl, reply_or_unavailable, unavailable, verdict_in, ◌∙◌, ◌≡◌}
-use Rattle.club_gate.proofs.{Common.decoded_pass, DeskLemmas.{lawful, reply_or_failure}}
+use Rattle.club_core.specs.declared.reply.Reply.{Reply}
+use Rattle.club_gate.proofs.{Common.{Err, Result, StoreFault, arith, decoded_words, refl, verdict_in, ◌∙◌, ◌≡◌}, DeskLemmas.{lawful, reply_or_failure}}
+use Rattle.club_gate.specs.{Response.{reply_or_unavailable, unavailable}, computed.DecodedPass.decoded_pass}
 
 reply_is : (result : Result Reply StoreFault) → result_unwrap_or result unavailable ≡ reply_or_unavailable result
 reply_is result = grind arith

@@ -1,9 +1,9 @@
 use Rattle.club_core.specs.Run as machine
 use Rattle.club_gate.proofs.desk.Desk.follow.Goals as goal
-use Rattle.std.proofs.lemmas.Grind.{common_steps}
-use Rattle.club_gate.proofs.Common.{◌≡◌, [], ◌∷◌, ◌++◌, ◌+◌, ◌∙◌, length, take, ap, sym, subst, arith, length-map, length-take, map-append, take_more, All-nil}
-use Rattle.club_gate.proofs.{Common.{All-push, IsEvent, Steps, response_of, responses_of, IsEventOfBytes, machine_events, machine_event}, DeskLemmas.event_is}
-use Rattle.club_gate.{proofs.FollowedRuns.{followed_none, followed_more}, specs.Runs.AreHandled.{no_event, one_event}}
+use Rattle.std.proofs.{Common.◌+◌, lemmas.{Grind.common_steps, List.{length-map, length-take, map-append, take_more, Elements.All-push}}}
+use Rattle.club_gate.proofs.Common.{◌≡◌, [], ◌∷◌, ◌++◌, ◌∙◌, length, take, ap, sym, subst, arith, All-nil, IsEvent, Steps, responses_of, IsEventOfBytes}
+use Rattle.club_gate.{proofs.{Common.machine_events, DeskLemmas.event_is, FollowedRuns.{followed_none, followed_more}}, specs.Response.response_of}
+use Rattle.club_gate.specs.{Runs.AreHandled.{no_event, one_event}, computed.DecodedPass.machine_event}
 
 pub loop-event-init : goal.loop-event-init
 loop-event-init g c = record {

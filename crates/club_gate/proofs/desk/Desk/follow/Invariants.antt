@@ -1,6 +1,7 @@
-use Rattle.club_gate.proofs.Common.{◌≡◌, All, List, ◌≤◌, length, take, vec_capacity, vec_len, Club, IsEvent, AreHandled, IsFollowed, responses_of}
-use Rattle.club_gate.proofs.Common.{IsEventOfBytes, machine_events}
 use Rattle.club_gate.proofs.desk.Desk.follow.Given as goal
+use Rattle.std.proofs.Common.{vec_capacity, vec_len}
+use Rattle.club_gate.{proofs.Common.{◌≡◌, All, List, ◌≤◌, length, take, Club, IsEvent, responses_of, IsEventOfBytes, machine_events}, specs.Runs.AreHandled}
+use Rattle.club_gate.specs.Runs.{IsFollowed}
 
 abbrev pub invariant-loop-event : goal.invariant-loop-event
 invariant-loop-event g l = record {

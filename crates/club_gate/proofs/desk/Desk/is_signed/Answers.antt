@@ -1,10 +1,11 @@
 use Rattle.club_gate.proofs.desk.Desk.is_signed.Given as given
 use Rattle.club_gate.proofs.desk.Desk.is_signed.Goals as goal
-use Rattle.club_core.specs.KeyParts.{older_root_of}
-use Rattle.club_gate.proofs.Common.{Bool, Key, List, Plain, [], ap, arith, drop, is_signed, pass_fields, refl, row_of_key, rules, sym, ℕ, ◌++◌, ◌∙◌, ◌∷◌, ◌≡◌}
-use Rattle.club_gate.proofs.Common.{Club, KeyRow, Option, PassField, Some, bytes_eq, caveat_field, key_named, key_of_row, map, older_root_at, signature_field}
+use Rattle.std.proofs.Common.{drop}
+use Rattle.club_core.specs.Club.{older_root_of, key_named}
+use Rattle.club_gate.proofs.Common.{Bool, List, Plain, [], ap, arith, pass_fields, refl, rules, sym, ℕ, ◌++◌, ◌∙◌, ◌∷◌, ◌≡◌, Club, Option, Some, bytes_eq, map}
 use Rattle.club_gate.proofs.{DeskLemmas.reads, desk.Desk.is_signed.Goals.After-is_signed_by}
-use Rattle.club_rows.specs.declared.key.OlderRoot.{OlderRoot}
+use Rattle.club_rows.specs.{Rows.{row_of_key, key_of_row, older_root_at}, declared.key.{Key.Key, KeyRow.KeyRow, OlderRoot.OlderRoot}}
+use Rattle.pass_forms.specs.{FieldSource.{PassField, caveat_field, signature_field}, computed.Reading.is_signed}
 use Rattle.pass_mac.specs.Chain.{chain, derived_key, extended_signature}
 
 -- The Boolean `answer` is true if and only if the signature of the pass is the last signature of

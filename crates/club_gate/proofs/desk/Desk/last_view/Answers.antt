@@ -1,7 +1,7 @@
 use Rattle.club_gate.proofs.desk.Desk.last_view.Goals as goal
 use Rattle.std.proofs.lemmas.Result.{IfOk-weaker}
-use Rattle.club_core.specs.Looks.{books_anew}
-use Rattle.club_gate.proofs.{Common.{◌≡◌, true, false, Some, refl, ap, ◌∙◌, rules, View}, DeskLemmas.reads, VerifyLemmas.{last_reads, with_member}}
+use Rattle.club_core.specs.{Laws.books_anew, declared.view.View.View}
+use Rattle.club_gate.proofs.{Common.{◌≡◌, true, false, Some, refl, ap, ◌∙◌, rules}, DeskLemmas.reads, VerifyLemmas.{last_reads, with_member}}
 
 pub returns-in_ok-view-in-View : goal.returns-in_ok-view-in-View
 returns-in_ok-view-in-View g c = reads g.met.S.ClubStore.sound (search rules) (λ clean club others represents sound.

@@ -1,5 +1,6 @@
 use Rattle.club_gate.proofs.desk.Desk.run.Goals as goal
-use Rattle.club_gate.proofs.{Common.{All-head, IsSound, IsLawfulRun, LeavesClub, responses_of, machine_events}, FollowedRuns.{for_seen, lawful, leaves_club}}
+use Rattle.club_gate.{proofs.{Common.{All-head, IsSound, responses_of, machine_events}, FollowedRuns.{for_seen, lawful, leaves_club}}, specs.Runs.IsLawfulRun}
+use Rattle.club_gate.specs.Runs.{LeavesClub}
 
 pub returns-clause-lawful : goal.returns-clause-lawful
 returns-clause-lawful g c = λ h club others s.

@@ -1,7 +1,8 @@
 use Rattle.club_gate.proofs.desk.Desk.signer.Given as given
 use Rattle.club_gate.proofs.desk.Desk.signer.Goals as goal
-use Rattle.club_gate.proofs.Common.{Club, Err, KeyRevoked, List, NotVerified, Ok, Plain, arith, false, key_in, pass_fields, refl, rules, sym, ◌∙◌, ◌≡◌}
-use Rattle.club_gate.proofs.{Common.signer_of, DeskLemmas.reads, VerifyLemmas.{by_tests, key_there}, desk.Desk.signer.Goals.In_ok-is_signed}
+use Rattle.club_core.specs.declared.refusal.Refusal.TheVariants.{KeyRevoked, NotVerified}
+use Rattle.club_gate.proofs.{Common.{Club, Err, List, Ok, Plain, arith, false, pass_fields, refl, rules, sym, ◌∙◌, ◌≡◌}, DeskLemmas.reads}
+use Rattle.club_gate.{proofs.{VerifyLemmas.{by_tests, key_there}, desk.Desk.signer.Goals.In_ok-is_signed}, specs.{DecodedPass.key_in, Verify.signer_of}}
 
 by_row : (g : given.Over) (c : In_ok-is_signed g) → g.S.ClubStore.ghosts.is_clean c.is_signed.new.self → (club : Club) (others : List Club)
     → g.S.ClubStore.ghosts.represents c.args.self.now club others → (pass : Plain) → g.F.FieldSource.left c.args.source.now ≡ pass_fields pass

@@ -2,7 +2,7 @@ use Rattle.club_gate.proofs.desk.Desk.verdict.Given as given
 use Rattle.club_gate.proofs.desk.Desk.verdict.Goals as goal
 use Rattle.club_gate.proofs.{Common.{arith, reading, reading_in_form, ◌≡◌}, VerifyLemmas.{text_fault as fault_in, other_form}}
 use Rattle.club_gate.proofs.desk.Desk.verdict.Goals.{After-verdict_on}
-use Rattle.pass_forms.specs.computed.Text.{in_form}
+use Rattle.pass_forms.specs.computed.Reading.{in_form}
 
 reads_by_bytes : (g : given.Over) (c : After-verdict_on g)
     → reading c.args.words.now.pass.now ≡ in_form c.in-Ok.unwrapped.form (reading_in_form c.in-Ok.unwrapped.form c.bytes-bytes.result.now)

@@ -1,7 +1,7 @@
 use Rattle.club_http.proofs.face.Face.reply.Goals as goal
-use Rattle.club_http.specs.Replied.{parser_refusal, desk_reply, out_of_memory}
-use Rattle.club_core.specs.declared.reply.Reply.TheVariants.{Refused}
 use Rattle.std.proofs.Common.{inl, inr, refl, ap}
+use Rattle.club_core.specs.declared.reply.Reply.TheVariants.{Refused}
+use Rattle.club_http.specs.Exchange.{parser_refusal, desk_reply, out_of_memory}
 
 pub returns-in-Ok : goal.returns-in-Ok
 returns-in-Ok g c = desk_reply _ (rw c.request.ensures at c.in-Ok.ensures) c.ask.ensures

@@ -1,7 +1,7 @@
 use Rattle.club_reference.proofs.club.Club.part.Goals as goal
 use Rattle.std.{proofs.Common.{◌∙◌, ap, List}, specs.{Prelude.filter, Str.bytes_eq}}
 use Rattle.club_core.specs.Solo.{part_of}
-use Rattle.club_reference.{proofs.StepLemmas.{fits_part, fits_same}, specs.{Ownership.own_bookings, Rows.rows_of}}
+use Rattle.club_reference.{proofs.StepLemmas.{fits_part, fits_same}, specs.{Rows.rows_of, Widths.own_bookings}}
 use Rattle.club_rows.specs.declared.{booking.Booking.Booking, key.Key.Key, member.Member.Member}
 
 pub invariant_of-result : goal.invariant_of-result

@@ -1,7 +1,6 @@
-use Rattle.std.proofs.Common.{◌≤◌, Bool, true, false, arith}
-use Rattle.club_rows.specs.Columns.{truth}
-use Rattle.club_rows.proofs.ColumnLemmas.{column-pos}
 use Rattle.club_rows.proofs.booking.Booking.from_columns.Goals as goal
+use Rattle.std.proofs.Common.{◌≤◌, Bool, true, false, arith}
+use Rattle.club_rows.{proofs.ColumnLemmas.column-pos, specs.Columns.truth}
 
 small_truth : (b : Bool) → truth b ≤ 999_999_999
 small_truth true = omega arith

@@ -1,10 +1,10 @@
 use Rattle.sqlite_disk.specs.declared.Disk as disk
-use Rattle.club_store.specs.FailedOpening as spec
+use Rattle.club_store.specs.Opening as spec
 use Rattle.club_store.specs.declared.failed_opening.FailedOpening.TheVariants as failed
 use Rattle.club_store.proofs.store.Store+FileStore+FileFrom+Q.open_file.Goals as goal
 use Rattle.std.proofs.{Common.{ℕ, List, [], ◌∷◌, inl, refl, subst, sym, ap, ap₂, ◌∙◌, arith, ◌≡◌, Bool, inr, ◌≢◌, Option, None}, lemmas.Option.IfSome_then}
 use Rattle.club_core.specs.Club.{Club, empty_club}
-use Rattle.club_store.{proofs.StoreLemmas.{new_is_blank, the_one}, specs.{FailedOpening.{IsFailedOpening, busy}, Opening.{FailsFrom, LeavesFrom}}}
+use Rattle.club_store.{proofs.StoreLemmas.{new_is_blank, the_one}, specs.Opening.{IsFailedOpening, busy, FailsFrom, LeavesFrom}}
 use Rattle.club_store.specs.declared.failed_opening.FailedOpening.{FailedOpening}
 use Rattle.club_tables.specs.{Tables.IsLeftOf, Transaction.fault_by}
 use Rattle.sqlite.specs.{Files.file_state, Recovery.Image, State.HasCleanDisk, declared.{error.Error.Error, file.Leftover.Leftover}}

@@ -1,6 +1,6 @@
 use Rattle.club_store.proofs.store.Store.view.Goals as goal
 use Rattle.std.proofs.Common.{◌≡◌, Ok, sym, ◌∙◌}
-use Rattle.club_core.specs.Sums.{spent_under}
+use Rattle.club_core.specs.Club.{spent_under}
 use Rattle.club_store.proofs.StoreLemmas.{both_read, read_as, read_failed, seen_is}
 use Rattle.club_tables.specs.ReadsAndChanges.{ReadsClub}
 

@@ -1,6 +1,6 @@
 use Rattle.club_values.proofs.action.Action.read.Goals as goal
 use Rattle.std.proofs.Common.{◌≡◌}
-use Rattle.club_values.{proofs.DayLemmas.{same_reading, reads_actions}, specs.{Action.action_text, declared.action.Action.Action}}
+use Rattle.club_values.{proofs.DayLemmas.{same_reading, reads_actions}, specs.{Kind.action_text, declared.action.Action.Action}}
 
 pub returns-clause-function : goal.returns-clause-function
 returns-clause-function c =

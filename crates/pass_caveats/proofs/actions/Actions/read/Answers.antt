@@ -1,7 +1,7 @@
 use Rattle.pass_caveats.proofs.actions.Actions.read.Goals as goal
-use Rattle.club_values.specs.Action.{action_text}
-use Rattle.pass_caveats.proofs.{ChoiceLemmas.{reads_choice, no_choice, something_left, nothing_left}, Common.{[], ◌∷◌, sym, ◌∙◌, refl}}
-use Rattle.pass_caveats.specs.Actions.{all_actions, has_action}
+use Rattle.std.proofs.Common.{[], ◌∷◌, sym, ◌∙◌, refl}
+use Rattle.club_values.specs.Kind.{action_text}
+use Rattle.pass_caveats.{proofs.ChoiceLemmas.{reads_choice, no_choice, something_left, nothing_left}, specs.Choices.{all_actions, has_action}}
 
 pub returns-then-is_some : goal.returns-then-is_some
 returns-then-is_some c =

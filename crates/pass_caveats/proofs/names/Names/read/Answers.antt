@@ -1,8 +1,8 @@
 use Rattle.pass_caveats.proofs.names.Names.read.Goals as goal
-use Rattle.std.proofs.lemmas.List.Splits.{join_with_byte-slice_split}
-use Rattle.pass_caveats.proofs.{ChoiceLemmas.{some_part, names_again}, Common.{◌≡◌, true, sym, arith, AreNames, comma_parts}}
+use Rattle.std.proofs.{Common.{◌≡◌, true, sym, arith}, lemmas.List.Splits.join_with_byte-slice_split}
+use Rattle.pass_caveats.proofs.ChoiceLemmas.{some_part, names_again}
 use Rattle.pass_caveats.proofs.names.Names.read.Goals.{else-are_all_names-via-then-are_all_names+else-count_of_parts-le-MAX_NAMES}
-use Rattle.pass_caveats.proofs.names.Names.read.Goals.{else-are_all_names-via-else-are_all_names}
+use Rattle.pass_caveats.{proofs.names.Names.read.Goals.else-are_all_names-via-else-are_all_names, specs.Choices.{AreNames, comma_parts}}
 
 pub invariant_of-result : goal.invariant_of-result
 invariant_of-result c = record { some = some_part c.args.text.now; few = omega arith; each_is_name = c.are_all_names.ensures.0 c.if-are_all_names.true }

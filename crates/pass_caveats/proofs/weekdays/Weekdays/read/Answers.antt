@@ -1,7 +1,7 @@
 use Rattle.pass_caveats.proofs.weekdays.Weekdays.read.Goals as goal
-use Rattle.club_values.specs.Weekday.{weekdays}
-use Rattle.pass_caveats.proofs.{ChoiceLemmas.{reads_choice, no_choice, something_left, nothing_left}, Common.{[], ◌∷◌, sym, ◌∙◌, refl}}
-use Rattle.pass_caveats.specs.Weekdays.{weekday_text, has_weekday}
+use Rattle.std.proofs.Common.{[], ◌∷◌, sym, ◌∙◌, refl}
+use Rattle.club_values.specs.Kind.{weekdays}
+use Rattle.pass_caveats.{proofs.ChoiceLemmas.{reads_choice, no_choice, something_left, nothing_left}, specs.Choices.{weekday_text, has_weekday}}
 
 pub returns-then-is_some : goal.returns-then-is_some
 returns-then-is_some c =

@@ -1,5 +1,5 @@
 use Rattle.pass_forms.proofs.layout.Fields.open.Goals as goal
-use Rattle.pass_forms.proofs.Common.{◌∙◌, length, refl, ap, sym, opening_of, IsReadAs, arith}
+use Rattle.pass_forms.{proofs.Common.{◌∙◌, length, refl, ap, sym, arith}, specs.{FieldSource.opening_of, Reading.IsReadAs}}
 
 pub returns-clause-computed : goal.returns-clause-computed
 returns-clause-computed g c = c.checked_fields.ensures ∙ ap opening_of (sym (c.reads_exactly.ensures.computed c.args.bytes.now))

@@ -1,5 +1,5 @@
-use Rattle.pass_forms.proofs.Common.{◌≡◌, ◌++◌, ℕ, List, Result, Ok, Err, arith, common_steps, FormFault, Puts, v1_bytes}
 use Rattle.pass_forms.proofs.write.packets.PacketsPutLayout.put_pass.Goals as goal
+use Rattle.pass_forms.{proofs.Common.{◌≡◌, ◌++◌, ℕ, List, Result, Ok, Err, arith, common_steps, FormFault}, specs.Writing.{Puts, v1_bytes}}
 
 puts_four : (a b c d old x y z new : List ℕ) (result : Result (Unit {0}) FormFault) → x ≡ old ++ a → y ≡ x ++ b → z ≡ y ++ c → Puts d z new result →
     Puts (a ++ (b ++ (c ++ d))) old new result
