@@ -1,4 +1,5 @@
--- Lemmas for the proof of the laws of runs, which add one event after another.
+-- Lemmas for the proof of the laws of runs, and on adding one event to the events that the desk has
+-- handled.
 use Rattle.std.proofs.{Common.{append_assoc, OnOk}, lemmas.List.{length-append, Elements.{All-append, All-cons, All-contains_itself, All-weaker}}}
 use Rattle.club_core.specs.{Club.{empty_club, member_named}, Run.{Event, step, replies_of}, Store.StoreGhosts, declared.change.Change.Change}
 use Rattle.club_gate.proofs.Common.{All, List, None, Option, Some, [], arith, false, inl, inr, length, refl, subst, sym, ◌++◌, ◌∷◌, ◌≡◌, All-nil, Club, Steps}

@@ -1,6 +1,7 @@
 -- Defines the points in a run: charges, refunds, credits and debits. The points are computed only
 -- from the run's events and replies. The laws state that points are neither created nor lost, and
--- that no slot is overbooked.
+-- that no slot is overbooked. Two laws are about the points that a key has spent and the points
+-- that its member has used.
 use Rattle.std.specs.{List.list_any, Prelude.{ℕ, ◌+◌, ◌==◌, ◌&&◌, not, Bool, List, [], ◌∷◌, ◌++◌, filter, flat_map, sum_by, if◌then◌else◌, ◌≡◌, ◌-◌, ◌≤◌}}
 use Rattle.std.specs.{Prelude.{Contains, Some, All, MatchOption}, Str.bytes_eq}
 use Rattle.club_core.specs.{Basis.account_named, Club.{Club, IsSound, bookings_of, cost_of, spent_under, empty_club, member_named, facility_named, balance_of}}

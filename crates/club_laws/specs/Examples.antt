@@ -1,6 +1,8 @@
 -- Example runs of a member's account, of points and repeats, and of a credit and a booking that
--- fail. Other runs start from the empty club and have the requests of one member. Another member's
--- events don't change the replies to a member's requests, unless both members use the same slot.
+-- fail. The account counts the open bookings under all keys of the member, but no booking whose
+-- slot has begun. Other runs start from the empty club and have the requests of one member. Another
+-- member's events don't change the replies to a member's requests, unless both members use the same
+-- slot.
 use Rattle.club_core.specs.declared.request.Request.TheVariants as asked
 use Rattle.std.specs.Prelude.{true, [], ◌∷◌, Some, Ok, codes, ◌≡◌, ℕ, List, ◌++◌, Option, None, is_none, map}
 use Rattle.club_core.specs.{Basis.{Basis, basis_of}, Club.{empty_club, Club, is_closed, taken_in}, Examples.{RunsAs, root, slot_at, noon, late, ask}}

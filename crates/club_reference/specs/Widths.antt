@@ -1,6 +1,6 @@
--- Defines which bookings belong to a member, which events add a row, and when the numbers of a club
--- fit the integer types of the code. The numbers of an empty club fit, and they still fit after
--- each step of the machine.
+-- Defines which bookings belong to the keys of a member, which events add a row, and when the
+-- numbers of a club fit the integer types of the code. The numbers of an empty club fit, and they
+-- still fit after each step of the machine.
 use Rattle.std.specs.{List.list_any, Prelude.{ℕ, ◌+◌, ◌<◌, length, not, Bool, List, filter, ◌≡◌, ◌≤◌, false, Some, All}, Str.bytes_eq}
 use Rattle.club_core.specs.{Club.{Club, member_named, taken_in, spent_under}, Run.{Event, step}}
 use Rattle.club_rows.specs.{Rows.{credited_limit, places_limit}, declared.{booking.Booking.Booking, facility.Facility.Facility, key.Key.Key}}

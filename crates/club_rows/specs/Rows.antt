@@ -1,5 +1,5 @@
--- Defines the limits of single values and of the club's rows, the sums of a booking, the charges
--- and times of a facility, and the two parts of a key.
+-- Defines the limits of single values and of the club's rows, and the two parts of a key. Also
+-- defines a booking's persons and refund, and a facility's charges and times.
 use Rattle.std.specs.Prelude.{ℕ, ◌-◌, ◌*◌, ◌≤◌, List, length, ◌+◌, ◌/◌, ◌==◌, ◌&&◌, Bool, nat_le, if◌then◌else◌, nat_lt, Option, Some, None, ◌≡◌, false, ◌<◌}
 use Rattle.std.specs.{Prelude.IfSome, Str.bytes_eq}
 use Rattle.club_rows.specs.declared.{booking.Booking.Booking, facility.Facility.Facility, key.{Key.Key, KeyRow.KeyRow, OlderRoot.OlderRoot}}

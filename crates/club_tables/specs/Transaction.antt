@@ -1,5 +1,6 @@
--- This file defines the club's SQL statements as SQLite understands them, the results and the
--- effects of statements that run in one transaction, and their faults.
+-- This file defines the club's SQL statements as SQLite understands them, and the results and the
+-- effects of statements that run in one transaction. It also defines the faults of queries,
+-- statements and transactions that fail.
 use Rattle.std.specs.Prelude.{ℕ, pos, negsuc, false, None, List, [], map, ◌≡◌, ◌<◌, ◌≤◌, true, ◌∷◌, length, Ok, IsTrue, is_ok, ◌⊎◌, Result, Err, IfErr, OnOk}
 use Rattle.std.specs.Prelude.{OnErr}
 use Rattle.club_core.specs.declared.store.StoreFault.{StoreFault, TheVariants.{Memory, Storage}}

@@ -1,5 +1,5 @@
--- Lemmas for comparing the servers of two desks, such as a server over a store with a server over
--- a club, and for the proof of `run`.
+-- Lemmas for comparing the servers of two desks, for reducing a server over a store and a clock to
+-- a server over the store, and for the proof of `run`.
 use Rattle.club_http.specs.Exchange as replied
 use Rattle.clubdesk_commands.specs.Run as run
 use Rattle.desk_server.specs.Served as served

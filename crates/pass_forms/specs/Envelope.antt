@@ -1,7 +1,6 @@
 -- Defines the envelope of a pass text, and the results of reading the text. A pass text is plain
 -- JSON or base64. This project chose the envelope, the way to determine the form, and the order of
--- the faults. The parameter `Spells` defines the encoding of each form, so a new form requires no
--- change in this file.
+-- the faults. In the results of reading, the parameter `Spells` defines the encoding of each form.
 use Rattle.std.specs.{List.starts_with, Option.option_and_then, Prelude.{◌≡◌, ◌==◌, ◌≤◌, ◌<◌, ◌&&◌, ◌||◌, ◌⊎◌, ℕ, Bool, List, length, take, slice_get, nat_eq}}
 use Rattle.std.specs.Prelude.{nat_le, IsTrue, codes, if◌then◌else◌, Option, None, Some, Result, Ok, Err}
 use Rattle.base64.specs.{Engines.{url_safe_no_pad, url_safe, standard_no_pad, standard}, GeneralPurpose.{IsBytes, encode_of}}
