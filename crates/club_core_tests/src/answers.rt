@@ -38,7 +38,7 @@ fn answers_done_commands(rt: HostRuntime) {
     for (row, (plain, bytes)) in DONE.iter().enumerate() {
         let command = plain.command().expect(&rt, "a command");
         let outcome = OfficeAnswer::done(&command);
-        expect_eq(&rt, &outcome, &answer(&rt, bytes), &row);
+        expect_eq(&rt, outcome, answer(&rt, bytes), &row);
     }
 }
 
@@ -46,7 +46,7 @@ fn answers_done_commands(rt: HostRuntime) {
 fn displays_a_refusal(rt: HostRuntime) {
     let text = Refusal::CaveatDenies(2).to_string(rt.alloc());
     let text = text.expect(&rt, "memory");
-    expect_eq(&rt, &text.as_str(), &"caveat denies", &"a refusal");
+    expect_eq(&rt, text.as_str(), "caveat denies", &"a refusal");
 }
 
 static ROOTS: [&[u8]; 2] = [&[7; 16], &[8; 64]];
@@ -57,7 +57,7 @@ fn prints_no_root(rt: HostRuntime) {
     for (row, bytes) in ROOTS.iter().enumerate() {
         let root = root(&rt, bytes);
         let text = format!(in rt.alloc(); "{root:?}").expect(&rt, "memory");
-        expect_eq(&rt, &text.as_str(), &"Root(..)", &row);
+        expect_eq(&rt, text.as_str(), "Root(..)", &row);
     }
 }
 
@@ -78,6 +78,6 @@ fn older_roots(rt: HostRuntime) {
         let mut key = key(&rt, false);
         key.older = is_rotated.then_some(older);
         let found = key.older_root_at(moment(&rt, at)).copied();
-        expect_eq(&rt, &found, &is_good.then_some(second), &row);
+        expect_eq(&rt, found, is_good.then_some(second), &row);
     }
 }

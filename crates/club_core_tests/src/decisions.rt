@@ -61,7 +61,7 @@ fn order_of_refusals(rt: HostRuntime) {
     let request = BOOK_7_ALONE.request().expect(&rt, "a request");
     for (row, (at, refusal)) in ORDER.iter().enumerate() {
         let verdict = decide(&view, &request, moment(&rt, at));
-        expect_eq(&rt, &verdict, &Verdict::refuse(*refusal), &row);
+        expect_eq(&rt, verdict, Verdict::refuse(*refusal), &row);
     }
 }
 
@@ -96,23 +96,23 @@ fn ask(rt: &impl Host, view: &View, asked: &PlainRequest) -> Ask {
 #[test]
 fn asks(rt: HostRuntime) {
     let first = ask(&rt, &fresh(&rt), &BOOK_7);
-    expect_eq(&rt, &first, &booking_for(&rt, 600), &"first");
+    expect_eq(&rt, first, booking_for(&rt, 600), &"first");
     let again = ask(&rt, &recorded(&rt), &BOOK_7);
-    expect_eq(&rt, &again, &booking_for(&rt, 0), &"again");
+    expect_eq(&rt, again, booking_for(&rt, 0), &"again");
     let of_account = ask(&rt, &nowhere(&rt), &ACCOUNT);
-    expect_eq(&rt, &of_account, &account(&rt), &"account");
+    expect_eq(&rt, of_account, account(&rt), &"account");
 }
 
 #[test]
 fn a_bare_view(rt: HostRuntime) {
     let of_key = View::of_key(&key(&rt, false).row());
-    expect_eq(&rt, &of_key, &bare(&rt), &"bare");
+    expect_eq(&rt, of_key, bare(&rt), &"bare");
 }
 
 /// A booking is new only if it isn't recorded and its facility is known.
 #[test]
 fn new_bookings(rt: HostRuntime) {
-    expect_eq(&rt, &fresh(&rt).books_anew(), &true, &"fresh");
+    expect_eq(&rt, fresh(&rt).books_anew(), true, &"fresh");
     let after_another = View {
         spent: 600,
         balance: 9_400,
@@ -120,7 +120,7 @@ fn new_bookings(rt: HostRuntime) {
         taken: 3,
         ..nowhere(&rt)
     };
-    expect_eq(&rt, &after_another.books_anew(), &false, &"nowhere");
-    expect_eq(&rt, &recorded(&rt).books_anew(), &false, &"recorded");
-    expect_eq(&rt, &bare(&rt).books_anew(), &false, &"bare");
+    expect_eq(&rt, after_another.books_anew(), false, &"nowhere");
+    expect_eq(&rt, recorded(&rt).books_anew(), false, &"recorded");
+    expect_eq(&rt, bare(&rt).books_anew(), false, &"bare");
 }

@@ -33,14 +33,14 @@ fn plays(rt: &impl Host, club: &mut Club, others: Option<SlotUse>, steps: &[Step
             None => club.ask(&words, at),
         };
         let want = want.reply().expect(rt, "a reply");
-        expect_eq(rt, &returned.expect(rt, "memory"), &want, &row);
+        expect_eq(rt, returned.expect(rt, "memory"), want, &row);
     }
 }
 
 fn carry_out(rt: &impl Host, club: &mut Club, plain: &PlainCommand) {
     let command = plain.command().expect(rt, "a command");
     let answer = club.office(&command).expect(rt, "memory");
-    expect_eq(rt, &answer, &OfficeAnswer::done(&command), &"a command");
+    expect_eq(rt, answer, OfficeAnswer::done(&command), &"a command");
 }
 
 fn fixture_club(rt: &impl Host) -> Club {
@@ -52,8 +52,10 @@ fn fixture_club(rt: &impl Host) -> Club {
 }
 
 fn expect_use(rt: &impl Host, slot: &SlotUse, held: (u32, bool)) {
-    expect_eq(rt, &(slot.taken, slot.closed), &held, &"a slot");
+    expect_eq(rt, (slot.taken, slot.closed), held, &"a slot");
 }
+
+static BOB_IS_UNKNOWN: [Step; 1] = [("bob-1", ACCOUNT, NOT_VERIFIED)];
 
 /// `held` has the number of other members' persons in the slot at 18, and whether the slot is
 /// closed.
@@ -66,12 +68,8 @@ fn part_plays(rt: &impl Host, club: &Club, held: (u32, bool), steps: &[Step]) {
     let mut part = club.part(&amy).expect(rt, "memory");
     plays(rt, &mut part, Some(others), steps);
     // A part doesn't have the keys of other members.
-    plays(rt, &mut part, None, &[("bob-1", ACCOUNT, NOT_VERIFIED)]);
+    plays(rt, &mut part, None, &BOB_IS_UNKNOWN);
 }
-
-const AMY_BOOKS: Step = ("amy-1", BOOK_7, BOOKED_7);
-
-const BOB_BOOKS: Step = ("bob-1", BOOK_2, BOOKED_2);
 
 const BEFORE: Step = ("amy-1", ACCOUNT, ACCOUNT_BEFORE);
 
@@ -79,33 +77,40 @@ const AFTER: Step = ("amy-1", ACCOUNT, ACCOUNT_AFTER);
 
 const AMY_CANCELS: Step = ("amy-1", CANCEL_7, CANCELLED_7);
 
+static BOB_BOOKS: [Step; 1] = [("bob-1", BOOK_2, BOOKED_2)];
+
 /// Bob has already booked one place of the slot.
-const AMY_FILLS: Step = ("amy-1", BOOK_7, FILLED_BY_7);
+static AMY_FILLS: [Step; 4] = [BEFORE, ("amy-1", BOOK_7, FILLED_BY_7), AFTER, AMY_CANCELS];
 
 #[test]
 fn a_part_sees_what_others_hold(rt: HostRuntime) {
     let mut club = fixture_club(&rt);
-    plays(&rt, &mut club, None, &[BOB_BOOKS]);
-    let steps = [BEFORE, AMY_FILLS, AFTER, AMY_CANCELS];
-    part_plays(&rt, &club, (1, false), &steps);
+    plays(&rt, &mut club, None, &BOB_BOOKS);
+    part_plays(&rt, &club, (1, false), &AMY_FILLS);
 }
 
-const IT_IS_CLOSED: Step = ("amy-1", BOOK_7, PlainReply::Refused(Refusal::SlotClosed));
+static IT_IS_CLOSED: [Step; 1] = [("amy-1", BOOK_7, PlainReply::Refused(Refusal::SlotClosed))];
+
+static AMY_BOOKS: [Step; 1] = [("amy-1", BOOK_7, BOOKED_7)];
 
 #[test]
 fn opens_a_slot_for_all(rt: HostRuntime) {
     let mut club = fixture_club(&rt);
     carry_out(&rt, &mut club, &PlainCommand::CloseSlot(COURT_AT_18));
-    part_plays(&rt, &club, (0, true), &[IT_IS_CLOSED]);
+    part_plays(&rt, &club, (0, true), &IT_IS_CLOSED);
     carry_out(&rt, &mut club, &PlainCommand::OpenSlot(COURT_AT_18));
-    part_plays(&rt, &club, (0, false), &[AMY_BOOKS]);
+    part_plays(&rt, &club, (0, false), &AMY_BOOKS);
 }
+
+static CANCELLED: [Step; 2] = [AMY_CANCELS, BEFORE];
+
+static BOOKED: [Step; 1] = [AFTER];
 
 #[test]
 fn a_duplicate_is_independent(rt: HostRuntime) {
     let mut club = fixture_club(&rt);
-    plays(&rt, &mut club, None, &[AMY_BOOKS]);
+    plays(&rt, &mut club, None, &AMY_BOOKS);
     let mut other = club.duplicate().expect(&rt, "memory");
-    plays(&rt, &mut other, None, &[AMY_CANCELS, BEFORE]);
-    plays(&rt, &mut club, None, &[AFTER]);
+    plays(&rt, &mut other, None, &CANCELLED);
+    plays(&rt, &mut club, None, &BOOKED);
 }

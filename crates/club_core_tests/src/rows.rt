@@ -29,14 +29,14 @@ fn is_root(len: usize) -> bool {
 #[test]
 fn limits(rt: HostRuntime) {
     for (row, (number, within)) in NUMBERS.iter().enumerate() {
-        expect_eq(&rt, &BookingNumber::new(*number).is_some(), within, &row);
+        expect_eq(&rt, BookingNumber::new(*number).is_some(), *within, &row);
     }
     for (row, (guests, want)) in GUESTS.iter().enumerate() {
         let persons = Guests::new(*guests).map(|guests| guests.persons());
-        expect_eq(&rt, &persons, want, &row);
+        expect_eq(&rt, persons, *want, &row);
     }
     for (row, (len, within)) in ROOT_LENGTHS.iter().enumerate() {
-        expect_eq(&rt, &is_root(*len), within, &row);
+        expect_eq(&rt, is_root(*len), *within, &row);
     }
 }
 
@@ -51,7 +51,7 @@ static MEMBERS: [(&[u8], i64, i64, bool); 4] = [
 fn columns_of_members(rt: HostRuntime) {
     for (row, (name, credited, quota, within)) in MEMBERS.iter().enumerate() {
         let member = Member::from_columns(name, *credited, *quota);
-        expect_eq(&rt, &member.is_some(), within, &row);
+        expect_eq(&rt, member.is_some(), *within, &row);
     }
 }
 
@@ -66,7 +66,7 @@ fn columns_of_a_facility(rt: HostRuntime) {
         shuts: 22,
     };
     let read = Facility::from_columns(&columns);
-    expect_eq(&rt, &read, &facility(&rt, &Some(COURT)), &"court-1");
+    expect_eq(&rt, read, facility(&rt, &Some(COURT)), &"court-1");
 }
 
 const CANCELLED: PlainBooking = PlainBooking {
@@ -100,6 +100,6 @@ fn columns_of(cancelled: i64, refund: i64) -> BookingColumns<'static> {
 fn columns_of_bookings(rt: HostRuntime) {
     for (row, (cancelled, refund, want)) in BOOKINGS.iter().enumerate() {
         let read = Booking::from_columns(&columns_of(*cancelled, *refund));
-        expect_eq(&rt, &read, &booking(&rt, want), &row);
+        expect_eq(&rt, read, booking(&rt, want), &row);
     }
 }

@@ -34,7 +34,7 @@ static SPENT: [(u64, &str, bool); 4] = [
 fn limits_of_points(rt: HostRuntime) {
     for (spent, text, want) in &SPENT {
         let allowed = answer(text, &booking(&rt, *spent));
-        expect_eq(&rt, &allowed, &Some(*want), spent);
+        expect_eq(&rt, allowed, Some(*want), spent);
     }
 }
 
@@ -53,10 +53,10 @@ static PRINTED: [(CaveatFault, &str); 2] = [
 fn faults_at_a_place(rt: HostRuntime) {
     let ask = booking(&rt, 0);
     for (text, want) in &SECOND {
-        expect_eq(&rt, &fault_at(text.as_bytes(), 2, &ask), want, text);
+        expect_eq(&rt, fault_at(text.as_bytes(), 2, &ask), *want, text);
     }
     for (fault, want) in &PRINTED {
         let text = format!(in rt.alloc(); "{fault}").expect(&rt, "memory");
-        expect_eq(&rt, &text.as_str(), want, fault);
+        expect_eq(&rt, text.as_str(), *want, fault);
     }
 }

@@ -6,6 +6,7 @@ use crate::values::{moment, slot};
 use club_values::ascii::text_of;
 use club_values::digits::{read_digits, read_number, read_two, two_digits};
 use club_values::{Day, Hour, Moment, Name, Weekday};
+use std::fmt::Display;
 use test_kit::COURT_AT_18;
 
 fn is_name_again(text: &str) -> bool {
@@ -30,17 +31,17 @@ static NAMES: [(&str, bool); 9] = [
 #[test]
 fn names(rt: HostRuntime) {
     for (text, want) in &NAMES {
-        expect_eq(&rt, &is_name(text.as_bytes()), want, text);
-        expect_eq(&rt, &is_name_again(text), want, text);
+        expect_eq(&rt, is_name(text.as_bytes()), *want, text);
+        expect_eq(&rt, is_name_again(text), *want, text);
     }
 }
 
 /// The day's number and date must convert back to the day.
 fn is_day(rt: &impl Host, day: Day, text: &str, number: u16) {
-    expect_eq(rt, &day.number(), &number, &text);
-    expect_eq(rt, &day.text().as_slice(), &text.as_bytes(), &text);
-    expect_eq(rt, &day_numbered(number), &Some(day), &text);
-    expect_eq(rt, &Day::from_date(day.date()), &Some(day), &text);
+    expect_eq(rt, day.number(), number, &text);
+    expect_eq(rt, day.text().as_slice(), text.as_bytes(), &text);
+    expect_eq(rt, day_numbered(number), Some(day), &text);
+    expect_eq(rt, Day::from_date(day.date()), Some(day), &text);
 }
 
 static DAYS: [(&str, Option<u16>); 12] = [
@@ -66,14 +67,14 @@ fn days(rt: HostRuntime) {
         let day = read_day(text.as_bytes());
         match *want {
             Some(number) => is_day(&rt, day.expect(&rt, "a day"), text, number),
-            None => expect_eq(&rt, &day, &None, text),
+            None => expect_eq(&rt, day, None, text),
         }
     }
     for number in &NO_DAYS {
-        expect_eq(&rt, &day_numbered(*number), &None, number);
+        expect_eq(&rt, day_numbered(*number), None, number);
     }
     let last = day_numbered(47_481).expect(&rt, "a day");
-    expect_eq(&rt, &last.year_month_day(), &(2099, 12, 31), &"last");
+    expect_eq(&rt, last.year_month_day(), (2099, 12, 31), &"last");
 }
 
 static WEEKDAYS: [(u16, Weekday); 4] = [
@@ -87,7 +88,7 @@ static WEEKDAYS: [(u16, Weekday); 4] = [
 fn weekdays(rt: HostRuntime) {
     for (number, want) in &WEEKDAYS {
         let day = day_numbered(*number).expect(&rt, "a day");
-        expect_eq(&rt, &day.weekday(), want, number);
+        expect_eq(&rt, day.weekday(), *want, number);
     }
 }
 
@@ -107,11 +108,11 @@ static NO_MOMENTS: [u32; 2] = [15_778_079, 68_374_080];
 
 /// The moment's number, and its day and minute, must convert back to the moment.
 fn is_moment(rt: &impl Host, moment: Moment, text: &str, number: u32) {
-    expect_eq(rt, &moment.number(), &number, &text);
-    expect_eq(rt, &moment.text().as_slice(), &text.as_bytes(), &text);
-    expect_eq(rt, &moment_numbered(number), &Some(moment), &text);
+    expect_eq(rt, moment.number(), number, &text);
+    expect_eq(rt, moment.text().as_slice(), text.as_bytes(), &text);
+    expect_eq(rt, moment_numbered(number), Some(moment), &text);
     let again = moment_at(moment.day(), moment.minute_of_day());
-    expect_eq(rt, &again, &Some(moment), &text);
+    expect_eq(rt, again, Some(moment), &text);
 }
 
 #[test]
@@ -120,40 +121,43 @@ fn moments(rt: HostRuntime) {
         let moment = read_moment(text.as_bytes());
         match *want {
             Some(number) => is_moment(&rt, moment.expect(&rt, "a moment"), text, number),
-            None => expect_eq(&rt, &moment, &None, text),
+            None => expect_eq(&rt, moment, None, text),
         }
     }
     for number in &NO_MOMENTS {
-        expect_eq(&rt, &moment_numbered(*number), &None, number);
+        expect_eq(&rt, moment_numbered(*number), None, number);
     }
     let day = day_numbered(20_574).expect(&rt, "a day");
-    expect_eq(&rt, &moment_at(day, 1440), &None, &"minute 1440");
+    expect_eq(&rt, moment_at(day, 1440), None, &"minute 1440");
 }
 
 #[test]
 fn start_of_a_slot(rt: HostRuntime) {
     let slot = slot(&rt, &COURT_AT_18);
-    expect_eq(&rt, &slot.start(), &29_627_640, &"2026-05-01T18:00");
+    expect_eq(&rt, slot.start(), 29_627_640, &"2026-05-01T18:00");
 }
 
 static KINDS: [&str; 3] = ["court", "boat", "room"];
 
 static ACTIONS: [&str; 4] = ["view", "book", "cancel", "account"];
 
+fn expect_printed(rt: &impl Host, value: &impl Display, text: &str) {
+    let printed = format!(in rt.alloc(); "{value}").expect(rt, "memory");
+    expect_eq(rt, printed.as_str(), text, &text);
+}
+
 #[test]
 fn kinds_and_actions(rt: HostRuntime) {
-    for (row, text) in KINDS.iter().enumerate() {
+    for text in &KINDS {
         let kind = read_kind(text.as_bytes()).expect(&rt, "a kind");
-        let printed = format!(in rt.alloc(); "{kind}").expect(&rt, "memory");
-        expect_eq(&rt, &printed.as_str(), text, &row);
+        expect_printed(&rt, &kind, text);
     }
-    for (row, text) in ACTIONS.iter().enumerate() {
+    for text in &ACTIONS {
         let action = read_action(text.as_bytes()).expect(&rt, "an action");
-        let printed = format!(in rt.alloc(); "{action}").expect(&rt, "memory");
-        expect_eq(&rt, &printed.as_str(), text, &row);
+        expect_printed(&rt, &action, text);
     }
-    expect_eq(&rt, &read_kind(b"Court"), &None, &"Court");
-    expect_eq(&rt, &read_action(b"books"), &None, &"books");
+    expect_eq(&rt, read_kind(b"Court"), None, &"Court");
+    expect_eq(&rt, read_action(b"books"), None, &"books");
 }
 
 fn hour_number(text: &str) -> Option<u8> {
@@ -171,20 +175,18 @@ static HOURS: [(&str, Option<u8>); 5] = [
 #[test]
 fn hours(rt: HostRuntime) {
     for (text, want) in &HOURS {
-        expect_eq(&rt, &hour_number(text), want, text);
+        expect_eq(&rt, hour_number(text), *want, text);
     }
-    expect_eq(&rt, &hour_numbered(24), &None, &"24");
+    expect_eq(&rt, hour_numbered(24), None, &"24");
 }
 
 #[test]
 fn displayed_values(rt: HostRuntime) {
     let slot = slot(&rt, &COURT_AT_18);
-    let text = format!(in rt.alloc(); "{} {} {}", slot.facility, slot.day, slot.hour);
-    let text = text.expect(&rt, "memory");
-    expect_eq(&rt, &text.as_str(), &"court-1 2026-05-01 18", &"a slot");
-    let moment = moment(&rt, "2026-05-01T18:05");
-    let text = format!(in rt.alloc(); "{moment}").expect(&rt, "memory");
-    expect_eq(&rt, &text.as_str(), &"2026-05-01T18:05", &"a moment");
+    expect_printed(&rt, &slot.facility, "court-1");
+    expect_printed(&rt, &slot.day, "2026-05-01");
+    expect_printed(&rt, &slot.hour, "18");
+    expect_printed(&rt, &moment(&rt, "2026-05-01T18:05"), "2026-05-01T18:05");
 }
 
 static TWO_DIGITS: [([u8; 2], Option<u8>); 4] = [
@@ -197,10 +199,10 @@ static TWO_DIGITS: [([u8; 2], Option<u8>); 4] = [
 #[test]
 fn digits_of_a_fixed_width(rt: HostRuntime) {
     for (text, want) in &TWO_DIGITS {
-        expect_eq(&rt, &read_two(text[0], text[1]), want, text);
+        expect_eq(&rt, read_two(text[0], text[1]), *want, text);
     }
-    expect_eq(&rt, &two_digits(7), b"07", &7);
-    expect_eq(&rt, &text_of(b"07"), &"07", &"ASCII");
+    expect_eq(&rt, two_digits(7), *b"07", &7);
+    expect_eq(&rt, text_of(b"07"), "07", &"ASCII");
 }
 
 static NUMBERS: [(&str, Option<u32>, Option<u32>); 9] = [
@@ -218,7 +220,7 @@ static NUMBERS: [(&str, Option<u32>, Option<u32>); 9] = [
 #[test]
 fn numbers(rt: HostRuntime) {
     for (text, number, digits) in &NUMBERS {
-        expect_eq(&rt, &read_number(text.as_bytes()), number, text);
-        expect_eq(&rt, &read_digits(text.as_bytes()), digits, text);
+        expect_eq(&rt, read_number(text.as_bytes()), *number, text);
+        expect_eq(&rt, read_digits(text.as_bytes()), *digits, text);
     }
 }
