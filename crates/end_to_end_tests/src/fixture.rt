@@ -37,7 +37,7 @@ pub(crate) static KEPT: [Step; 3] = [
     Step(ACCOUNT, BALANCE_9400),
 ];
 
-pub(crate) fn with_pass(rt: &impl Host, request: &str, pass: &str) -> String {
+fn with_pass(rt: &impl Host, request: &str, pass: &str) -> String {
     let (front, end) = request.split_once(AMY_V2).expect(rt, "a pass");
     text(rt, format!(in rt.alloc(); "{front}{pass}{end}"))
 }
@@ -94,10 +94,13 @@ impl<S: ClubStore> Served<S> {
         taker
     }
 
+    pub fn reply_under(&mut self, rt: &impl Host, pass: &str, request: &str) -> Taker {
+        self.written_to(rt, with_pass(rt, request, pass).as_bytes())
+    }
+
     pub fn asks_in_turn(&mut self, rt: &impl Host, pass: &str, steps: &[Step]) {
         for Step(asked, want) in steps {
-            let request = with_pass(rt, asked, pass);
-            let taker = self.written_to(rt, request.as_bytes());
+            let taker = self.reply_under(rt, pass, asked);
             expect_case(rt, asked, &taker.written_bytes(), &want.as_bytes());
         }
     }

@@ -3,7 +3,7 @@
 //! with a report that memory ran out.
 
 use crate::expect::{Host, expect_case};
-use crate::fixture::{Fixture, KEPT, NOT_YET, Served, Step, play, with_pass};
+use crate::fixture::{Fixture, KEPT, NOT_YET, Served, Step, play};
 use club_core::ClubStore;
 use test_kit::exchanges::{ACCOUNT, BOOK_7, BOOKED_7, UNAVAILABLE};
 use test_kit::passes::{AMY_JSON, AMY_V1, AMY_V2};
@@ -15,16 +15,14 @@ struct Exchange(&'static str);
 
 impl Fixture for Exchange {
     fn play<S: ClubStore>(&self, rt: &impl Host, front: &mut Served<S>) {
-        let request = with_pass(rt, BOOK_7, self.0);
-        let taker = front.written_to(rt, request.as_bytes());
+        let taker = front.reply_under(rt, self.0, BOOK_7);
         if taker.written_bytes() == UNAVAILABLE.as_bytes() {
             front.asks_in_turn(rt, self.0, &NOT_YET);
             return;
         }
         expect_case(rt, BOOK_7, &taker.written_bytes(), &BOOKED_7.as_bytes());
         for Step(asked, want) in &KEPT {
-            let request = with_pass(rt, asked, self.0);
-            let taker = front.written_to(rt, request.as_bytes());
+            let taker = front.reply_under(rt, self.0, asked);
             // The refused allocation is in this later exchange, which isn't tested.
             if taker.written_bytes() == UNAVAILABLE.as_bytes() {
                 panic!(rt; "Memory");
@@ -76,8 +74,7 @@ struct Faults;
 impl Fixture for Faults {
     fn play<S: ClubStore>(&self, rt: &impl Host, front: &mut Served<S>) {
         for (pass, want) in &FAULTS {
-            let request = with_pass(rt, ACCOUNT, pass);
-            let taker = front.written_to(rt, request.as_bytes());
+            let taker = front.reply_under(rt, pass, ACCOUNT);
             expect_case(rt, pass, &taker.written_bytes(), &want.as_bytes());
         }
     }

@@ -5,7 +5,8 @@ use crate::disk::{Bytes, Stop, Stops, has_calls_left};
 use crate::expect::{Host, append};
 use crate::tables::lines_in;
 use club_store::Store;
-use sqlite::{Alter, Connection, Files, Options};
+use sqlite::{Alter, Connection, FileStore, Files, Options};
+use sqlite_disk::Disk;
 
 #[derive(Clone, Copy)]
 pub(crate) enum Work {
@@ -55,22 +56,26 @@ fn do_work<S: Alter + Drop>(
     }
 }
 
-/// Only this function names the files' type, because each proof with that type takes half a minute.
-fn over_files(
+fn close<D: Disk + Drop>(connection: Connection<FileStore<D>>) -> Files<D> {
+    match connection.close_files() {
+        Ok(files) => files,
+        Err((_, left)) => left.close(),
+    }
+}
+
+/// The function is generic because a proof with the files' own type takes much longer.
+fn over_files<D: Disk + Drop>(
     rt: &impl Host,
-    files: Files<Stops>,
+    files: Files<D>,
     work: Work,
-) -> (Option<Vec<String>>, Files<Stops>) {
+) -> (Option<Vec<String>>, Files<D>) {
     if !files.may_be_used() {
         return (None, files);
     }
     match Connection::open_files(rt.alloc(), files, Options::new(7)) {
         Ok(connection) => {
             let (lines, connection) = do_work(rt, connection, work);
-            match connection.close_files() {
-                Ok(files) => (lines, files),
-                Err((_, left)) => (lines, left.close()),
-            }
+            (lines, close(connection))
         }
         Err((_, left)) => (None, left.into_files()),
     }
