@@ -3,7 +3,7 @@
 
 use crate::desk::{Event, FIXTURE};
 use crate::disk::{Bytes, NEVER, Part, Stop, Stops};
-use crate::expect::{Host, append, expect_case, push};
+use crate::expect::{Host, append, expect_case, expect_lines, push};
 use crate::reference_club::{Version, lines_of, replies};
 use crate::torn::{Case, KEPT, LOST, changes_in, digest_of_left, left, tried_of};
 use crate::work::{Work, do_over};
@@ -143,10 +143,10 @@ impl Trial {
         };
         let found = self.found_in(rt, &crashes.bytes);
         let before = crashes.clubs.first().expect(rt, "a club");
-        expect_case(rt, "the club before the task", &found, before);
+        expect_lines(rt, "the club before the task", &found, before);
         let log = crashes.calls_of(rt, Part::Log);
         let database = crashes.calls_of(rt, Part::Database);
-        expect_case(rt, "calls", &[log, database], &self.3);
+        expect_case(rt, "calls", [log, database], self.3);
     }
 }
 
@@ -170,7 +170,7 @@ impl Crashes<'_> {
         let done = alike(replies, &self.replies);
         if let Some(reply) = replies.get(done) {
             let has_failed = reply.as_str() == UNAVAILABLE || reply.as_str() == "storage failed";
-            expect_case(rt, reply.as_str(), &has_failed, &true);
+            expect_case(rt, reply.as_str(), has_failed, true);
         }
         Some(done)
     }
@@ -196,7 +196,7 @@ impl Crashes<'_> {
         let (first, last) = self.trial.may_be_found(done);
         if self.clubs.get(first) != Some(&found) {
             let wanted = self.clubs.get(last).expect(rt, "a club");
-            expect_case(rt, "the club after the crash", &found, wanted);
+            expect_lines(rt, "the club after the crash", &found, wanted);
         }
         true
     }
@@ -227,7 +227,7 @@ impl Crashes<'_> {
         self.expect_each_left(rt, done, &work.files, stop.calls as usize);
         let is_done = done == Some(self.trial.1.len());
         let is_done_or_stopped = is_done || !work.has_calls_left;
-        expect_case(rt, "done or stopped", &is_done_or_stopped, &true);
+        expect_case(rt, "done or stopped", is_done_or_stopped, true);
         work.has_calls_left
     }
 

@@ -1,6 +1,6 @@
 //! Events at a desk, and the texts of their replies.
 
-use crate::expect::{Host, expect_case, push, text};
+use crate::expect::{Host, expect_text, push, text};
 use club_core::{ClubStore, Reply};
 use club_gate::OfficeReply;
 use club_http::{
@@ -66,7 +66,7 @@ fn exchange<S: ClubStore>(rt: &impl Host, desk: &mut Desk<S>, at: &str, bytes: &
     let reply = answer(&mut face, desk, moment(rt, at), &mut reader, &mut writer);
     let reply = reply.ok().expect(rt, "a reply");
     let written = String::from_utf8(output).ok().expect(rt, "a text");
-    expect_case(rt, "written", &written, &reply_text(rt, &reply));
+    expect_text(rt, "written", &written, &reply_text(rt, &reply));
     written
 }
 

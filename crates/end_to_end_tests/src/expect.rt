@@ -6,19 +6,27 @@ pub(crate) trait Host: Abort + AllocGlobal {}
 
 impl<R: Abort + AllocGlobal> Host for R {}
 
-/// The proof of a test takes a third of the time if the test calls this function instead of
-/// `assert_eq!`.
-pub(crate) fn expect_eq<T: PartialEq + Debug>(rt: &impl Abort, returned: &T, want: &T) {
+/// The proof of a test takes a tenth of the time if the test calls this function instead of
+/// `assert_eq!`. The compared values are copies because borrows make the proof longer.
+pub(crate) fn expect_eq<T: PartialEq + Debug + Copy>(rt: &impl Abort, returned: T, want: T) {
     assert_eq!(rt; returned, want);
 }
 
-pub(crate) fn expect_case<T: PartialEq + Debug>(
+pub(crate) fn expect_case<T: PartialEq + Debug + Copy>(
     rt: &impl Abort,
     case: &str,
-    returned: &T,
-    want: &T,
+    returned: T,
+    want: T,
 ) {
     assert_eq!(rt; returned, want, "{case}");
+}
+
+pub(crate) fn expect_text(rt: &impl Abort, case: &str, returned: &str, want: &str) {
+    expect_case(rt, case, returned, want);
+}
+
+pub(crate) fn expect_lines(rt: &impl Abort, case: &str, returned: &[String], want: &[String]) {
+    expect_case(rt, case, returned, want);
 }
 
 pub(crate) fn push<T: Drop>(rt: &impl Abort, values: &mut Vec<T>, value: T) {

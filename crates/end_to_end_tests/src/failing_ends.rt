@@ -36,10 +36,10 @@ impl Fixture for Whole {
         let text = join(rt.alloc(), &[(1, BOOK_7), (behind, "x")]).expect(rt, "memory");
         let mut giver = Giver::new(text.as_bytes(), gives, true);
         let mut taker = Taker::new(takes, MAX_REPLY_LEN, false);
-        expect_eq(rt, &front.exchange(rt, &mut giver, &mut taker), &None);
-        expect_case(rt, BOOK_7, &taker.written_bytes(), &BOOKED_7.as_bytes());
+        expect_eq(rt, front.exchange(rt, &mut giver, &mut taker), None);
+        expect_case(rt, BOOK_7, taker.written_bytes(), BOOKED_7.as_bytes());
         let counts = (giver.left.len(), giver.calls, taker.calls);
-        expect_eq(rt, &counts, &(stay, reads, writes));
+        expect_eq(rt, counts, (stay, reads, writes));
     }
 }
 
@@ -59,11 +59,11 @@ impl Fixture for CutInput {
         let bytes = BOOK_7.as_bytes();
         for len in 0..bytes.len() {
             let taker = front.written_to(rt, &bytes[..len]);
-            expect_case(rt, "cut", &taker.written_bytes(), &BAD_REQUEST.as_bytes());
+            expect_case(rt, "cut", taker.written_bytes(), BAD_REQUEST.as_bytes());
             let mut giver = Giver::new(&bytes[..len], WHOLE, true);
             let mut taker = Taker::whole();
             let fault = front.exchange(rt, &mut giver, &mut taker);
-            expect_eq(rt, &(fault, taker.calls), &(Some(AnswerFault::Read), 0));
+            expect_eq(rt, (fault, taker.calls), (Some(AnswerFault::Read), 0));
         }
         front.asks_in_turn(rt, AMY_V2, &NOT_YET);
     }
@@ -86,10 +86,10 @@ impl Fixture for ShortWriter {
         let mut giver = Giver::new(BOOK_7.as_bytes(), WHOLE, true);
         let mut taker = Taker::new(MAX_REPLY_LEN, self.len, self.stalls);
         let fault = front.exchange(rt, &mut giver, &mut taker);
-        expect_eq(rt, &fault, &Some(AnswerFault::Write(self.len)));
-        expect_eq(rt, &taker.written_bytes().len(), &self.len);
+        expect_eq(rt, fault, Some(AnswerFault::Write(self.len)));
+        expect_eq(rt, taker.written_bytes().len(), self.len);
         let is_first = BOOKED_7.as_bytes().starts_with(taker.written_bytes());
-        expect_eq(rt, &is_first, &true);
+        expect_eq(rt, is_first, true);
         front.asks_in_turn(rt, AMY_V2, &KEPT);
     }
 }

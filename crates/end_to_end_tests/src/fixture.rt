@@ -71,7 +71,7 @@ impl<S: ClubStore> Served<S> {
                 OfficeReply::Refused(fault) => Some(fault),
                 _ => None,
             };
-            expect_eq(rt, &fault, &None);
+            expect_eq(rt, fault, None);
         }
     }
 
@@ -90,7 +90,7 @@ impl<S: ClubStore> Served<S> {
     pub fn written_to(&mut self, rt: &impl Host, bytes: &[u8]) -> Taker {
         let mut taker = Taker::whole();
         let fault = self.exchange(rt, &mut Giver::new(bytes, WHOLE, false), &mut taker);
-        expect_eq(rt, &fault, &None);
+        expect_eq(rt, fault, None);
         taker
     }
 
@@ -101,7 +101,7 @@ impl<S: ClubStore> Served<S> {
     pub fn asks_in_turn(&mut self, rt: &impl Host, pass: &str, steps: &[Step]) {
         for Step(asked, want) in steps {
             let taker = self.reply_under(rt, pass, asked);
-            expect_case(rt, asked, &taker.written_bytes(), &want.as_bytes());
+            expect_case(rt, asked, taker.written_bytes(), want.as_bytes());
         }
     }
 }

@@ -20,14 +20,14 @@ impl Fixture for Exchange {
             front.asks_in_turn(rt, self.0, &NOT_YET);
             return;
         }
-        expect_case(rt, BOOK_7, &taker.written_bytes(), &BOOKED_7.as_bytes());
+        expect_case(rt, BOOK_7, taker.written_bytes(), BOOKED_7.as_bytes());
         for Step(asked, want) in &KEPT {
             let taker = front.reply_under(rt, self.0, asked);
             // The refused allocation is in this later exchange, which isn't tested.
             if taker.written_bytes() == UNAVAILABLE.as_bytes() {
                 panic!(rt; "Memory");
             }
-            expect_case(rt, asked, &taker.written_bytes(), &want.as_bytes());
+            expect_case(rt, asked, taker.written_bytes(), want.as_bytes());
         }
     }
 }
@@ -75,7 +75,7 @@ impl Fixture for Faults {
     fn play<S: ClubStore>(&self, rt: &impl Host, front: &mut Served<S>) {
         for (pass, want) in &FAULTS {
             let taker = front.reply_under(rt, pass, ACCOUNT);
-            expect_case(rt, pass, &taker.written_bytes(), &want.as_bytes());
+            expect_case(rt, pass, taker.written_bytes(), want.as_bytes());
         }
     }
 }
