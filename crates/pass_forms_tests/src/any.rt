@@ -54,7 +54,7 @@ static REFUSED: [Refused; 8] = [
 ];
 
 fn is_refused(rt: &impl Host, text: &[u8], fault: FormFault) {
-    expect_eq(rt, &read_any(rt.alloc(), text).err(), &Some(fault), &text);
+    expect_eq(rt, read_any(rt.alloc(), text).err(), Some(fault), &text);
 }
 
 #[test]

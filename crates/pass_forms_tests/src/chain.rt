@@ -58,10 +58,10 @@ const FRONT: &[u8] = b"\xa3\xb6\x16\x74\x73\x10\x0e\xe0\x6e\x0c\x79\x6c\x29\x55\
 #[test]
 fn macs_of_the_rfc(rt: HostRuntime) {
     for (key, text, mac) in &CASES {
-        expect_eq(&rt, &hmac(key, text), *mac, text);
+        expect_eq(&rt, hmac(key, text), **mac, text);
     }
     let mac = hmac(&[0x0c; 20], b"Test With Truncation");
-    expect_eq(&rt, &&mac[..16], &FRONT, &"case 5");
+    expect_eq(&rt, &mac[..16], FRONT, &"case 5");
 }
 
 const CAVEAT: &[u8] = b"test = caveat";
@@ -70,13 +70,13 @@ const CAVEAT: &[u8] = b"test = caveat";
 fn chain_of_a_known_root(rt: HostRuntime) {
     let (bare, known) = (&BARE_FIELDS, &KNOWN_FIELDS);
     let mut chain = Chain::start(ROOT, bare.identifier);
-    expect_eq(&rt, &chain.signature(), bare.signature, &"bare");
+    expect_eq(&rt, chain.signature(), *bare.signature, &"bare");
     chain.add(CAVEAT);
-    expect_eq(&rt, &chain.signature(), known.signature, &"known");
+    expect_eq(&rt, chain.signature(), *known.signature, &"known");
 }
 
 fn expect_same(rt: &impl Host, a: &[u8; 32], b: &[u8; 32], alike: bool) {
-    expect_eq(rt, &same(a, b), &alike, &(a, b));
+    expect_eq(rt, same(a, b), alike, &(a, b));
 }
 
 // If the chain's key is the root itself instead of the derived key, the signature differs.

@@ -25,8 +25,8 @@ fn wraps(rt: &impl Host, text: &[u8], form: Form, plain: bool, bytes: &[u8]) {
     let mut room = [1; MAX_BYTES];
     let unwrapped = unwrap_text(text, &mut room).expect(rt, "a form");
     let shape = (unwrapped.form, unwrapped.plain, unwrapped.len);
-    expect_eq(rt, &shape, &(form, plain, bytes.len()), &text);
-    expect_eq(rt, &unwrapped.bytes(text, &room), &bytes, &text);
+    expect_eq(rt, shape, (form, plain, bytes.len()), &text);
+    expect_eq(rt, unwrapped.bytes(text, &room), bytes, &text);
 }
 
 #[test]
@@ -64,7 +64,7 @@ static OTHER_TEXTS: [&[u8]; 8] = [
 
 fn expect_outcomes(rt: &impl Host, texts: &[&[u8]], want: Result<(Form, usize), FormFault>) {
     for text in texts {
-        expect_eq(rt, &outcome(text), &want, text);
+        expect_eq(rt, outcome(text), want, text);
     }
 }
 
@@ -83,8 +83,8 @@ static OTHER_BYTES: [&[u8]; 8] = [b"AQ", b"Aw", b"Lw", b"Og", b"QQ", b"YA", b"Zw
 fn first_byte_decides_the_form(rt: HostRuntime) {
     expect_outcomes(&rt, &V1_BYTES, Ok((Form::V1, 1)));
     expect_outcomes(&rt, &OTHER_BYTES, Err(FormFault::Malformed));
-    expect_eq(&rt, &outcome(b"Ag"), &Ok((Form::V2, 1)), &"the byte 2");
-    expect_eq(&rt, &outcome(b"ew"), &Ok((Form::Json, 1)), &"a brace");
+    expect_eq(&rt, outcome(b"Ag"), Ok((Form::V2, 1)), &"the byte 2");
+    expect_eq(&rt, outcome(b"ew"), Ok((Form::Json, 1)), &"a brace");
 }
 
 static LONG: [(&[Piece], Result<(Form, usize), FormFault>); 4] = [
@@ -97,7 +97,7 @@ static LONG: [(&[Piece], Result<(Form, usize), FormFault>); 4] = [
 #[test]
 fn reads_up_to_8192_bytes(rt: HostRuntime) {
     for (pieces, want) in &LONG {
-        expect_eq(&rt, &outcome(&join(&rt, pieces)), want, pieces);
+        expect_eq(&rt, outcome(&join(&rt, pieces)), *want, pieces);
     }
 }
 
@@ -120,8 +120,8 @@ static DECODED: [(&[u8], Option<&[u8]>); 13] = [
 
 fn decodes(rt: &impl Host, text: &[u8], want: Option<&[u8]>) {
     match decode_base64(rt.alloc(), text).expect(rt, "memory") {
-        Some(bytes) => expect_eq(rt, &Some(bytes.as_slice()), &want, &text),
-        None => expect_eq(rt, &None, &want, &text),
+        Some(bytes) => expect_eq(rt, Some(bytes.as_slice()), want, &text),
+        None => expect_eq(rt, None, want, &text),
     }
 }
 

@@ -164,7 +164,7 @@ const SIGNED: &[u8] = b",\"s64\":\"fN7nklEcW8b1KEhYBd_psk54XijiqZMB-dcRxgnjjvc\"
 fn identifies(rt: &impl Host, member: &'static [u8], identifier: &[u8]) {
     let text = join(rt, &[OPEN, (1, member), (1, SIGNED)]);
     let pass = read(rt.alloc(), Form::Json, &text).expect(rt, "a pass");
-    expect_eq(rt, &pass.identifier(), &identifier, &member);
+    expect_eq(rt, pass.identifier(), identifier, &member);
 }
 
 #[test]

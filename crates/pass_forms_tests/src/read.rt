@@ -10,7 +10,7 @@ pub(crate) type Row = (&'static [Piece], Fields<'static>);
 pub(crate) type Refused = (&'static [Piece], FormFault);
 
 fn expect_next<'a, S: FieldSource<'a>>(rt: &impl Host, fields: &mut S, want: Option<Field<'a>>) {
-    expect_eq(rt, &fields.next(), &want, &"the next field");
+    expect_eq(rt, fields.next(), want, &"the next field");
 }
 
 fn expect_fields<'a, S: FieldSource<'a>>(rt: &impl Host, fields: &mut S, want: &Fields<'a>) {
@@ -74,8 +74,8 @@ fn is_refused(rt: &impl Host, form: Form, bytes: &[u8], fault: FormFault) {
         Form::V2 => open_v2(bytes).err(),
         Form::Json => want,
     };
-    expect_eq(rt, &opened, &want, &bytes);
-    expect_eq(rt, &read(rt.alloc(), form, bytes).err(), &want, &bytes);
+    expect_eq(rt, opened, want, &bytes);
+    expect_eq(rt, read(rt.alloc(), form, bytes).err(), want, &bytes);
 }
 
 pub(crate) fn are_refused(rt: &impl Host, form: Form, rows: &[Refused]) {
@@ -98,7 +98,7 @@ pub(crate) fn are_refused_between(
 
 pub(crate) fn is_refused_cut_short(rt: &impl Host, form: Form, pieces: &[Piece], len: usize) {
     let bytes = join(rt, pieces);
-    expect_eq(rt, &bytes.len(), &len, &form);
+    expect_eq(rt, bytes.len(), len, &form);
     for len in 0..bytes.len() {
         is_refused(rt, form, &bytes[..len], FormFault::Malformed);
     }

@@ -11,7 +11,7 @@ pub(crate) fn read_in(rt: &impl Host, form: Form, text: &str) -> Pass {
         found => found,
     };
     let (detected, pass) = found.expect(rt, "a pass");
-    expect_eq(rt, &detected, &form, &text);
+    expect_eq(rt, detected, form, &text);
     pass
 }
 
@@ -25,7 +25,7 @@ fn written_text(rt: &impl Host, form: Form, pass: &Pass) -> String {
 
 pub(crate) fn is_written(rt: &impl Host, pass: &Pass, texts: &[&str; 3]) {
     for (form, text) in FORMS.iter().zip(texts) {
-        expect_eq(rt, &written_text(rt, *form, pass).as_str(), text, form);
+        expect_eq(rt, written_text(rt, *form, pass).as_str(), *text, form);
     }
 }
 

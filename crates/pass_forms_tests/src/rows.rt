@@ -8,10 +8,11 @@ pub(crate) trait Host: Abort + AllocGlobal {}
 
 impl<R: Abort + AllocGlobal> Host for R {}
 
-pub(crate) fn expect_eq<T: PartialEq + Debug>(
+/// The compared values are copies because borrows make the proof of a test longer.
+pub(crate) fn expect_eq<T: PartialEq + Debug + Copy>(
     rt: &impl Abort,
-    outcome: &T,
-    want: &T,
+    outcome: T,
+    want: T,
     row: &impl Debug,
 ) {
     assert_eq!(rt; outcome, want, "{row:?}");
@@ -42,16 +43,16 @@ pub(crate) struct Fields<'a> {
 }
 
 pub(crate) fn expect_caveats(rt: &impl Abort, caveats: &[Vec<u8>], want: &Fields<'_>) {
-    expect_eq(rt, &caveats.len(), &want.caveats.len(), want);
+    expect_eq(rt, caveats.len(), want.caveats.len(), want);
     for (caveat, wanted) in caveats.iter().zip(want.caveats.iter()) {
-        expect_eq(rt, &caveat.as_slice(), wanted, want);
+        expect_eq(rt, caveat.as_slice(), *wanted, want);
     }
 }
 
 pub(crate) fn expect_pass(rt: &impl Abort, pass: &Pass, want: &Fields<'_>) {
-    expect_eq(rt, &pass.location(), &want.location, want);
-    expect_eq(rt, &pass.identifier(), &want.identifier, want);
-    expect_eq(rt, &pass.signature(), &want.signature, want);
+    expect_eq(rt, pass.location(), want.location, want);
+    expect_eq(rt, pass.identifier(), want.identifier, want);
+    expect_eq(rt, pass.signature(), want.signature, want);
     expect_caveats(rt, pass.caveats(), want);
 }
 

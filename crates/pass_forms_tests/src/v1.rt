@@ -125,9 +125,9 @@ fn is_signed(bytes: &[u8], root: &[u8]) -> bool {
 
 fn expect_signed(rt: &impl Host, root: &[u8], signed: bool) {
     let bytes = join(rt, &KNOWN);
-    expect_eq(rt, &is_signed(&bytes, root), &signed, &root);
+    expect_eq(rt, is_signed(&bytes, root), signed, &root);
     let pass = read(rt.alloc(), Form::V1, &bytes).expect(rt, "a pass");
-    expect_eq(rt, &pass.is_signed(root), &signed, &root);
+    expect_eq(rt, pass.is_signed(root), signed, &root);
 }
 
 #[test]

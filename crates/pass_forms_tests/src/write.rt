@@ -10,7 +10,7 @@ use std::alloc::Global;
 fn mint_known(rt: &impl Host, want: &Fields<'_>) -> Pass {
     let pass = Pass::mint(rt.alloc(), ROOT, want.location, want.identifier).expect(rt, "memory");
     expect_pass(rt, &pass, want);
-    expect_eq(rt, &pass.is_signed(ROOT), &true, want);
+    expect_eq(rt, pass.is_signed(ROOT), true, want);
     pass
 }
 
@@ -23,15 +23,15 @@ fn known_pass(rt: &impl Host) -> Pass {
 #[test]
 fn gives_its_parts_back(rt: HostRuntime) {
     let (parts, want) = (known_pass(&rt).into_parts(), &KNOWN_FIELDS);
-    expect_eq(&rt, &parts.location.as_slice(), &want.location, want);
-    expect_eq(&rt, &parts.identifier.as_slice(), &want.identifier, want);
-    expect_eq(&rt, &parts.signature, want.signature, want);
+    expect_eq(&rt, parts.location.as_slice(), want.location, want);
+    expect_eq(&rt, parts.identifier.as_slice(), want.identifier, want);
+    expect_eq(&rt, parts.signature, *want.signature, want);
     expect_caveats(&rt, &parts.caveats, want);
 }
 
 fn expect_text(rt: &impl Host, form: Form, pass: &Pass, want: &str) {
     let text = write(rt.alloc(), form, pass).expect(rt, "a text");
-    expect_eq(rt, &text.as_str(), &want, &form);
+    expect_eq(rt, text.as_str(), want, &form);
 }
 
 #[test]
@@ -45,9 +45,9 @@ fn answers_with_ample_memory(rt: HostRuntime) {
 fn is_written_in_json(rt: &impl Host, pass: &Pass, text: &str) {
     expect_text(rt, Form::Json, pass, text);
     let back = read(rt.alloc(), Form::Json, text.as_bytes()).expect(rt, "the pass of its text");
-    expect_eq(rt, &back.location(), &pass.location(), &"a location");
-    expect_eq(rt, &back.identifier(), &pass.identifier(), &"an identifier");
-    expect_eq(rt, &back.signature(), &pass.signature(), &"a signature");
+    expect_eq(rt, back.location(), pass.location(), &"a location");
+    expect_eq(rt, back.identifier(), pass.identifier(), &"an identifier");
+    expect_eq(rt, back.signature(), pass.signature(), &"a signature");
 }
 
 static JSON: [(&str, &str); 2] = [
@@ -114,9 +114,9 @@ fn has_lens(rt: &impl Host, row: &Row) {
     let (form, identifier_len, caveat_count, want) = row;
     let pass = pass_of(rt, &[(*identifier_len, b"x")], *caveat_count);
     let written = write(rt.alloc(), *form, &pass);
-    expect_eq(rt, &lens_of(rt.alloc(), written), want, row);
+    expect_eq(rt, lens_of(rt.alloc(), written), *want, row);
     let written = write_any(rt.alloc(), *form, &pass);
-    expect_eq(rt, &lens_of(rt.alloc(), written), want, row);
+    expect_eq(rt, lens_of(rt.alloc(), written), *want, row);
 }
 
 #[test]
@@ -131,9 +131,9 @@ fn counts_caveats(rt: HostRuntime) {
     let mut pass = pass_of(&rt, &[], 63);
     narrow(rt.alloc(), &mut pass, b"").expect(&rt, "a narrower pass");
     for form in &FORMS {
-        expect_eq(&rt, &write(rt.alloc(), *form, &pass).is_ok(), &true, form);
+        expect_eq(&rt, write(rt.alloc(), *form, &pass).is_ok(), true, form);
     }
     let refused = narrow(rt.alloc(), &mut pass, b"");
-    expect_eq(&rt, &refused, &Err(FormFault::TooMany), &"a 65th caveat");
-    expect_eq(&rt, &pass.caveats().len(), &64, &"caveats");
+    expect_eq(&rt, refused, Err(FormFault::TooMany), &"a 65th caveat");
+    expect_eq(&rt, pass.caveats().len(), 64, &"caveats");
 }
