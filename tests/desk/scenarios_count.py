@@ -44,6 +44,7 @@ STAYS = {
     "club_core_tests/rows": "readers of a row's columns",
     "club_core_tests/answers": "direct calls: answers to commands, the texts of values, and the time of an older root",
     "club_core_tests/decisions": "direct calls: the facts that caveats check, and a state that no club reaches",
+    "club_core_tests/reference": "direct calls: one member's part of a club, and copies of a club",
     "club_gate_tests/store": "tables and statements, by direct calls; odd and older databases",
     "club_gate_tests/readings": "counted calls of the store",
     "club_gate_tests/law": "lists of events that start with an empty database, by the theorem's calls",
