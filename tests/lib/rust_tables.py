@@ -7,7 +7,8 @@ from functools import cache
 from pathlib import Path
 
 CRATES = Path(__file__).resolve().parents[2] / "crates"
-TOKEN = re.compile(r"""\s+|//[^\n]*|(?P<string>b?"(?:\\[\s\S]|[^"\\])*")|(?P<byte>b'(?:\\.[^']*|[^'\\])')|(?P<number>\d[\d_]*(?:\.\d+)?)(?:u8|u16|u32|u64|usize|i64)?
+TOKEN = re.compile(r"""\s+|//[^\n]*|(?P<raw>b?r(?P<fence>\#*)"[\s\S]*?"(?P=fence))
+                   |(?P<string>b?"(?:\\[\s\S]|[^"\\])*")|(?P<byte>b'(?:\\.[^']*|[^'\\])')|(?P<number>\d[\d_]*(?:\.\d+)?)(?:u8|u16|u32|u64|usize|i64)?
                    |(?P<name>r?[A-Za-z_]\w*(?:::[A-Za-z_]\w*)*)|(?P<sign>\.\.|->|::|[\[\](){}<>,;:=&*+.'|!?#-])""", re.VERBOSE)
 METHODS = {"len": len, "as_bytes": str.encode}
 BOUNDS = {"u8::MAX": 2**8 - 1, "u16::MAX": 2**16 - 1, "u32::MAX": 2**32 - 1, "u64::MAX": 2**64 - 1, "usize::MAX": 2**64 - 1}
@@ -113,6 +114,9 @@ class Expression:
             return int(text.replace("_", ""))
         if kind == "string":
             value = unescaped(text[2:-1] if text.startswith("b") else text[1:-1])
+            return value.encode("latin-1") if text.startswith("b") else value
+        if kind == "raw":
+            value = text[text.index('"') + 1:text.rindex('"')]
             return value.encode("latin-1") if text.startswith("b") else value
         if kind == "byte":
             return ord(unescaped(text[2:-1]))
