@@ -31,7 +31,7 @@ fn asked_by(routes: &Routes, bytes: &[u8]) -> Asked {
 }
 
 fn asks(rt: &impl Runtime, bytes: &[u8], want: &Asked) {
-    expect_row(rt, &asked_by(&routes(rt), bytes), want, &bytes.len());
+    expect_row(rt, &asked_by(&routes(rt), bytes), want, bytes.len());
 }
 
 /// Scans the bytes in two pieces. The first piece has at most `first` bytes.
@@ -59,13 +59,13 @@ fn asked_in_two(routes: &Routes, bytes: &[u8], first: usize) -> Asked {
 
 fn is_booked_in_two(rt: &impl Runtime, bytes: &[u8], first: usize) {
     let asked = asked_in_two(&routes(rt), bytes, first);
-    expect_row(rt, &asked, &booked(rt), &first);
-    expect_row(rt, &is_whole(bytes, first), &true, &first);
+    expect_row(rt, &asked, &booked(rt), first);
+    expect_row(rt, is_whole(bytes, first), true, first);
 }
 
 fn is_cut(rt: &impl Runtime, bytes: &[u8]) {
     asks(rt, bytes, &BAD_REQUEST);
-    expect_row(rt, &is_whole(bytes, bytes.len() / 2), &false, &bytes.len());
+    expect_row(rt, is_whole(bytes, bytes.len() / 2), false, bytes.len());
 }
 
 #[test]
@@ -109,7 +109,7 @@ pub(crate) static LONGEST: [Piece; 5] = [
 fn longest(rt: HostRuntime) {
     let text = join(&rt, &LONGEST);
     let bytes = text.as_bytes();
-    expect_row(&rt, &bytes.len(), &16_640, &"the longest");
+    expect_row(&rt, bytes.len(), 16_640, "the longest");
     asks(&rt, bytes, &booked(&rt));
     is_booked_in_two(&rt, bytes, 16_384);
     is_cut(&rt, &bytes[..bytes.len().saturating_sub(1)]);
@@ -121,7 +121,7 @@ fn refused_memory(rt: HostRuntime) {
     if let Ok(routes) = Routes::new(rt.alloc()) {
         let asked = asked_by(&routes, BOOKING.as_bytes());
         if asked != Err(Refusal::Unavailable) {
-            expect_row(&rt, &asked, &booked(&rt), &BOOKING);
+            expect_row(&rt, &asked, &booked(&rt), BOOKING);
         }
     }
 }

@@ -41,10 +41,9 @@ fn cut_off(len: usize) -> Ended {
 }
 
 fn booking_desk(rt: &impl Runtime) -> Desk<'static> {
-    Desk {
-        reply: booked_reply(rt),
-        ..Desk::new(rt.alloc(), noon(rt))
-    }
+    let mut desk = Desk::new(rt.alloc(), noon(rt));
+    desk.reply = booked_reply(rt);
+    desk
 }
 
 fn expect_ended(
@@ -55,8 +54,8 @@ fn expect_ended(
     (want, last, text): &Ended,
 ) {
     expect_eq(rt, outcome, want);
-    let asked = u64::from(last.is_some());
-    expect_eq(rt, &(desk.asked, desk.last), &(asked, *last));
+    expect_eq(rt, desk.asked, u64::from(last.is_some()));
+    expect_eq(rt, &desk.last, last);
     let len = match want {
         Err(AnswerFault::Write(len)) => *len,
         _ => text.len(),
@@ -86,7 +85,7 @@ fn failing_writers(rt: HostRuntime) {
     for len in 0..BOOKED_7.len() {
         let mut writer = Narrow::new(ROOM, len);
         gives(&rt, &mut writer, &cut_off(len));
-        expect_eq(&rt, &writer.failures, &1);
+        expect_eq(&rt, writer.failures, 1);
     }
 }
 
@@ -94,7 +93,7 @@ fn failing_writers(rt: HostRuntime) {
 fn short_writes(rt: HostRuntime) {
     let mut writer = Narrow::new(1, ROOM);
     gives(&rt, &mut writer, &booked(&rt));
-    expect_eq(&rt, &writer.calls, &133);
+    expect_eq(&rt, writer.calls, 133);
     let mut writer = Narrow::new(ROOM, 0);
     writer.stalls = true;
     gives(&rt, &mut writer, &cut_off(0));

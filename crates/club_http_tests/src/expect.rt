@@ -14,23 +14,22 @@ pub(crate) trait Runtime: Abort + Alloc<A = Global> + Clock {}
 
 impl<R: Abort + Alloc<A = Global> + Clock> Runtime for R {}
 
-/// Ends the test unless the values are equal. The proof of a test takes a third of the time if the
-/// test calls this function instead of `assert_eq!`.
-pub(crate) fn expect_eq<T: PartialEq + Debug>(rt: &impl Runtime, returned: &T, want: &T) {
+/// Ends the test unless the values are equal. Each direct `assert_eq!` lengthens a proof more.
+pub(crate) fn expect_eq<T: PartialEq + Debug + Copy>(rt: &impl Runtime, returned: T, want: T) {
     assert_eq!(rt; returned, want);
 }
 
-pub(crate) fn expect_row<T: PartialEq + Debug>(
+pub(crate) fn expect_row<T: PartialEq + Debug + Copy>(
     rt: &impl Runtime,
-    returned: &T,
-    want: &T,
-    row: &impl Debug,
+    returned: T,
+    want: T,
+    row: impl Debug + Copy,
 ) {
     assert_eq!(rt; returned, want, "{row:?}");
 }
 
 pub(crate) fn expect_bytes(rt: &impl Runtime, returned: &[u8], want: &[u8], asked: &str) {
-    assert_eq!(rt; returned, want, "{asked}");
+    expect_row(rt, returned, want, asked);
 }
 
 pub(crate) fn expect_shown<T: Display>(rt: &impl Runtime, value: &T, want: &str) {

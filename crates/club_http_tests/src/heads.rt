@@ -32,8 +32,8 @@ static LONG: [(&[Piece], bool); 3] = [
 fn expect_whole(rt: &impl Runtime, text: &str, whole: bool) {
     let bytes = text.as_bytes();
     let last = bytes.len().saturating_sub(3);
-    expect_row(rt, &is_whole(bytes, 0), &whole, &text);
-    expect_row(rt, &is_whole(bytes, last), &whole, &text);
+    expect_row(rt, is_whole(bytes, 0), whole, text);
+    expect_row(rt, is_whole(bytes, last), whole, text);
 }
 
 #[test]

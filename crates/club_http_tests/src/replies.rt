@@ -1,6 +1,6 @@
 //! The bytes of the longest reply. Writing the reply doesn't change the rest of the buffer.
 
-use crate::expect::{Runtime, expect_row};
+use crate::expect::{Runtime, expect_bytes, expect_row};
 use club_core::Reply;
 use club_values::Name;
 use http_response::{MAX_REPLY_LEN, reply_bytes};
@@ -8,11 +8,11 @@ use http_response::{MAX_REPLY_LEN, reply_bytes};
 static UNTOUCHED: [u8; MAX_REPLY_LEN] = [b'x'; MAX_REPLY_LEN];
 
 fn writes(rt: &impl Runtime, reply: &Reply, text: &str, len: usize) {
-    expect_row(rt, &text.len(), &len, &text);
+    expect_row(rt, text.len(), len, text);
     let mut room = UNTOUCHED;
     let written = reply_bytes(reply, &mut room);
-    expect_row(rt, &&room[..written], &text.as_bytes(), &text);
-    expect_row(rt, &&room[written..], &&UNTOUCHED[written..], &text);
+    expect_bytes(rt, &room[..written], text.as_bytes(), text);
+    expect_bytes(rt, &room[written..], &UNTOUCHED[written..], text);
 }
 
 #[test]

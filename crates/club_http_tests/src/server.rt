@@ -15,13 +15,13 @@ mod told;
 
 use crate::desk::Desk;
 use crate::expect::{Runtime, expect_eq, expect_row, expect_shown, noon};
-use club_clock::{Clock, MomentsOf};
+use club_clock::{Clock, Moments, MomentsOf};
 use club_core::Reply;
 use club_http::{AnswerFault, Face};
 use club_values::{Kind, Moment, Slot};
 use desk_server::{
-    Accepted, Arrival, Arrivals, ClientSocket, ClockOutOfRange, Connection, Listening, Unlogged,
-    serve_on,
+    Accepted, Arrival, Arrivals, ClientSocket, ClockOutOfRange, Connection, Listening, Log,
+    Unlogged, serve_logged, serve_on,
 };
 use doubles::{Script, Step, Stopped, Wire};
 pub use journal::{Call, Journal};
@@ -83,24 +83,43 @@ fn client_at<'a, C: time::Clock>(
     client.expect(rt, "a connection")
 }
 
-/// Runs an exchange at the desk's moment. The request is in `face` after the exchange.
-fn exchange<C: Connection>(
-    face: &mut Face,
-    connection: &mut C,
+/// Runs an exchange at the desk's moment.
+fn exchange(
+    rt: &impl Runtime,
+    connection: &mut impl Connection,
     desk: &mut Desk<'_>,
 ) -> Result<Reply, AnswerFault> {
     let at = desk.moment;
+    let face = &mut new_face(rt);
     connection.exchange(face, &mut always(at), desk, &mut Unlogged, at)
 }
 
-fn serves<L: Arrivals>(
+fn serves(
     rt: &impl Runtime,
-    arrivals: &mut L,
+    arrivals: &mut impl Arrivals,
     count: u32,
     desk: &mut Desk<'_>,
 ) -> Result<(), ClockOutOfRange> {
     let mut moments = always(noon(rt));
     serve_on(arrivals, count, &mut moments, &mut new_face(rt), desk)
+}
+
+/// The server's result, the number of waits for an arrival, and the number of requests at noon.
+type Served = (Result<(), ClockOutOfRange>, u64, u64);
+
+fn serves_script(
+    rt: &impl Runtime,
+    wires: &[Wire<'_>],
+    count: u32,
+    moments: &mut impl Moments,
+    log: &mut impl Log,
+) -> Served {
+    let journal = Journal::new(rt.alloc());
+    let mut arrivals = Script::new(&journal, wires);
+    let mut desk = desk_at_noon(rt);
+    let face = &mut new_face(rt);
+    let outcome = serve_logged(&mut arrivals, count, moments, face, &mut desk, log);
+    (outcome, arrivals.waited, desk.asked)
 }
 
 const WHOLE: &[Step<'static>] = &[Step::Bytes(0, REQUEST), Step::End(0)];
@@ -132,14 +151,15 @@ static COUNTS: [(u32, u64, u64, u64, usize); 5] = [
 // A client whose connection fails counts as served. The server continues after a refused request.
 #[test]
 fn serves_as_many_as_asked(rt: HostRuntime) {
-    for (count, waited, asked, commanded, bytes) in &COUNTS {
+    for row in &COUNTS {
         let journal = Journal::new(rt.alloc());
         let mut arrivals = Script::new(&journal, &FAILING);
         let mut desk = desk_at_noon(&rt);
-        let served = serves(&rt, &mut arrivals, *count, &mut desk);
+        let (count, waited, asked, commanded, bytes) = *row;
+        let served = serves(&rt, &mut arrivals, count, &mut desk);
         let returned = (arrivals.waited, desk.asked, desk.commanded, desk.bytes);
-        let wanted = (*waited, *asked, *commanded, *bytes);
-        expect_row(&rt, &(served, returned), &(Ok(()), wanted), count);
+        let wanted = (waited, asked, commanded, bytes);
+        expect_row(&rt, (served, returned), (Ok(()), wanted), count);
     }
 }
 
@@ -153,14 +173,9 @@ static WITH_REQUESTS: [Wire<'static>; 4] = [
 // The clock can be read only once.
 #[test]
 fn stops_without_a_moment(rt: HostRuntime) {
-    let journal = Journal::new(rt.alloc());
-    let mut arrivals = Script::new(&journal, &WITH_REQUESTS);
     let clock = clocks::noons(1);
     let mut moments = clocks::clock_in(&rt, "UTC0", &clock);
-    let mut desk = desk_at_noon(&rt);
-    let mut face = new_face(&rt);
-    let served = serve_on(&mut arrivals, 4, &mut moments, &mut face, &mut desk);
-    expect_eq(&rt, &served, &Err(ClockOutOfRange));
-    expect_eq(&rt, &(arrivals.waited, desk.asked), &(3, 1));
+    let served = serves_script(&rt, &WITH_REQUESTS, 4, &mut moments, &mut Unlogged);
+    expect_eq(&rt, served, (Err(ClockOutOfRange), 3, 1));
     expect_shown(&rt, &ClockOutOfRange, "clock out of range");
 }

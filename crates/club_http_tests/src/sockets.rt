@@ -22,7 +22,7 @@ pub(crate) fn client_of(
 }
 
 /// The client must get this text, and then the end of the connection.
-pub(crate) fn expect_reply(rt: &impl Runtime, client: &mut TcpStream, want: &str) {
+pub(crate) fn expect_reply(rt: &impl Runtime, mut client: TcpStream, want: &str) {
     let mut returned = Vec::new(rt.alloc());
     client.read_to_end(&mut returned).expect(rt, "a reply");
     expect_bytes(rt, &returned, want.as_bytes(), "a request over a socket");

@@ -12,10 +12,10 @@ use test_kit::Piece;
 /// its last byte, the reader fails.
 type Reading = (usize, u64, usize);
 
-fn is_read(rt: &impl Runtime, text: &str, (step, calls, left): &Reading, want: &Ended) {
-    let mut reader = Pieces::new(text.as_bytes(), *step, true);
+fn is_read(rt: &impl Runtime, text: &str, (step, calls, left): Reading, want: &Ended) {
+    let mut reader = Pieces::new(text.as_bytes(), step, true);
     returns(rt, &mut reader, want);
-    expect_eq(rt, &(reader.calls, reader.left.len()), &(*calls, *left));
+    expect_eq(rt, (reader.calls, reader.left.len()), (calls, left));
 }
 
 type Read = (&'static [Piece], Reading);
@@ -42,7 +42,7 @@ static ENDLESS: [Reading; 3] = [(1, 16_384, 3_616), (600, 28, 3_360), (200_000, 
 fn is_read_so(rt: &impl Runtime, pieces: &[Piece], readings: &[Reading], want: &Ended) {
     let text = join(rt, pieces);
     for reading in readings {
-        is_read(rt, text.as_str(), reading, want);
+        is_read(rt, text.as_str(), *reading, want);
     }
 }
 
@@ -71,7 +71,7 @@ fn by_steps(len: usize, step: usize) -> Reading {
 fn is_read_by_steps(rt: &impl Runtime, text: &str, steps: Range<usize>, want: &Ended) {
     let len = text.len().saturating_sub(5);
     for step in steps {
-        is_read(rt, text, &by_steps(len, step), want);
+        is_read(rt, text, by_steps(len, step), want);
     }
 }
 
@@ -115,7 +115,7 @@ fn is_cut(rt: &impl Runtime, bytes: &[u8]) {
     returns(rt, &mut Pieces::new(bytes, 7, false), &IS_BAD);
     let mut reader = Pieces::new(bytes, 7, true);
     returns(rt, &mut reader, &NO_REQUEST);
-    expect_eq(rt, &reader.failures, &1);
+    expect_eq(rt, reader.failures, 1);
 }
 
 #[test]

@@ -1,9 +1,9 @@
 //! Exchanges over a connection that a listener accepted. Each test sets the clock. Only these tests
 //! fail if an exchange has wrong time limits, or reads or writes too few bytes.
 
-use super::{Journal, client_at, exchange, new_face, patience, slot_shown};
+use super::{Journal, client_at, desk_at_noon, exchange, patience, slot_shown};
 use crate::desk::Desk;
-use crate::expect::{Runtime, expect_row, moment, noon};
+use crate::expect::{Runtime, expect_row, moment};
 use crate::sockets::{client_of, expect_reply, loopback_listener};
 use club_core::{Reply, Request};
 use club_http::AnswerFault;
@@ -78,7 +78,7 @@ fn exchange_after<'x>(
 ) -> Result<Reply, AnswerFault> {
     let mut connection = client_at(rt, listener, None, &journal.clock, patience());
     journal.clock.advance(waited);
-    exchange(&mut new_face(rt), &mut connection, desk)
+    exchange(rt, &mut connection, desk)
 }
 
 fn reply_to(rt: &impl Runtime, asked: &PlainRequest, reply: &Option<PlainReply>) -> Reply {
@@ -94,21 +94,19 @@ fn reply_to(rt: &impl Runtime, asked: &PlainRequest, reply: &Option<PlainReply>)
 fn exchanges_of_each_day(rt: HostRuntime) {
     for (request, at, asked, returned, reply) in &ROWS {
         let listener = loopback_listener(&rt);
-        let mut client = client_of(&rt, &listener, request.as_bytes());
+        let client = client_of(&rt, &listener, request.as_bytes());
         let journal = Journal::new(rt.alloc());
         journal.clock.advance(1_000);
-        let mut desk = Desk {
-            reply: reply_to(&rt, asked, returned),
-            journal: Some(&journal),
-            ..Desk::new(rt.alloc(), moment(&rt, at))
-        };
+        let mut desk = Desk::new(rt.alloc(), moment(&rt, at));
+        desk.reply = reply_to(&rt, asked, returned);
+        desk.journal = Some(&journal);
         let outcome = exchange_after(&rt, &listener, &journal, &mut desk, 7);
-        expect_row(&rt, &outcome, &Ok(desk.reply), request);
-        let last = asked.request();
-        expect_row(&rt, &(desk.asked, desk.last), &(1, last), request);
+        let returned = (outcome, desk.asked, desk.last);
+        let want = (Ok(desk.reply), 1, asked.request());
+        expect_row(&rt, returned, want, *request);
         let calls = journal.calls(&rt);
-        expect_row(&rt, &calls.as_str(), &"[(1007, Asked)]", request);
-        expect_reply(&rt, &mut client, reply);
+        expect_row(&rt, calls.as_str(), "[(1007, Asked)]", *request);
+        expect_reply(&rt, client, reply);
     }
 }
 
@@ -129,18 +127,17 @@ static LIMITS: [(usize, u64, u64, u64, Option<AnswerFault>); 6] = [
 
 #[test]
 fn limits_begin_with_the_connection_and_with_the_reply(rt: HostRuntime) {
-    for (sent, waited, takes, asked, fault) in &LIMITS {
+    for row in &LIMITS {
+        let (sent, waited, takes, asked, fault) = *row;
         let listener = loopback_listener(&rt);
-        let request = exchanges::BOOK_7.as_bytes().get(..*sent);
+        let request = exchanges::BOOK_7.as_bytes().get(..sent);
         let _client = client_of(&rt, &listener, request.expect(&rt, "a prefix"));
         let journal = Journal::new(rt.alloc());
-        let mut desk = Desk {
-            journal: Some(&journal),
-            asking_takes: *takes,
-            ..Desk::new(rt.alloc(), noon(&rt))
-        };
-        let outcome = exchange_after(&rt, &listener, &journal, &mut desk, *waited);
+        let mut desk = desk_at_noon(&rt);
+        desk.journal = Some(&journal);
+        desk.asking_takes = takes;
+        let outcome = exchange_after(&rt, &listener, &journal, &mut desk, waited);
         let returned = (desk.asked, outcome.err());
-        expect_row(&rt, &returned, &(*asked, *fault), &(*sent, *waited));
+        expect_row(&rt, returned, (asked, fault), (sent, waited));
     }
 }

@@ -1,20 +1,17 @@
 //! The office's commands at the server's door, which is a Unix socket. Some commands come while
 //! clients wait. No contract states which bytes a socket sends or receives.
 
-use super::by_the_door::{door_at, new_path};
+use super::by_the_door::Sockets;
+use super::desk_at_noon;
 use super::doubles::HandSet;
-use super::{desk_at_noon, patience};
 use crate::desk::Desk;
-use crate::expect::{expect_bytes, expect_eq, expect_row};
-use crate::sockets::{client_of, loopback_listener};
-use desk_server::{Arrival, Arrivals, Handover, Listening};
-use libc::net as c;
-use std::fs;
+use crate::expect::{Runtime, expect_bytes, expect_eq, expect_row, join};
+use crate::sockets::client_of;
+use desk_server::{Arrival, Arrivals, Handover};
+use std::fmt::Debug;
 use std::io::{Read, Write};
-use std::net::{Shutdown, TcpListener};
-use std::os::fd::AsRawFd;
-use std::os::unix::net::{UnixListener, UnixStream};
-use std::test::Fail;
+use std::net::{Net, Shutdown};
+use std::os::unix::net::UnixStream;
 use std::time::{Clock, Duration};
 
 /// After sending its bytes, a sender ends its side of the connection, stays silent, or closes the
@@ -32,69 +29,84 @@ const NOTHING: &[u8] = b"!\x09nothing was done\0";
 
 /// A sender, the number of commands that the desk carries out, the number of their bytes, and the
 /// answer.
-static ROWS: [(Sent, u64, usize, &[u8]); 8] = [
-    ((8, Then::Ends), 1, 8, b"!\x01\0"),
+type Visit = (Sent, u64, usize, &'static [u8]);
+
+const COMPLETE: Visit = ((8, Then::Ends), 1, 8, b"!\x01\0");
+
+const SILENT: Visit = ((8, Then::Waits), 0, 0, NOTHING);
+
+static VISITS: [Visit; 8] = [
+    COMPLETE,
     ((0, Then::Ends), 1, 0, b"!\x01\0"),
     // A command may have at most 8,191 bytes.
     ((8_191, Then::Ends), 1, 8_191, b"!\x01\0"),
     ((8_192, Then::Ends), 0, 0, NOTHING),
     ((70_000, Then::Ends), 0, 0, NOTHING),
-    ((8, Then::Waits), 0, 0, NOTHING),
+    SILENT,
     ((0, Then::Goes), 0, 0, b""),
     ((8, Then::Goes), 0, 0, b""),
 ];
 
-fn sender_at(
-    rt: &HostRuntime,
-    path: &str,
-    (bytes, then): Sent,
-) -> Result<Option<UnixStream>, Fail> {
-    let mut sender = UnixStream::connect(rt, path)?;
-    sender.write_all("x".repeat(rt.alloc(), bytes)?.as_bytes())?;
+fn sender_at(rt: &(impl Runtime + Net), sockets: &Sockets, sent: Sent) -> Option<UnixStream> {
+    let (bytes, then) = sent;
+    let mut sender = sockets.sender(rt);
+    let command = "x".repeat(rt.alloc(), bytes).expect(rt, "memory");
+    sender.write_all(command.as_bytes()).expect(rt, "a command");
     match then {
-        Then::Ends => sender.shutdown(Shutdown::Write)?,
+        Then::Ends => sender.shutdown(Shutdown::Write).expect(rt, "an end"),
         Then::Waits => {}
-        Then::Goes => return Ok(None),
+        Then::Goes => return None,
     }
-    Ok(Some(sender))
+    Some(sender)
 }
 
-fn visits<C: Clock>(
-    rt: &HostRuntime,
-    clock: &C,
+/// Returns whether the desk carries out the command, or `None` if no command arrives.
+fn carries_out(arrivals: &mut impl Arrivals, desk: &mut Desk<'_>) -> Option<bool> {
+    match arrivals.next() {
+        Arrival::Command(mut command) => Some(command.carry_out(desk).is_some()),
+        Arrival::Client(_) | Arrival::Nobody => None,
+    }
+}
+
+fn visits(
+    rt: &(impl Runtime + Net),
+    sockets: &Sockets,
+    clock: &impl Clock,
     sent: Sent,
     desk: &mut Desk<'_>,
-) -> Result<(bool, Vec<u8>), Fail> {
-    let path = new_path(rt, "at-the-door")?;
-    let door = door_at(rt, path.as_str())?;
-    let sender = sender_at(rt, path.as_str(), sent)?;
-    let listener = TcpListener::bind(rt, "127.0.0.1:0")?;
-    let mut arrivals = Listening::new(&listener, Some(&door), clock, patience());
-    let Arrival::Command(mut handed) = arrivals.next() else {
-        return Err("no order".into());
-    };
-    let whole = handed.carry_out(desk).is_some();
-    drop(handed);
-    fs::remove_file(rt, path.as_str())?;
+) -> (Option<bool>, Vec<u8>) {
+    let sender = sender_at(rt, sockets, sent);
+    let whole = carries_out(&mut sockets.arrivals(clock), desk);
     let mut got = Vec::new(rt.alloc());
     if let Some(mut sender) = sender {
         // This read may end with an error, because the server may close the connection without
         // reading all bytes.
         let _ = sender.read_to_end(&mut got);
     }
-    Ok((whole, got))
+    (whole, got)
+}
+
+fn expect_visit(
+    rt: &(impl Runtime + Net),
+    sockets: &Sockets,
+    clock: &impl Clock,
+    (sent, commanded, bytes, want): Visit,
+    row: impl Debug + Copy,
+) {
+    let mut desk = desk_at_noon(rt);
+    let (whole, got) = visits(rt, sockets, clock, sent, &mut desk);
+    let returned = (whole, desk.commanded, desk.bytes);
+    expect_row(rt, returned, (Some(commanded == 1), commanded, bytes), row);
+    expect_bytes(rt, &got, want, "what the office got");
 }
 
 #[test]
-fn senders_at_a_door(rt: HostRuntime) -> Result<(), Fail> {
-    for (sent, commanded, of, want) in &ROWS {
-        let mut desk = desk_at_noon(&rt);
-        let (whole, got) = visits(&rt, &rt, *sent, &mut desk)?;
-        let returned = (whole, desk.commanded, desk.bytes);
-        expect_row(&rt, &returned, &(*commanded == 1, *commanded, *of), sent);
-        expect_bytes(&rt, &got, want, "what the office got");
+fn senders_at_a_door(rt: HostRuntime) {
+    let sockets = Sockets::new(&rt).expect(&rt, "sockets");
+    for visit in &VISITS {
+        expect_visit(&rt, &sockets, &rt, *visit, visit.0);
     }
-    Ok(())
+    sockets.remove(&rt);
 }
 
 /// The milliseconds that each reading adds to the clock. A command has 200 milliseconds to arrive.
@@ -102,41 +114,32 @@ static LATE: [u64; 4] = [0, 150, 200, 1_000];
 
 // Even if the server was suspended for too long, it carries out a command that has already arrived.
 #[test]
-fn a_command_that_is_there_is_in_time(rt: HostRuntime) -> Result<(), Fail> {
+fn a_command_that_is_there_is_in_time(rt: HostRuntime) {
+    let sockets = Sockets::new(&rt).expect(&rt, "sockets");
     for step in &LATE {
         let clock = HandSet::new(0, step.saturating_mul(1_000));
-        let mut desk = desk_at_noon(&rt);
-        let (_, got) = visits(&rt, &clock, (8, Then::Ends), &mut desk)?;
-        expect_row(&rt, &desk.commanded, &1, step);
-        expect_bytes(&rt, &got, b"!\x01\0", "what the office got");
+        expect_visit(&rt, &sockets, &clock, COMPLETE, *step);
     }
-    Ok(())
+    sockets.remove(&rt);
 }
 
-fn waits_for_a_silent_sender<C: Clock>(
-    rt: &HostRuntime,
-    clock: &C,
-    mut desk: Desk<'_>,
-) -> Result<Duration, Fail> {
-    let before = rt.monotonic()?;
-    let (whole, got) = visits(rt, clock, (8, Then::Waits), &mut desk)?;
-    if whole || got.as_slice() != NOTHING {
-        return Err("the sender was told something else".into());
-    }
-    Ok(rt.monotonic()?.saturating_sub(before))
+fn silent_wait(rt: &(impl Runtime + Net), sockets: &Sockets, clock: &impl Clock) -> Duration {
+    let before = rt.monotonic().expect(rt, "a clock");
+    expect_visit(rt, sockets, clock, SILENT, "a silent sender");
+    rt.monotonic().expect(rt, "a clock").saturating_sub(before)
 }
 
 #[test]
-fn a_command_has_a_fifth_of_a_second(rt: HostRuntime) -> Result<(), Fail> {
-    let waited = waits_for_a_silent_sender(&rt, &rt, desk_at_noon(&rt))?;
-    expect_eq(&rt, &(waited >= Duration::from_millis(190)), &true);
-    let clock = HandSet::new(0, 40_000);
-    let waited = waits_for_a_silent_sender(&rt, &clock, desk_at_noon(&rt))?;
-    expect_eq(&rt, &(waited < Duration::from_millis(700)), &true);
-    Ok(())
+fn a_command_has_a_fifth_of_a_second(rt: HostRuntime) {
+    let sockets = Sockets::new(&rt).expect(&rt, "sockets");
+    let waited = silent_wait(&rt, &sockets, &rt);
+    expect_eq(&rt, waited >= Duration::from_millis(190), true);
+    let waited = silent_wait(&rt, &sockets, &HandSet::new(0, 40_000));
+    expect_eq(&rt, waited < Duration::from_millis(700), true);
+    sockets.remove(&rt);
 }
 
-fn is_command<A: Arrivals>(arrivals: &mut A) -> Option<bool> {
+pub fn is_command(arrivals: &mut impl Arrivals) -> Option<bool> {
     match arrivals.next() {
         Arrival::Command(_) => Some(true),
         Arrival::Client(_) => Some(false),
@@ -144,24 +147,20 @@ fn is_command<A: Arrivals>(arrivals: &mut A) -> Option<bool> {
     }
 }
 
-// After its shutdown, the door is readable, but each accept at the door fails. The server pauses
-// ten milliseconds, and then accepts a client.
+// The server pauses ten milliseconds, and then accepts a client.
 #[test]
-fn a_door_that_fails_is_no_client(rt: HostRuntime) -> Result<(), Fail> {
-    let path = new_path(&rt, "fails")?;
-    let door = UnixListener::bind(&rt, path.as_str())?;
-    let _ = c::shutdown(door.as_raw_fd(), c::SHUT_RDWR);
-    let listener = loopback_listener(&rt);
-    let _first = client_of(&rt, &listener, b"");
-    let _second = client_of(&rt, &listener, b"");
+fn a_door_that_fails_is_no_client(rt: HostRuntime) {
+    let sockets = Sockets::new(&rt).expect(&rt, "sockets");
+    sockets.break_door();
+    let _first = client_of(&rt, &sockets.listener, b"");
+    let _second = client_of(&rt, &sockets.listener, b"");
     let clock = HandSet::new(0, 0);
-    let mut arrivals = Listening::new(&listener, Some(&door), &clock, patience());
+    let mut arrivals = sockets.arrivals(&clock);
     for rested in &[10, 20] {
-        expect_eq(&rt, &is_command(&mut arrivals), &Some(false));
-        expect_eq(&rt, &clock.elapsed(), rested);
+        let returned = (is_command(&mut arrivals), clock.elapsed());
+        expect_eq(&rt, returned, (Some(false), *rested));
     }
-    fs::remove_file(&rt, path.as_str())?;
-    Ok(())
+    sockets.remove(&rt);
 }
 
 /// More bytes than the buffers of a socket can hold.
@@ -169,34 +168,30 @@ const LONG: usize = 2_000_000;
 
 // The server cuts the sender off, so the sender gets an incomplete answer.
 #[test]
-fn a_sender_that_takes_no_answer(rt: HostRuntime) -> Result<(), Fail> {
-    let text = "x".repeat(rt.alloc(), LONG)?;
-    let mut desk = Desk {
-        text: text.as_str(),
-        ..desk_at_noon(&rt)
-    };
-    let (whole, got) = visits(&rt, &rt, (8, Then::Ends), &mut desk)?;
+fn a_sender_that_takes_no_answer(rt: HostRuntime) {
+    let text = join(&rt, &[(LONG, "x")]);
+    let sockets = Sockets::new(&rt).expect(&rt, "sockets");
+    let mut desk = desk_at_noon(&rt);
+    desk.text = text.as_str();
+    let (whole, got) = visits(&rt, &sockets, &rt, COMPLETE.0, &mut desk);
     let cut_off = got.len() > 2 && got.len() < LONG;
-    expect_eq(&rt, &(whole, desk.commanded, cut_off), &(true, 1, true));
-    Ok(())
+    expect_eq(&rt, (whole, desk.commanded, cut_off), (Some(true), 1, true));
+    sockets.remove(&rt);
 }
 
 static TURNS: [bool; 5] = [true, false, true, false, false];
 
 #[test]
-fn commands_and_clients_take_turns(rt: HostRuntime) -> Result<(), Fail> {
-    let path = new_path(&rt, "turns")?;
-    let door = door_at(&rt, path.as_str())?;
-    let listener = loopback_listener(&rt);
-    let _first = client_of(&rt, &listener, b"");
-    let _second = client_of(&rt, &listener, b"");
-    let _third = client_of(&rt, &listener, b"");
-    let _office = UnixStream::connect(&rt, path.as_str())?;
-    let _other = UnixStream::connect(&rt, path.as_str())?;
-    let mut arrivals = Listening::new(&listener, Some(&door), &rt, patience());
+fn commands_and_clients_take_turns(rt: HostRuntime) {
+    let sockets = Sockets::new(&rt).expect(&rt, "sockets");
+    let _first = client_of(&rt, &sockets.listener, b"");
+    let _second = client_of(&rt, &sockets.listener, b"");
+    let _third = client_of(&rt, &sockets.listener, b"");
+    let _office = sockets.sender(&rt);
+    let _other = sockets.sender(&rt);
+    let mut arrivals = sockets.arrivals(&rt);
     for turn in &TURNS {
-        expect_eq(&rt, &is_command(&mut arrivals), &Some(*turn));
+        expect_eq(&rt, is_command(&mut arrivals), Some(*turn));
     }
-    fs::remove_file(&rt, path.as_str())?;
-    Ok(())
+    sockets.remove(&rt);
 }

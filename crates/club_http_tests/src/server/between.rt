@@ -4,7 +4,6 @@
 use super::doubles::{Script, Step, Wire};
 use super::journal::{Entries, Journal};
 use super::{REQUEST, always, desk_at_noon, new_face};
-use crate::desk::Desk;
 use crate::expect::{Runtime, expect_eq, expect_row, noon};
 use desk_server::serve_logged;
 
@@ -89,18 +88,16 @@ fn plays(rt: &impl Runtime, row: &Row) {
     let journal = Journal::new(rt.alloc());
     let wires = [Wire::Client(row.steps)];
     let mut arrivals = Script::new(&journal, &wires);
-    let mut desk = Desk {
-        journal: Some(&journal),
-        command_takes: row.command_takes,
-        ..desk_at_noon(rt)
-    };
+    let mut desk = desk_at_noon(rt);
+    desk.journal = Some(&journal);
+    desk.command_takes = row.command_takes;
     let mut moments = always(noon(rt));
     let mut face = new_face(rt);
     let log = &mut Entries(&journal);
     let served = serve_logged(&mut arrivals, 1, &mut moments, &mut face, &mut desk, log);
-    expect_row(rt, &served, &Ok(()), &row.calls);
+    expect_row(rt, served, Ok(()), row.calls);
     let calls = journal.calls(rt);
-    expect_eq(rt, &calls.as_str(), &row.calls);
+    expect_eq(rt, calls.as_str(), row.calls);
 }
 
 #[test]

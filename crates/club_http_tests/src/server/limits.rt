@@ -1,11 +1,12 @@
 //! Tests of time limits, with a clock that advances while the server waits for a client.
 
+use super::at_the_door::is_command;
 use super::doubles::{HandSet, Slow};
 use super::{REQUEST, desk_at_noon, new_face, patience};
 use crate::expect::{Runtime, expect_eq, expect_row};
 use crate::sockets::loopback_listener;
 use club_http::{AnswerFault, answer};
-use desk_server::{Accepted, Arrival, Arrivals, Listening};
+use desk_server::{Accepted, Listening};
 use libc::net as c;
 use std::os::fd::AsRawFd;
 use std::time::Duration;
@@ -73,7 +74,7 @@ fn a_client_that_dawdles_is_cut_off(rt: HostRuntime) {
         let sends = slow(&clock, sends, REQUEST);
         let takes = slow(&clock, takes, b"");
         let returned = outcome_of(&rt, sends, takes, patience());
-        expect_row(&rt, &returned, outcome, client);
+        expect_row(&rt, returned, *outcome, *client);
     }
 }
 
@@ -93,7 +94,7 @@ fn goes_on_after_a_signal(rt: HostRuntime) {
         sends.interruptions = *signals;
         let takes = slow(&clock, 0, b"");
         let returned = outcome_of(&rt, sends, takes, Duration::from_secs(60));
-        expect_row(&rt, &returned, outcome, signals);
+        expect_row(&rt, returned, *outcome, *signals);
     }
 }
 
@@ -114,7 +115,7 @@ fn what_still_comes_is_taken(rt: HostRuntime) {
         let mut client = Accepted::new(slow(&clock, *pause, REQUEST), &clock, patience());
         client.take_rest();
         let returned = (client.into_stream().calls, clock.elapsed());
-        expect_row(&rt, &returned, &(*reads, *passed), pause);
+        expect_row(&rt, returned, (*reads, *passed), *pause);
     }
 }
 
@@ -126,7 +127,7 @@ fn rests_after_a_wait_that_failed(rt: HostRuntime) {
     let clock = HandSet::new(0, 0);
     let mut arrivals = Listening::new(&listener, None, &clock, patience());
     for _ in 0..3 {
-        expect_eq(&rt, &matches!(arrivals.next(), Arrival::Nobody), &true);
+        expect_eq(&rt, is_command(&mut arrivals), None);
     }
-    expect_eq(&rt, &clock.elapsed(), &30);
+    expect_eq(&rt, clock.elapsed(), 30);
 }

@@ -1,9 +1,8 @@
 //! Tests of the server's log.
 
 use super::clocks::{clock_in, noons};
-use super::doubles::{Broken, HandSet, Script, Step, Wire};
-use super::journal::Journal;
-use super::{WHOLE, always, desk_at_noon, new_face};
+use super::doubles::{Broken, HandSet, Step, Wire};
+use super::{Served, WHOLE, always, desk_at_noon, new_face, serves_script};
 use crate::expect::{Runtime, expect_bytes, expect_eq, noon};
 use crate::sockets::{client_of, loopback_listener};
 use club_http::WriteOutlet;
@@ -63,21 +62,13 @@ const LINES: &str = "2026-04-20T12:00 office credit 1 1533
 2026-04-20T12:00 - /account 405 1533
 ";
 
-/// The server's result, the number of waits for an arrival, and the number of requests at noon.
-type Served = (Result<(), ClockOutOfRange>, u64, u64);
-
 /// The clock fails after `left` readings.
 fn log_script<W: Write>(rt: &impl Runtime, left: u64, writer: &mut W) -> Served {
-    let journal = Journal::new(rt.alloc());
-    let mut arrivals = Script::new(&journal, &SCRIPT);
     let noons = noons(left);
     let mut moments = clock_in(rt, "UTC0", &noons);
-    let mut face = new_face(rt);
-    let mut desk = desk_at_noon(rt);
     let clock = HandSet::new(0, 1_533);
-    let log = &mut LogLines::new(WriteOutlet::new(writer), &clock);
-    let outcome = serve_logged(&mut arrivals, 9, &mut moments, &mut face, &mut desk, log);
-    (outcome, arrivals.waited, desk.asked)
+    let mut log = LogLines::new(WriteOutlet::new(writer), &clock);
+    serves_script(rt, &SCRIPT, 9, &mut moments, &mut log)
 }
 
 #[test]
@@ -85,28 +76,29 @@ fn a_log_has_its_lines() {
     desk_server::laws::a_log_has_its_lines::<WriteOutlet<Broken>, HandSet>();
 }
 
+fn expect_lines(rt: &impl Runtime, left: u64, want: Served, lines: &str) {
+    let mut written = Vec::new(rt.alloc());
+    let returned = log_script(rt, left, &mut written);
+    expect_eq(rt, returned, want);
+    expect_bytes(rt, &written, lines.as_bytes(), "the script");
+}
+
 #[test]
 fn a_line_for_each_connection(rt: HostRuntime) {
-    let mut written = Vec::new(rt.alloc());
-    let returned = log_script(&rt, u64::MAX, &mut written);
-    expect_eq(&rt, &returned, &(Ok(()), 11, 3));
-    expect_bytes(&rt, &written, LINES.as_bytes(), "the script");
+    expect_lines(&rt, u64::MAX, (Ok(()), 11, 3), LINES);
 }
 
 #[test]
 fn a_line_for_a_connection_without_a_moment(rt: HostRuntime) {
-    let mut written = Vec::new(rt.alloc());
-    let returned = log_script(&rt, 0, &mut written);
-    expect_eq(&rt, &returned, &(Err(ClockOutOfRange), 2, 0));
-    let lines = b"- office credit 1 1533\n- - - - 1533\n";
-    expect_bytes(&rt, &written, lines, "no moment");
+    let lines = "- office credit 1 1533\n- - - - 1533\n";
+    expect_lines(&rt, 0, (Err(ClockOutOfRange), 2, 0), lines);
 }
 
 // The clients get their replies even if the log fails.
 #[test]
 fn a_log_that_fails(rt: HostRuntime) {
     let returned = log_script(&rt, u64::MAX, &mut Broken);
-    expect_eq(&rt, &returned, &(Ok(()), 11, 3));
+    expect_eq(&rt, returned, (Ok(()), 11, 3));
 }
 
 /// The first bytes of a request, and the method and the path in the log. The log keeps the first 96
@@ -142,7 +134,7 @@ static REQUEST_LINES: [(&str, Option<&str>, Option<&str>); 10] = [
 ];
 
 fn expect_word(rt: &impl Runtime, word: Option<&[u8]>, want: &Option<&str>) {
-    expect_eq(rt, &word.is_some(), &want.is_some());
+    expect_eq(rt, word.is_some(), want.is_some());
     let wanted = want.unwrap_or("").as_bytes();
     expect_bytes(rt, word.unwrap_or(b""), wanted, "a word");
 }
@@ -205,7 +197,7 @@ fn closes_before_its_line<'x>(rt: &'x impl Runtime, listener: &'x TcpListener, c
     let mut face = new_face(rt);
     let mut desk = desk_at_noon(rt);
     let served = serve_logged(&mut arrivals, 1, &mut moments, &mut face, &mut desk, log);
-    expect_eq(rt, &(served, log.lines, log.closed), &(Ok(()), 1, 1));
+    expect_eq(rt, (served, log.lines, log.closed), (Ok(()), 1, 1));
 }
 
 #[test]

@@ -1,15 +1,13 @@
 //! Servers and exchanges over sockets. No contract states which bytes a socket sends or receives.
 
 use super::doubles::HandSet;
-use super::{REPLY, REQUEST, client_at, desk_at_noon, exchange, new_face, patience, serves};
-use crate::expect::{Runtime, expect_bytes, expect_eq};
+use super::{Face, REPLY, REQUEST, always, client_at, desk_at_noon, new_face, patience, serves};
+use crate::expect::{Runtime, expect_bytes, expect_eq, join};
 use crate::sockets::{client_of, expect_reply, loopback_listener};
-use club_http::Face;
-use desk_server::Listening;
+use desk_server::{Connection, Listening, Unlogged};
 use std::cell::Cell;
 use std::io::{self, Read, Write};
 use std::net::{TcpListener, TcpStream};
-use std::test::Fail;
 use std::time::{Clock, Duration};
 use test_kit::exchanges::BAD_REQUEST;
 
@@ -22,7 +20,7 @@ fn serve<'x>(
 ) -> u64 {
     let mut arrivals = Listening::new(listener, None, rt, patience);
     let mut desk = desk_at_noon(rt);
-    expect_eq(rt, &serves(rt, &mut arrivals, count, &mut desk), &Ok(()));
+    expect_eq(rt, serves(rt, &mut arrivals, count, &mut desk), Ok(()));
     desk.asked
 }
 
@@ -31,9 +29,9 @@ fn serve<'x>(
 fn serves_over_a_socket(rt: HostRuntime) {
     let listener = loopback_listener(&rt);
     drop(client_of(&rt, &listener, b""));
-    let mut client = client_of(&rt, &listener, REQUEST);
-    expect_eq(&rt, &serve(&rt, &listener, 2, patience()), &1);
-    expect_reply(&rt, &mut client, REPLY);
+    let client = client_of(&rt, &listener, REQUEST);
+    expect_eq(&rt, serve(&rt, &listener, 2, patience()), 1);
+    expect_reply(&rt, client, REPLY);
 }
 
 #[test]
@@ -43,14 +41,18 @@ fn accepts_a_client(rt: HostRuntime) {
     drop(client_at(&rt, &listener, None, &rt, patience()));
 }
 
-/// Returns the face, which contains the bytes of the request.
-fn exchanges<'x>(rt: &'x impl Runtime, listener: &'x TcpListener, asked: u64) -> Face {
+fn exchanges<'x>(
+    rt: &impl Runtime,
+    listener: &'x TcpListener,
+    clock: &'x impl Clock,
+    asked: u64,
+) -> Face {
     let mut face = new_face(rt);
     let mut desk = desk_at_noon(rt);
-    let mut connection = client_at(rt, listener, None, rt, patience());
-    let outcome = exchange(&mut face, &mut connection, &mut desk);
-    drop(connection);
-    expect_eq(rt, &(outcome.is_ok(), desk.asked), &(true, asked));
+    let mut connection = client_at(rt, listener, None, clock, patience());
+    let (at, log) = (desk.moment, &mut Unlogged);
+    let outcome = connection.exchange(&mut face, &mut always(at), &mut desk, log, at);
+    expect_eq(rt, (outcome.is_ok(), desk.asked), (true, asked));
     face
 }
 
@@ -60,29 +62,29 @@ static EXCHANGES: [(&[u8], u64, &str); 2] = [(REQUEST, 1, REPLY), (b"x\r\n\r\n",
 fn exchanges_over_a_socket(rt: HostRuntime) {
     for (request, asked, reply) in &EXCHANGES {
         let listener = loopback_listener(&rt);
-        let mut client = client_of(&rt, &listener, request);
-        let face = exchanges(&rt, &listener, *asked);
-        expect_reply(&rt, &mut client, reply);
+        let client = client_of(&rt, &listener, request);
+        let face = exchanges(&rt, &listener, &rt, *asked);
+        expect_reply(&rt, client, reply);
         expect_bytes(&rt, face.request(), request, reply);
     }
 }
 
-static BEHIND: [u16; 3] = [1, 1_000, 60_000];
+static BEHIND: [usize; 3] = [1, 1_000, 60_000];
 
 // The client may lose its reply if the server closes the socket before the server has read all
 // bytes.
 #[test]
-fn replies_before_bytes_behind_a_request(rt: HostRuntime) -> Result<(), Fail> {
+fn replies_before_bytes_behind_a_request(rt: HostRuntime) {
     for behind in &BEHIND {
-        let mut sent = REQUEST.to_vec(rt.alloc())?;
-        sent.resize(REQUEST.len() + usize::from(*behind), b'x')?;
         let listener = loopback_listener(&rt);
-        let mut client = client_of(&rt, &listener, &sent);
-        drop(exchanges(&rt, &listener, 1));
-        expect_reply(&rt, &mut client, REPLY);
-        client.write_all(b"x")?;
+        let client = client_of(&rt, &listener, REQUEST);
+        let mut peer = client.try_clone().expect(&rt, "a client");
+        let bytes = join(&rt, &[(*behind, "x")]);
+        peer.write_all(bytes.as_bytes()).expect(&rt, "more bytes");
+        drop(exchanges(&rt, &listener, &rt, 1));
+        expect_reply(&rt, client, REPLY);
+        peer.write_all(b"x").expect(&rt, "a byte more");
     }
-    Ok(())
 }
 
 // The server reads the clock when each of its two time limits starts, and at each wait, read and
@@ -93,10 +95,8 @@ fn closes_at_once_after_a_request(rt: HostRuntime) {
     let _client = client_of(&rt, &listener, REQUEST);
     let clock = HandSet::new(0, 0);
     clock.readable.set(10);
-    let mut connection = client_at(&rt, &listener, None, &clock, patience());
-    let mut desk = desk_at_noon(&rt);
-    let outcome = exchange(&mut new_face(&rt), &mut connection, &mut desk);
-    expect_eq(&rt, &(outcome.is_ok(), clock.readable.get()), &(true, 5));
+    drop(exchanges(&rt, &listener, &clock, 1));
+    expect_eq(&rt, clock.readable.get(), 5);
 }
 
 #[test]
@@ -105,7 +105,7 @@ fn cuts_a_silent_client_off(rt: HostRuntime) {
     let _silent = client_of(&rt, &listener, b"");
     let _slow = client_of(&rt, &listener, b"GET /acc");
     let brief = Duration::from_millis(50);
-    expect_eq(&rt, &serve(&rt, &listener, 2, brief), &0);
+    expect_eq(&rt, serve(&rt, &listener, 2, brief), 0);
 }
 
 #[test]
@@ -114,9 +114,9 @@ fn waits_as_long_as_its_patience(rt: HostRuntime) {
     let _silent = client_of(&rt, &listener, b"");
     let patience = Duration::from_millis(1_200);
     let before = rt.monotonic().expect(&rt, "a clock");
-    expect_eq(&rt, &serve(&rt, &listener, 1, patience), &0);
-    let after = rt.monotonic().expect(&rt, "a clock");
-    expect_eq(&rt, &(after.saturating_sub(before) >= patience), &true);
+    expect_eq(&rt, serve(&rt, &listener, 1, patience), 0);
+    let waited = rt.monotonic().expect(&rt, "a clock").saturating_sub(before);
+    expect_eq(&rt, waited >= patience, true);
 }
 
 /// A clock. Each reading of the clock also reads the bytes that the client has received.
@@ -161,11 +161,9 @@ fn ends_one_side_and_reads_the_other(rt: HostRuntime) {
         ended: Cell::new(false),
     };
     let before = rt.monotonic().expect(&rt, "a clock");
-    let mut connection = client_at(&rt, &listener, None, &watching, patience());
-    let outcome = exchange(&mut new_face(&rt), &mut connection, &mut desk_at_noon(&rt));
-    let after = rt.monotonic().expect(&rt, "a clock");
-    let long = after.saturating_sub(before) >= Duration::from_millis(150);
-    expect_eq(&rt, &outcome.is_ok(), &true);
+    drop(exchanges(&rt, &listener, &watching, 1));
+    let long = rt.monotonic().expect(&rt, "a clock").saturating_sub(before)
+        >= Duration::from_millis(150);
     let seen = (watching.came.get(), watching.ended.get(), long);
-    expect_eq(&rt, &seen, &(REPLY.len(), true, true));
+    expect_eq(&rt, seen, (REPLY.len(), true, true));
 }

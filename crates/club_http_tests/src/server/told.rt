@@ -2,9 +2,9 @@
 //! contract of an exchange covers each byte of this stream.
 
 use super::doubles::{Letter, Stopped};
-use super::{REPLY, REQUEST, desk_at_noon, exchange, new_face, patience};
+use super::{REPLY, REQUEST, desk_at_noon, exchange, patience};
 use crate::counted::doubles::{Narrow, Pieces, ROOM};
-use crate::expect::{expect_bytes, expect_row};
+use crate::expect::{Runtime, expect_bytes, expect_row};
 use club_http::{AnswerFault, Inlet, Outlet};
 use desk_server::{Accepted, ClientStream, TimedStream, Waited, Woken};
 use std::time::Duration;
@@ -67,20 +67,25 @@ static OUTCOMES: [((usize, usize), Outcome); 5] = [
     ((ROOM, 0), (Some(AnswerFault::Write(0)), 1, 0, 0)),
 ];
 
+fn exchange_told(rt: &impl Runtime, (step, limit): (usize, usize)) -> (Outcome, Narrow) {
+    let told = Told {
+        reader: Pieces::new(REQUEST, step, false),
+        writer: Narrow::new(step, limit),
+    };
+    let clock = Stopped(Some(Duration::ZERO));
+    let mut connection = Accepted::new(told, &clock, patience());
+    let fault = exchange(rt, &mut connection, &mut desk_at_noon(rt)).err();
+    let Told { reader, writer } = connection.into_stream();
+    let taken = writer.written_bytes().len();
+    ((fault, reader.calls, reader.left.len(), taken), writer)
+}
+
 #[test]
 fn takes_the_reply_and_nothing_else(rt: HostRuntime) {
-    for ((step, limit), want) in &OUTCOMES {
-        let told = Told {
-            reader: Pieces::new(REQUEST, *step, false),
-            writer: Narrow::new(*step, *limit),
-        };
-        let clock = Stopped(Some(Duration::ZERO));
-        let mut connection = Accepted::new(told, &clock, patience());
-        let outcome = exchange(&mut new_face(&rt), &mut connection, &mut desk_at_noon(&rt));
-        let Told { reader, writer } = connection.into_stream();
+    for (client, want) in &OUTCOMES {
+        let (outcome, writer) = exchange_told(&rt, *client);
+        expect_row(&rt, outcome, *want, *client);
         let taken = writer.written_bytes();
-        let returned = (outcome.err(), reader.calls, reader.left.len(), taken.len());
-        expect_row(&rt, &returned, want, &(*step, *limit));
         let prefix = REPLY.as_bytes().get(..taken.len());
         expect_bytes(&rt, taken, prefix.expect(&rt, "a prefix"), "the reply");
     }
