@@ -8,16 +8,16 @@ pub(crate) trait Host: Abort + AllocGlobal {}
 impl<R: Abort + AllocGlobal> Host for R {}
 
 /// Ends the test unless the values are equal. The proof of a test takes a third of the time if the
-/// test calls this function instead of `assert_eq!`.
-pub(crate) fn expect_eq<T: PartialEq + Debug>(rt: &impl Abort, returned: &T, want: &T) {
+/// test calls this function instead of `assert_eq!`, and if the values are passed as copies.
+pub(crate) fn expect_eq<T: PartialEq + Debug + Copy>(rt: &impl Abort, returned: T, want: T) {
     assert_eq!(rt; returned, want);
 }
 
-pub(crate) fn expect_row<T: PartialEq + Debug>(
+pub(crate) fn expect_row<T: PartialEq + Debug + Copy>(
     rt: &impl Abort,
-    row: &impl Debug,
-    returned: &T,
-    want: &T,
+    row: impl Debug + Copy,
+    returned: T,
+    want: T,
 ) {
     assert_eq!(rt; returned, want, "row {row:?}");
 }

@@ -5,7 +5,7 @@ use crate::values::{at, command, request};
 use club_core::{ClubStore, Reply, StoreFault};
 use club_gate::{Desk, OfficeReply, Words};
 use club_store::Store;
-use test_kit::{FIXTURE, PlainCommand, PlainRequest};
+use test_kit::{FIXTURE, PlainCommand, PlainReply, PlainRequest};
 
 pub(crate) trait Fixture {
     fn play<S: ClubStore + Drop>(&self, rt: &impl Host, desk: Desk<S>);
@@ -23,14 +23,22 @@ pub(crate) fn play(rt: &impl Host, scene: &impl Fixture) {
     try_to_play(rt, scene).expect(rt, "empty tables");
 }
 
-pub(crate) fn carry_out<S: ClubStore>(rt: &impl Host, desk: &mut Desk<S>, plain: &PlainCommand) {
-    let answer = desk.office(&command(rt, plain));
-    expect_eq(rt, &matches!(answer, OfficeReply::Refused(_)), &false);
+pub(crate) fn answer<S: ClubStore>(
+    rt: &impl Host,
+    desk: &mut Desk<S>,
+    plain: PlainCommand,
+) -> OfficeReply {
+    desk.office(&command(rt, plain))
+}
+
+pub(crate) fn carry_out<S: ClubStore>(rt: &impl Host, desk: &mut Desk<S>, plain: PlainCommand) {
+    let answer = answer(rt, desk, plain);
+    expect_eq(rt, matches!(answer, OfficeReply::Refused(_)), false);
 }
 
 pub(crate) fn furnish<S: ClubStore>(rt: &impl Host, mut desk: Desk<S>) -> Desk<S> {
     for plain in &FIXTURE {
-        carry_out(rt, &mut desk, plain);
+        carry_out(rt, &mut desk, *plain);
     }
     desk
 }
@@ -40,8 +48,12 @@ pub(crate) fn reply<S: ClubStore>(
     desk: &mut Desk<S>,
     moment: u32,
     pass: &[u8],
-    asked: &PlainRequest,
+    asked: PlainRequest,
 ) -> Reply {
     let request = request(rt, asked);
     desk.ask(at(rt, moment), &Words { pass, request })
+}
+
+pub(crate) fn replied(rt: &impl Host, plain: PlainReply) -> Reply {
+    plain.reply().expect(rt, "a reply")
 }

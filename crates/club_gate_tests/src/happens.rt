@@ -33,17 +33,17 @@ impl Happens {
     fn event_and_reply(&self, rt: &impl Host) -> (Event<'static>, EventReply) {
         match *self {
             Happens::Commanded(plain, answer) => {
-                let event = Event::Commanded(command(rt, &plain));
+                let event = Event::Commanded(command(rt, plain));
                 (event, EventReply::Answered(answer))
             }
             Happens::Asked(pass, asked, want) => {
                 let words = Words {
                     pass: pass.as_bytes(),
-                    request: request(rt, &asked),
+                    request: request(rt, asked),
                 };
                 let moment = at(rt, NOON);
-                let want = want.reply().expect(rt, "a reply");
-                (Event::Asked { words, moment }, EventReply::Replied(want))
+                let reply = EventReply::Replied(replied(rt, want));
+                (Event::Asked { words, moment }, reply)
             }
         }
     }

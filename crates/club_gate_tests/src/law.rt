@@ -28,27 +28,26 @@ static BOOKS: [Happens; 8] = [
 fn books_once_in_three_forms(rt: HostRuntime) {
     let (events, want) = events_and_replies(&rt, &BOOKS);
     let replies = run_from_nothing(rt.alloc(), events.as_slice()).expect(&rt, "replies");
-    expect_eq(&rt, &replies.as_slice(), &want.as_slice());
+    expect_eq(&rt, replies.as_slice(), want.as_slice());
 }
 
-fn expect_reply_after(rt: &impl Host, rows: &[Happens], want: &PlainReply) {
+fn expect_reply_after(rt: &impl Host, rows: &[Happens], want: PlainReply) {
     let words = Words {
         pass: AMY_V1.as_bytes(),
         request: Request::Account,
     };
     let (events, replies) = events_and_replies(rt, rows);
-    let returned = reply_from_nothing(rt.alloc(), events.as_slice(), at(rt, NOON), &words).expect(
-        rt, "replies",
-    );
-    expect_eq(rt, &returned.replies.as_slice(), &replies.as_slice());
-    expect_eq(rt, &returned.reply, &want.reply().expect(rt, "a reply"));
+    let returned = reply_from_nothing(rt.alloc(), events.as_slice(), at(rt, NOON), &words);
+    let returned = returned.expect(rt, "replies");
+    expect_eq(rt, returned.replies.as_slice(), replies.as_slice());
+    expect_eq(rt, returned.reply, replied(rt, want));
 }
 
 // The second request comes to an empty club, with the pass of an unknown key.
 #[test]
 fn answers_after_a_list(rt: HostRuntime) {
-    expect_reply_after(&rt, &BOOKS[..5], &ACCOUNT_AFTER);
-    expect_reply_after(&rt, &[], &NOT_VERIFIED);
+    expect_reply_after(&rt, &BOOKS[..5], ACCOUNT_AFTER);
+    expect_reply_after(&rt, &[], NOT_VERIFIED);
 }
 
 fn desk_over<S: Alter + Drop>(rt: &impl Host, connection: Connection<S>) -> Desk<Store<S>> {
@@ -70,16 +69,17 @@ fn files_left<D: Disk + Drop>(
     let (events, want) = events_and_replies(rt, rows);
     let run = run_and_leave::<D, D>(desk, events.as_slice());
     let (replies, store) = run.expect(rt, "replies");
-    expect_eq(rt, &replies.as_slice(), &want.as_slice());
+    expect_eq(rt, replies.as_slice(), want.as_slice());
     Some(store.close())
 }
 
 #[test]
 fn books_once_over_two_openings(rt: HostRuntime) {
+    let rt = &rt;
     let files = Files {
         log: Memory::new(rt.alloc()),
         db: Memory::new(rt.alloc()),
     };
-    let left = files_left(&rt, files, &BOOKS[..5]).expect(&rt, "files");
-    files_left(&rt, left, &BOOKS[5..]).expect(&rt, "files");
+    let left = files_left(rt, files, &BOOKS[..5]).expect(rt, "files");
+    files_left(rt, left, &BOOKS[5..]).expect(rt, "files");
 }

@@ -20,28 +20,10 @@ struct Pair {
     are_run: bool,
 }
 
-impl Pair {
-    fn trial_after<S: ClubStore>(
-        &self,
-        rt: &impl Host,
-        mut trial: Trial<S>,
-        events: &[Event],
-    ) -> Trial<S> {
-        if self.are_run {
-            trial.run(rt, events);
-        } else {
-            for event in events {
-                trial.play(rt, event);
-            }
-        }
-        trial.reopened(rt)
-    }
-}
-
 impl Fixture for Pair {
     fn play<S: ClubStore + Drop>(&self, rt: &impl Host, desk: Desk<S>) {
-        let trial = self.trial_after(rt, Trial::begin(rt, desk), self.first.as_slice());
-        let _last = self.trial_after(rt, trial, self.second.as_slice());
+        let trial = Trial::begin(rt, desk).after(rt, self.first.as_slice(), self.are_run);
+        let _last = trial.after(rt, self.second.as_slice(), self.are_run);
     }
 }
 

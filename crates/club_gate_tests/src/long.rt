@@ -32,10 +32,9 @@ static TEXTS: [[Piece; 4]; 2] = [
 
 fn shows_account<S: ClubStore>(rt: &impl Host, desk: &mut Desk<S>, place: usize, pieces: &[Piece]) {
     let text = join(rt.alloc(), pieces).expect(rt, "memory");
-    expect_eq(rt, &text.len(), &8_192);
-    let returned = reply(rt, desk, NOON, text.as_bytes(), &ACCOUNT);
-    let want = ACCOUNT_BEFORE.reply().expect(rt, "a reply");
-    expect_row(rt, &place, &returned, &want);
+    expect_eq(rt, text.len(), 8_192);
+    let returned = reply(rt, desk, NOON, text.as_bytes(), ACCOUNT);
+    expect_row(rt, place, returned, replied(rt, ACCOUNT_BEFORE));
 }
 
 struct LongTexts;
@@ -54,24 +53,29 @@ fn serves_the_longest_json(rt: HostRuntime) {
     play(&rt, &LongTexts);
 }
 
-#[derive(Clone, Copy)]
-struct LongRun {
-    rows: &'static [Happens],
-    times: usize,
+fn repeated<T: Copy>(rt: &impl Host, values: &[T], times: usize) -> Vec<T> {
+    let mut all = Vec::new(rt.alloc());
+    for _ in 0..times {
+        all.extend_from_slice(values).expect(rt, "memory");
+    }
+    all
 }
+
+/// Rows, and the number of their repeats.
+#[derive(Clone, Copy)]
+struct LongRun(&'static [Happens], usize);
 
 impl Fixture for LongRun {
     fn play<S: ClubStore + Drop>(&self, rt: &impl Host, desk: Desk<S>) {
-        let mut desk = furnish(rt, desk);
-        let (events, replies) = events_and_replies(rt, self.rows);
-        let mut all = Vec::new(rt.alloc());
-        let mut want = Vec::new(rt.alloc());
-        for _ in 0..self.times {
-            all.extend_from_slice(&events).expect(rt, "memory");
-            want.extend_from_slice(&replies).expect(rt, "memory");
-        }
-        let returned = desk.run(&all).expect(rt, "replies");
-        expect_eq(rt, &returned.as_slice(), &want.as_slice());
+        let (events, replies) = events_and_replies(rt, self.0);
+        let events = repeated(rt, events.as_slice(), self.1);
+        let want = repeated(rt, replies.as_slice(), self.1);
+        let returned = furnish(rt, desk).run(events.as_slice());
+        expect_eq(
+            rt,
+            returned.expect(rt, "replies").as_slice(),
+            want.as_slice(),
+        );
     }
 }
 
@@ -84,8 +88,7 @@ static NO_PASS: [Happens; 1] = [Happens::Asked(
 #[test]
 fn runs_of_any_length(rt: HostRuntime) {
     for times in [0, 1, 101, 100_000] {
-        let rows = &NO_PASS;
-        play(&rt, &LongRun { rows, times });
+        play(&rt, &LongRun(&NO_PASS, times));
     }
 }
 
@@ -97,11 +100,7 @@ static IN_TURN: [Happens; 2] = [
 
 #[test]
 fn runs_two_hundred_events(rt: HostRuntime) {
-    let run = LongRun {
-        rows: &IN_TURN,
-        times: 100,
-    };
-    play(&rt, &run);
+    play(&rt, &LongRun(&IN_TURN, 100));
 }
 
 /// The names have 24 letters, the greatest length.
@@ -130,11 +129,12 @@ fn booking(number: u8) -> PlainRequest {
     PlainRequest::Book(slot, 999_999_000 + u32::from(number), 0)
 }
 
-fn book_all<S: ClubStore>(rt: &impl Host, desk: &mut Desk<S>, text: &str) {
+fn book_all<S: ClubStore>(rt: &impl Host, desk: &mut Desk<S>, key: &'static str) {
+    let text = PresentedPass::Of(key, ROOT, &[]).text(rt, Form::V2);
     for number in 0..BOOKINGS {
-        let returned = reply(rt, desk, NOON, text.as_bytes(), &booking(number));
+        let returned = reply(rt, desk, NOON, text.as_bytes(), booking(number));
         let refused = matches!(returned, Reply::Refused(_));
-        expect_row(rt, &usize::from(number), &refused, &false);
+        expect_row(rt, usize::from(number), refused, false);
     }
 }
 
@@ -145,9 +145,9 @@ const END: &str = "\nTotal bookings 120, persons 120, charge 0\n";
 /// The sheet has a line of 76 bytes for each booking.
 fn prints_all<S: ClubStore>(rt: &impl Host, desk: &mut Desk<S>) {
     let sheet = desk.sheet(day(rt, "2026-05-01")).expect(rt, "a sheet");
-    expect_eq(rt, &sheet.len(), &(21 + 120 * 76 + 42));
-    expect_eq(rt, &sheet.starts_with(HEAD), &true);
-    expect_eq(rt, &sheet.ends_with(END), &true);
+    expect_eq(rt, sheet.len(), (21 + 120 * 76 + 42));
+    expect_eq(rt, sheet.starts_with(HEAD), true);
+    expect_eq(rt, sheet.ends_with(END), true);
 }
 
 struct LongSheet;
@@ -155,12 +155,10 @@ struct LongSheet;
 impl Fixture for LongSheet {
     fn play<S: ClubStore + Drop>(&self, rt: &impl Host, mut desk: Desk<S>) {
         for plain in &MEMBERS {
-            carry_out(rt, &mut desk, plain);
+            carry_out(rt, &mut desk, *plain);
         }
-        for key in [KEY, OTHER_KEY] {
-            let text = PresentedPass::Of(key, ROOT, &[]).text(rt, Form::V2);
-            book_all(rt, &mut desk, text.as_str());
-        }
+        book_all(rt, &mut desk, KEY);
+        book_all(rt, &mut desk, OTHER_KEY);
         prints_all(rt, &mut desk);
     }
 }

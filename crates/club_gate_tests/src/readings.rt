@@ -225,19 +225,19 @@ const BOOKED_AND_CANCELLED: Before = Before::Requests(&[BOOK_7, BOOK_8, CANCEL_8
 
 fn ask_all<S: ClubStore>(rt: &impl Host, desk: &mut Desk<S>, requests: &[PlainRequest]) {
     for asked in requests {
-        let served = reply(rt, desk, NOON, AMY_V2.as_bytes(), asked);
-        expect_eq(rt, &matches!(served, Reply::Refused(_)), &false);
+        let served = reply(rt, desk, NOON, AMY_V2.as_bytes(), *asked);
+        expect_eq(rt, matches!(served, Reply::Refused(_)), false);
     }
 }
 
 impl Before {
     fn happen<S: ClubStore>(self, rt: &impl Host, desk: &mut Desk<S>) {
-        carry_out(rt, desk, &RevokeKey("bob-1"));
-        carry_out(rt, desk, &AddKey("amy-2", "amy", ROOT));
+        carry_out(rt, desk, RevokeKey("bob-1"));
+        carry_out(rt, desk, AddKey("amy-2", "amy", ROOT));
         match self {
             Before::Requests(requests) => ask_all(rt, desk, requests),
             Before::Rotation => {
-                carry_out(rt, desk, &RotateKey("amy-1", SECOND_ROOT, UNTIL));
+                carry_out(rt, desk, RotateKey("amy-1", SECOND_ROOT, UNTIL));
             }
         }
     }
@@ -250,72 +250,63 @@ enum Asked {
 }
 
 impl Asked {
+    fn store_after<S: ClubStore>(&self, rt: &impl Host, store: S, place: usize) -> S {
+        let mut desk = Desk::new(rt.alloc(), store);
+        self.is_answered(rt, &mut desk, place);
+        desk.into_store()
+    }
+
     fn is_answered<S: ClubStore>(&self, rt: &impl Host, desk: &mut Desk<S>, place: usize) {
         match *self {
             Asked::Request(form, shown, asked, want) => {
                 let text = shown.text(rt, form);
-                let returned = reply(rt, desk, NOON, text.as_bytes(), &asked);
-                expect_row(rt, &place, &returned, &want.reply().expect(rt, "a reply"));
+                let returned = reply(rt, desk, NOON, text.as_bytes(), asked);
+                expect_row(rt, place, returned, replied(rt, want));
             }
             Asked::Command(plain, fault) => {
-                let returned = match desk.office(&command(rt, &plain)) {
+                let returned = match answer(rt, desk, plain) {
                     OfficeReply::Refused(fault) => Some(fault),
                     _ => None,
                 };
                 let want = fault.map(|fault| Fault::from(fault));
-                expect_row(rt, &place, &returned, &want);
+                expect_row(rt, place, returned, want);
             }
         }
     }
 }
 
+/// The number of the row, and the calls to the store.
 #[derive(Clone, Copy)]
-struct Reading {
-    before: Before,
-    asked: Asked,
-    place: usize,
-    calls: &'static [Call],
-}
+struct Reading(Before, Asked, usize, &'static [Call]);
 
 impl Fixture for Reading {
     fn play<S: ClubStore + Drop>(&self, rt: &impl Host, desk: Desk<S>) {
+        let Reading(before, asked, place, calls) = *self;
         let mut desk = furnish(rt, desk);
-        self.before.happen(rt, &mut desk);
-        let mut desk = Desk::new(rt.alloc(), Refusing::never(desk.into_store()));
-        self.asked.is_answered(rt, &mut desk, self.place);
-        desk.into_store().expect_calls(rt, self.place, self.calls);
+        before.happen(rt, &mut desk);
+        let store = asked.store_after(rt, Refusing::never(desk.into_store()), place);
+        store.expect_calls(rt, place, calls);
     }
 }
 
-fn reads(rt: &impl Host, before: Before, place: usize, row: &Row) {
-    let (shown, request, want, calls) = *row;
+fn reads(rt: &impl Host, before: Before, place: usize, row: Row) {
+    let (shown, request, want, calls) = row;
     for form in &FORMS {
         let asked = Asked::Request(*form, shown, request, want);
-        let reading = Reading {
-            before,
-            asked,
-            place,
-            calls,
-        };
-        play(rt, &reading);
+        play(rt, &Reading(before, asked, place, calls));
     }
 }
 
 fn reads_each(rt: &impl Host, before: Before, rows: &[Row]) {
     for (place, row) in rows.iter().enumerate() {
-        reads(rt, before, place, row);
+        reads(rt, before, place, *row);
     }
 }
 
 fn are_called(rt: &impl Host, before: Before, rows: &[Commanded]) {
-    for (place, (plain, fault, calls)) in rows.iter().enumerate() {
-        let reading = Reading {
-            before,
-            asked: Asked::Command(*plain, *fault),
-            place,
-            calls: *calls,
-        };
-        play(rt, &reading);
+    for (place, row) in rows.iter().enumerate() {
+        let asked = Asked::Command(row.0, row.1);
+        play(rt, &Reading(before, asked, place, row.2));
     }
 }
 
@@ -337,9 +328,9 @@ fn a_repeat_and_a_cancellation_read_no_sum(rt: HostRuntime) {
 
 #[test]
 fn a_sum_is_read_only_where_the_limit_lies_below_what_the_member_has_used(rt: HostRuntime) {
-    for (place, (key, caveats, want, calls)) in LIMITS.iter().enumerate() {
-        let row = (PresentedPass::Of(key, ROOT, caveats), BOOK_8, *want, *calls);
-        reads(&rt, BOOKED, place, &row);
+    for (place, row) in LIMITS.iter().enumerate() {
+        let pass = PresentedPass::Of(row.0, ROOT, row.1);
+        reads(&rt, BOOKED, place, (pass, BOOK_8, row.2, row.3));
     }
 }
 

@@ -11,37 +11,29 @@ struct Failure {
     fault: StoreFault,
 }
 
-fn failing_desk<S: ClubStore>(
-    rt: &impl Host,
-    desk: Desk<S>,
-    failure: &Failure,
-) -> Desk<Refusing<S>> {
-    let store = furnish(rt, desk).into_store();
-    let failing = Refusing::from_call(failure.first, failure.fault, store);
-    Desk::new(rt.alloc(), failing)
-}
-
-fn expect_failures<S: ClubStore>(rt: &impl Host, desk: &mut Desk<S>, fault: StoreFault) {
-    let returned = reply(rt, desk, NOON, AMY_V2.as_bytes(), &BOOK_7);
-    expect_eq(rt, &returned, &Reply::Refused(Refusal::Unavailable));
-    let add_key = PlainCommand::AddKey("amy-2", "amy", ROOT);
-    let answer = desk.office(&command(rt, &add_key));
-    expect_eq(rt, &answer, &OfficeReply::Refused(Fault::Store(fault)));
-    expect_eq(rt, &desk.sheet(day(rt, "2026-05-01")).is_err(), &true);
+fn expect_failures<S: ClubStore>(rt: &impl Host, store: S, fault: StoreFault) -> S {
+    let mut desk = Desk::new(rt.alloc(), store);
+    let returned = reply(rt, &mut desk, NOON, AMY_V2.as_bytes(), BOOK_7);
+    expect_eq(rt, returned, Reply::Refused(Refusal::Unavailable));
+    let answer = answer(rt, &mut desk, PlainCommand::AddKey("amy-2", "amy", ROOT));
+    expect_eq(rt, answer, OfficeReply::Refused(Fault::Store(fault)));
+    expect_eq(rt, desk.sheet(day(rt, "2026-05-01")).is_err(), true);
+    desk.into_store()
 }
 
 fn expect_untouched<S: ClubStore>(rt: &impl Host, store: &mut S) {
-    let held = store.slot(&slot(rt, &COURT_AT_18)).expect(rt, "a slot");
-    expect_eq(rt, &held.taken, &0);
+    let held = store.slot(&slot(rt, COURT_AT_18)).expect(rt, "a slot");
+    expect_eq(rt, held.taken, 0);
     let key = store.key_row(&name(rt, "amy-2")).expect(rt, "no fault");
-    expect_eq(rt, &key.is_none(), &true);
+    expect_eq(rt, key.is_none(), true);
 }
 
 impl Fixture for Failure {
     fn play<S: ClubStore + Drop>(&self, rt: &impl Host, desk: Desk<S>) {
-        let mut desk = failing_desk(rt, desk, self);
-        expect_failures(rt, &mut desk, self.fault);
-        expect_untouched(rt, &mut desk.into_store().store);
+        let store = furnish(rt, desk).into_store();
+        let failing = Refusing::from_call(self.first, self.fault, store);
+        let mut failing = expect_failures(rt, failing, self.fault);
+        expect_untouched(rt, &mut failing.store);
     }
 }
 
@@ -63,23 +55,24 @@ fn reports_refused_storage(rt: HostRuntime) {
 static LONG: [u8; MAX_TEXT + 1] = [b'A'; MAX_TEXT + 1];
 
 fn expect_refused<S: ClubStore>(rt: &impl Host, desk: &mut Desk<S>, pass: &[u8], refusal: Refusal) {
-    let returned = reply(rt, desk, NOON, pass, &ACCOUNT);
-    expect_eq(rt, &returned, &Reply::Refused(refusal));
+    let returned = reply(rt, desk, NOON, pass, ACCOUNT);
+    expect_eq(rt, returned, Reply::Refused(refusal));
 }
 
-const ALWAYS: Failure = Failure {
-    first: 1,
-    fault: StoreFault::Storage,
-};
+fn expect_faults_of_form<S: ClubStore>(rt: &impl Host, store: S) -> S {
+    let mut desk = Desk::new(rt.alloc(), store);
+    expect_refused(rt, &mut desk, b"AgEJ", Refusal::PassMalformed);
+    expect_refused(rt, &mut desk, &LONG, Refusal::PassTooLong);
+    desk.into_store()
+}
 
 struct FaultsOfForm;
 
 impl Fixture for FaultsOfForm {
     fn play<S: ClubStore + Drop>(&self, rt: &impl Host, desk: Desk<S>) {
-        let mut desk = failing_desk(rt, desk, &ALWAYS);
-        expect_refused(rt, &mut desk, b"AgEJ", Refusal::PassMalformed);
-        expect_refused(rt, &mut desk, &LONG, Refusal::PassTooLong);
-        expect_eq(rt, &desk.into_store().calls, &0);
+        let store = furnish(rt, desk).into_store();
+        let failing = Refusing::from_call(1, StoreFault::Storage, store);
+        expect_eq(rt, expect_faults_of_form(rt, failing).calls, 0);
     }
 }
 

@@ -15,7 +15,7 @@ fn reply_at_noon<S: ClubStore>(
     rt: &impl Host,
     desk: &mut Desk<S>,
     pass: &str,
-    asked: &PlainRequest,
+    asked: PlainRequest,
 ) -> Reply {
     match reply(rt, desk, NOON, pass.as_bytes(), asked) {
         Reply::Refused(Refusal::Unavailable) => reply(rt, desk, NOON, pass.as_bytes(), asked),
@@ -25,29 +25,26 @@ fn reply_at_noon<S: ClubStore>(
 
 fn amys_view<S: ClubStore>(rt: &impl Host, desk: &mut Desk<S>) -> [Reply; 3] {
     [
-        reply_at_noon(rt, desk, AMY_V2, &ACCOUNT),
-        reply_at_noon(rt, desk, AMY_V2, &VIEW),
-        reply_at_noon(rt, desk, AMY_V2, &PlainRequest::View(COURT_AT_19)),
+        reply_at_noon(rt, desk, AMY_V2, ACCOUNT),
+        reply_at_noon(rt, desk, AMY_V2, VIEW),
+        reply_at_noon(rt, desk, AMY_V2, PlainRequest::View(COURT_AT_19)),
     ]
 }
+
+type Commanded = (PlainCommand, OfficeReply);
 
 const OUT_OF_MEMORY: OfficeReply = OfficeReply::Refused(Fault::Store(StoreFault::Memory));
 
 /// A command that runs out of memory must leave the club unchanged.
-fn expect_answers<S: ClubStore>(
-    rt: &impl Host,
-    desk: &mut Desk<S>,
-    commands: &[(PlainCommand, OfficeReply)],
-) {
-    for (plain, answer) in commands {
+fn expect_answers<S: ClubStore>(rt: &impl Host, desk: &mut Desk<S>, commands: &[Commanded]) {
+    for (plain, want) in commands {
         let before = amys_view(rt, desk);
-        let command = command(rt, plain);
-        let mut returned = desk.office(&command);
+        let mut returned = answer(rt, desk, *plain);
         if returned == OUT_OF_MEMORY {
-            expect_eq(rt, &amys_view(rt, desk), &before);
-            returned = desk.office(&command);
+            expect_eq(rt, amys_view(rt, desk), before);
+            returned = answer(rt, desk, *plain);
         }
-        expect_eq(rt, &returned, answer);
+        expect_eq(rt, returned, *want);
     }
 }
 
@@ -59,7 +56,7 @@ const SIGNED_ANEW: OfficeReply = OfficeReply::Key {
     signature: AMY_1_SECOND_SIGNATURE,
 };
 
-static FIXTURE: [(PlainCommand, OfficeReply); 4] = [
+static FIXTURE: [Commanded; 4] = [
     (PlainCommand::AddMember("amy", 5), DONE),
     (PlainCommand::Credit("amy", 10_000), DONE),
     (PlainCommand::AddKey("amy-1", "amy", ROOT), SIGNED),
@@ -70,7 +67,7 @@ static FIXTURE: [(PlainCommand, OfficeReply); 4] = [
 ];
 
 /// The older root stays valid, so amy's pass still works.
-static COMMANDS: [(PlainCommand, OfficeReply); 9] = [
+static COMMANDS: [Commanded; 9] = [
     (PlainCommand::SetFacility("court-1", 3, 100, 9, 20), DONE),
     (PlainCommand::Debit("amy", 1), DONE),
     (PlainCommand::SetQuota("amy", 4), DONE),
@@ -86,57 +83,57 @@ static COMMANDS: [(PlainCommand, OfficeReply); 9] = [
 ];
 
 /// The office has already carried out the same commands, so the answers are `EXISTS`.
-static REVOKED: [(PlainCommand, OfficeReply); 2] = [
+static REVOKED: [Commanded; 2] = [
     (PlainCommand::AddMember("amy", 5), EXISTS),
     (PlainCommand::CloseSlot(COURT_AT_19), EXISTS),
 ];
 
 fn carries_out_commands<S: ClubStore>(rt: &impl Host, desk: &mut Desk<S>) {
-    expect_replied(rt, desk, AMY_V2, &ACCOUNT, &ACCOUNT_BEFORE);
+    expect_replies(rt, desk, AMY_V2, &UNBOOKED);
     books(rt, desk, AMY_V2);
     expect_answers(rt, desk, &COMMANDS);
     expect_answers(rt, desk, &REVOKED);
-    expect_replied(rt, desk, AMY_V2, &ACCOUNT, &KEY_REVOKED);
+    expect_replies(rt, desk, AMY_V2, &REFUSED);
 }
 
-fn expect_replied<S: ClubStore>(
-    rt: &impl Host,
-    desk: &mut Desk<S>,
-    pass: &str,
-    asked: &PlainRequest,
-    want: &PlainReply,
-) {
-    let returned = reply_at_noon(rt, desk, pass, asked);
-    expect_eq(rt, &returned, &want.reply().expect(rt, "a reply"));
+type Asked = (PlainRequest, PlainReply);
+
+static UNBOOKED: [Asked; 2] = [
+    (ACCOUNT, ACCOUNT_BEFORE),
+    (VIEW, PlainReply::SlotShown(0, false)),
+];
+
+static REFUSED: [Asked; 1] = [(ACCOUNT, KEY_REVOKED)];
+
+static BOOKED: [Asked; 2] = [(BOOK_7, BOOKED_7), (ACCOUNT, ACCOUNT_AFTER)];
+
+fn expect_replies<S: ClubStore>(rt: &impl Host, desk: &mut Desk<S>, pass: &str, rows: &[Asked]) {
+    for row in rows {
+        let returned = reply_at_noon(rt, desk, pass, row.0);
+        expect_eq(rt, returned, replied(rt, row.1));
+    }
 }
 
 /// A booking with the reply `Unavailable` must change nothing. A second request must succeed.
-fn is_booked_or_unavailable<S: ClubStore>(
-    rt: &impl Host,
-    desk: &mut Desk<S>,
-    pass: &str,
-    first: &Reply,
-) {
-    if *first == UNAVAILABLE {
-        expect_replied(rt, desk, pass, &ACCOUNT, &ACCOUNT_BEFORE);
-        expect_replied(rt, desk, pass, &VIEW, &PlainReply::SlotShown(0, false));
+fn is_booked<S: ClubStore>(rt: &impl Host, desk: &mut Desk<S>, pass: &str, first: Reply) {
+    if first == UNAVAILABLE {
+        expect_replies(rt, desk, pass, &UNBOOKED);
     } else {
-        expect_eq(rt, first, &BOOKED_7.reply().expect(rt, "a reply"));
+        expect_eq(rt, first, replied(rt, BOOKED_7));
     }
-    expect_replied(rt, desk, pass, &BOOK_7, &BOOKED_7);
-    expect_replied(rt, desk, pass, &ACCOUNT, &ACCOUNT_AFTER);
+    expect_replies(rt, desk, pass, &BOOKED);
 }
 
 fn books<S: ClubStore>(rt: &impl Host, desk: &mut Desk<S>, pass: &str) {
-    let first = reply(rt, desk, NOON, pass.as_bytes(), &BOOK_7);
-    is_booked_or_unavailable(rt, desk, pass, &first);
+    let first = reply(rt, desk, NOON, pass.as_bytes(), BOOK_7);
+    is_booked(rt, desk, pass, first);
 }
 
 /// Returns `Unavailable` if `Desk::run` runs out of memory.
 fn reply_of_a_run<S: ClubStore>(rt: &impl Host, desk: &mut Desk<S>, pass: &str) -> Reply {
     let words = Words {
         pass: pass.as_bytes(),
-        request: request(rt, &BOOK_7),
+        request: request(rt, BOOK_7),
     };
     let moment = at(rt, NOON);
     let Ok(replies) = desk.run(&[Event::Asked { words, moment }]) else {
@@ -146,6 +143,11 @@ fn reply_of_a_run<S: ClubStore>(rt: &impl Host, desk: &mut Desk<S>, pass: &str) 
         [EventReply::Replied(reply)] => *reply,
         _ => panic!(rt; "one reply"),
     }
+}
+
+fn books_in_a_run<S: ClubStore>(rt: &impl Host, desk: &mut Desk<S>, pass: &str) {
+    let first = reply_of_a_run(rt, desk, pass);
+    is_booked(rt, desk, pass, first);
 }
 
 #[derive(Clone, Copy)]
@@ -158,13 +160,10 @@ enum Task {
 impl Fixture for Task {
     fn play<S: ClubStore + Drop>(&self, rt: &impl Host, mut desk: Desk<S>) {
         expect_answers(rt, &mut desk, &FIXTURE);
-        match self {
+        match *self {
             Task::Commands => carries_out_commands(rt, &mut desk),
             Task::Ask(pass) => books(rt, &mut desk, pass),
-            Task::Run(pass) => {
-                let first = reply_of_a_run(rt, &mut desk, pass);
-                is_booked_or_unavailable(rt, &mut desk, pass, &first);
-            }
+            Task::Run(pass) => books_in_a_run(rt, &mut desk, pass),
         }
     }
 }

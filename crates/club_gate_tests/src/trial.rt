@@ -29,12 +29,28 @@ fn sent_event<'a>(rt: &impl Host, event: &Event, text: &'a str) -> SentEvent<'a>
         Event::Asked(asking) => SentEvent::Asked {
             words: SentWords {
                 pass: text.as_bytes(),
-                request: request(rt, &asking.asked),
+                request: request(rt, asking.asked),
             },
             moment: at(rt, asking.moment),
         },
-        Event::Commanded(plain) => SentEvent::Commanded(command(rt, plain)),
+        Event::Commanded(plain) => SentEvent::Commanded(command(rt, *plain)),
     }
+}
+
+fn texts_of(rt: &impl Host, events: &[Event]) -> Vec<String> {
+    let mut texts = Vec::new(rt.alloc());
+    for event in events {
+        push(rt, &mut texts, text_of(rt, event));
+    }
+    texts
+}
+
+fn sent_events<'a>(rt: &impl Host, events: &[Event], texts: &'a [String]) -> Vec<SentEvent<'a>> {
+    let mut sent = Vec::new(rt.alloc());
+    for (event, text) in events.iter().zip(texts) {
+        push(rt, &mut sent, sent_event(rt, event, text.as_str()));
+    }
+    sent
 }
 
 fn words_of(rt: &impl Host, asking: &Asking) -> Words {
@@ -42,11 +58,16 @@ fn words_of(rt: &impl Host, asking: &Asking) -> Words {
     let pass = signed_pass(rt.alloc(), Some(key), asking.root, asking.caveats);
     Words {
         pass: Ok(pass.expect(rt, "a pass")),
-        request: request(rt, &asking.asked),
+        request: request(rt, asking.asked),
     }
 }
 
-fn desk_reply(answer: &OfficeAnswer) -> OfficeReply {
+fn desk_reply<S: ClubStore>(rt: &impl Host, desk: &mut Desk<S>, asking: &Asking) -> Reply {
+    let text = text_of_asking(rt, asking);
+    reply(rt, desk, asking.moment, text.as_bytes(), asking.asked)
+}
+
+fn desk_answer(answer: &OfficeAnswer) -> OfficeReply {
     match *answer {
         OfficeAnswer::Done => OfficeReply::Done,
         OfficeAnswer::NewKey { name, root } => OfficeReply::Key {
@@ -57,7 +78,7 @@ fn desk_reply(answer: &OfficeAnswer) -> OfficeReply {
 }
 
 fn office_answer(rt: &impl Host, club: &mut Club, plain: &PlainCommand) -> OfficeAnswer {
-    club.office(&command(rt, plain)).expect(rt, "memory")
+    club.office(&command(rt, *plain)).expect(rt, "memory")
 }
 
 fn event_reply(rt: &impl Host, reference: &mut Club, event: &Event) -> EventReply {
@@ -67,9 +88,17 @@ fn event_reply(rt: &impl Host, reference: &mut Club, event: &Event) -> EventRepl
             EventReply::Replied(reply.expect(rt, "memory"))
         }
         Event::Commanded(plain) => {
-            EventReply::Answered(desk_reply(&office_answer(rt, reference, plain)))
+            EventReply::Answered(desk_answer(&office_answer(rt, reference, plain)))
         }
     }
+}
+
+fn event_replies(rt: &impl Host, reference: &mut Club, events: &[Event]) -> Vec<EventReply> {
+    let mut replies = Vec::new(rt.alloc());
+    for event in events {
+        push(rt, &mut replies, event_reply(rt, reference, event));
+    }
+    replies
 }
 
 impl<S: ClubStore> Trial<S> {
@@ -88,20 +117,10 @@ impl<S: ClubStore> Trial<S> {
     }
 
     /// Continues with this club, a desk with an empty cache, and a new copy of amy's part.
-    pub fn reopened(self, rt: &impl Host) -> Trial<S> {
-        let Trial {
-            desk,
-            reference,
-            part: _,
-            own_keys,
-        } = self;
-        let part = reference.part(&name(rt, AMY)).expect(rt, "memory");
-        Trial {
-            desk: Desk::new(rt.alloc(), desk.into_store()),
-            reference,
-            part,
-            own_keys,
-        }
+    fn reopened(self, rt: &impl Host) -> Trial<S> {
+        let part = self.reference.part(&name(rt, AMY)).expect(rt, "memory");
+        let desk = Desk::new(rt.alloc(), self.desk.into_store());
+        Trial { desk, part, ..self }
     }
 
     fn is_own_key(&self, key: &str) -> bool {
@@ -126,13 +145,13 @@ impl<S: ClubStore> Trial<S> {
     /// Gives the command to the desk and to the reference machine. A command that is carried out
     /// and concerns amy's part goes to her part, too.
     fn give(&mut self, rt: &impl Host, plain: &PlainCommand) {
-        let answer = office_answer(rt, &mut self.reference, plain);
-        let returned = self.desk.office(&command(rt, plain));
-        expect_eq(rt, &returned, &desk_reply(&answer));
-        if matches!(answer, OfficeAnswer::NotDone(_)) || !self.is_own(plain) {
+        let want = office_answer(rt, &mut self.reference, plain);
+        let returned = answer(rt, &mut self.desk, *plain);
+        expect_eq(rt, returned, desk_answer(&want));
+        if matches!(want, OfficeAnswer::NotDone(_)) || !self.is_own(plain) {
             return;
         }
-        expect_eq(rt, &office_answer(rt, &mut self.part, plain), &answer);
+        expect_eq(rt, office_answer(rt, &mut self.part, plain), want);
         if let PlainCommand::AddKey(key, _, _) = *plain {
             push(rt, &mut self.own_keys, key);
         }
@@ -141,20 +160,18 @@ impl<S: ClubStore> Trial<S> {
     /// Asks the desk and the reference machine. Also asks amy's part if the request's key is one of
     /// amy's keys.
     fn ask(&mut self, rt: &impl Host, asking: &Asking) {
-        let text = text_of_asking(rt, asking);
-        let desk = &mut self.desk;
-        let returned = reply(rt, desk, asking.moment, text.as_bytes(), &asking.asked);
+        let returned = desk_reply(rt, &mut self.desk, asking);
         let (words, moment) = (words_of(rt, asking), at(rt, asking.moment));
         let others = self.reference.outside(&name(rt, AMY), words.request.slot());
         let want = self.reference.ask(&words, moment).expect(rt, "memory");
         expect_eq(rt, &returned, &want);
         if self.is_own_key(asking.key) {
             let alone = self.part.ask_alone(&words, moment, others);
-            expect_eq(rt, &returned, &alone.expect(rt, "memory"));
+            expect_eq(rt, returned, alone.expect(rt, "memory"));
         }
     }
 
-    pub fn play(&mut self, rt: &impl Host, event: &Event) {
+    fn play(&mut self, rt: &impl Host, event: &Event) {
         match event {
             Event::Asked(asking) => self.ask(rt, asking),
             Event::Commanded(plain) => self.give(rt, plain),
@@ -162,23 +179,26 @@ impl<S: ClubStore> Trial<S> {
     }
 
     fn desk_replies(&mut self, rt: &impl Host, events: &[Event]) -> Vec<EventReply> {
-        let mut texts = Vec::new(rt.alloc());
-        for event in events {
-            push(rt, &mut texts, text_of(rt, event));
-        }
-        let mut sent = Vec::new(rt.alloc());
-        for (event, text) in events.iter().zip(texts.as_slice()) {
-            push(rt, &mut sent, sent_event(rt, event, text.as_str()));
-        }
+        let texts = texts_of(rt, events);
+        let sent = sent_events(rt, events, texts.as_slice());
         self.desk.run(sent.as_slice()).expect(rt, "memory")
     }
 
-    pub fn run(&mut self, rt: &impl Host, events: &[Event]) {
+    fn run(&mut self, rt: &impl Host, events: &[Event]) {
         let returned = self.desk_replies(rt, events);
-        let mut want = Vec::new(rt.alloc());
-        for event in events {
-            push(rt, &mut want, event_reply(rt, &mut self.reference, event));
+        let want = event_replies(rt, &mut self.reference, events);
+        expect_eq(rt, returned.as_slice(), want.as_slice());
+    }
+
+    /// Plays the events, and reopens. If `are_run` is true, the desk gets all events in one call.
+    pub fn after(mut self, rt: &impl Host, events: &[Event], are_run: bool) -> Trial<S> {
+        if are_run {
+            self.run(rt, events);
+        } else {
+            for event in events {
+                self.play(rt, event);
+            }
         }
-        expect_eq(rt, &returned.as_slice(), &want.as_slice());
+        self.reopened(rt)
     }
 }

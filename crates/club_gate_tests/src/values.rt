@@ -27,7 +27,7 @@ pub(crate) fn root(rt: &impl Host, bytes: &[u8]) -> Root {
     Root::new(bytes).expect(rt, "a root")
 }
 
-pub(crate) fn slot(rt: &impl Host, slot: &PlainSlot) -> Slot {
+pub(crate) fn slot(rt: &impl Host, slot: PlainSlot) -> Slot {
     slot.slot().expect(rt, "a slot")
 }
 
@@ -35,15 +35,19 @@ pub(crate) fn number(rt: &impl Host, number: u32) -> BookingNumber {
     BookingNumber::new(number).expect(rt, "a number")
 }
 
-pub(crate) fn booking(rt: &impl Host, booking: &PlainBooking) -> Booking {
+pub(crate) fn booking(rt: &impl Host, booking: PlainBooking) -> Booking {
     booking.booking().expect(rt, "a booking")
 }
 
-pub(crate) fn request(rt: &impl Host, asked: &PlainRequest) -> Request {
+pub(crate) fn booked(rt: &impl Host, plain: Option<PlainBooking>) -> Option<Booking> {
+    plain.map(|plain| booking(rt, plain))
+}
+
+pub(crate) fn request(rt: &impl Host, asked: PlainRequest) -> Request {
     asked.request().expect(rt, "a request")
 }
 
-pub(crate) fn command(rt: &impl Host, plain: &PlainCommand) -> Command {
+pub(crate) fn command(rt: &impl Host, plain: PlainCommand) -> Command {
     plain.command().expect(rt, "a command")
 }
 

@@ -8,7 +8,7 @@ use super::write::Write::{
 };
 use super::write::change;
 use crate::prelude::*;
-use crate::values::{booking, number};
+use crate::values::{booked, number};
 use club_core::MemberAccount;
 use test_kit::moments::START;
 use test_kit::{COURT, PlainFacility};
@@ -203,61 +203,70 @@ fn account<C: ClubStore>(rt: &impl Host, store: &mut C, text: &str) -> Option<(u
 }
 
 fn expect_accounts<C: ClubStore>(rt: &impl Host, store: &mut C, row: usize, seen: &Seen) {
-    expect_row(rt, &row, &account(rt, store, "amy"), &seen.amy);
-    expect_row(rt, &row, &account(rt, store, "ben"), &seen.ben);
+    expect_row(rt, row, account(rt, store, "amy"), seen.amy);
+    expect_row(rt, row, account(rt, store, "ben"), seen.ben);
     let used = seen.amy.unwrap_or((0, 0, 0)).1;
     let spent = store.spent(&name(rt, "amy-1"));
-    expect_row(rt, &row, &spent, &Ok(u64::from(used)));
-    expect_row(rt, &row, &store.spent(&name(rt, "amy-2")), &Ok(0));
+    expect_row(rt, row, spent, Ok(u64::from(used)));
+    expect_row(rt, row, store.spent(&name(rt, "amy-2")), Ok(0));
 }
 
-/// There must be no second key.
-fn expect_keys<C: ClubStore>(rt: &impl Host, store: &mut C, row: usize, seen: &Seen) {
-    let amy_1 = name(rt, "amy-1");
-    let (bare, older) = match seen.key {
+fn expect_key<C: ClubStore>(
+    rt: &impl Host,
+    store: &mut C,
+    row: usize,
+    text: &str,
+    want: Option<Kept>,
+) {
+    let name = name(rt, text);
+    let (bare, older) = match want {
         Some(kept) => {
-            let want = key(rt, &kept);
+            let want = key(rt, kept);
             (Some(want.row()), want.older)
         }
         None => (None, None),
     };
-    expect_row(rt, &row, &store.key_row(&amy_1), &Ok(bare));
-    expect_row(rt, &row, &store.older_root(&amy_1), &Ok(older));
-    let amy_2 = name(rt, "amy-2");
-    expect_row(rt, &row, &store.key_row(&amy_2), &Ok(None));
-    expect_row(rt, &row, &store.older_root(&amy_2), &Ok(None));
+    expect_row(rt, row, store.key_row(&name), Ok(bare));
+    expect_row(rt, row, store.older_root(&name), Ok(older));
+}
+
+/// There must be no second key.
+fn expect_keys<C: ClubStore>(rt: &impl Host, store: &mut C, row: usize, seen: &Seen) {
+    expect_key(rt, store, row, "amy-1", seen.key);
+    expect_key(rt, store, row, "amy-2", None);
+}
+
+fn expect_slots<C: ClubStore>(rt: &impl Host, store: &mut C, row: usize, seen: &Seen) {
+    for (at, want) in [
+        (COURT_AT_18, seen.at_18),
+        (COURT_AT_19, seen.at_19),
+        (COURT_AT_22, (0, false)),
+    ] {
+        let held = store.slot(&slot(rt, at)).expect(rt, "an answer");
+        expect_row(rt, row, (held.taken, held.closed), want);
+    }
 }
 
 /// There must be no second court.
 fn expect_court<C: ClubStore>(rt: &impl Host, store: &mut C, row: usize, seen: &Seen) {
     let court_1 = name(rt, "court-1");
-    let want = seen.court.map(|court| facility(rt, &court));
-    expect_row(rt, &row, &store.facility(&court_1), &Ok(want));
-    expect_row(rt, &row, &store.facility(&name(rt, "court-2")), &Ok(None));
-    expect_row(rt, &row, &store.most_taken(&court_1), &Ok(seen.at_18.0));
-    let at_22 = (0, false);
-    let slots = [
-        (COURT_AT_18, seen.at_18),
-        (COURT_AT_19, seen.at_19),
-        (COURT_AT_22, at_22),
-    ];
-    for (at, want) in &slots {
-        let held = store.slot(&slot(rt, at)).expect(rt, "an answer");
-        expect_row(rt, &row, &(held.taken, held.closed), want);
-    }
+    let want = seen.court.map(|court| facility(rt, court));
+    expect_row(rt, row, store.facility(&court_1), Ok(want));
+    expect_row(rt, row, store.facility(&name(rt, "court-2")), Ok(None));
+    expect_row(rt, row, store.most_taken(&court_1), Ok(seen.at_18.0));
 }
 
 /// The next day must have no booking.
 fn expect_days<C: ClubStore>(rt: &impl Host, store: &mut C, row: usize, seen: &Seen) {
     let rows = store.day(day(rt, "2026-05-01")).expect(rt, "a day");
-    expect_row(rt, &row, &(rows.len() as u64), &seen.open);
+    expect_row(rt, row, (rows.len() as u64), seen.open);
     let first = match seen.open {
         0 => None,
-        _ => seen.seventh.map(|booked| booking(rt, &booked)),
+        _ => booked(rt, seen.seventh),
     };
-    expect_row(rt, &row, &rows.first().copied(), &first);
+    expect_row(rt, row, rows.first().copied(), first);
     let next = store.day(day(rt, "2026-05-02")).expect(rt, "a day");
-    expect_row(rt, &row, &next.len(), &0);
+    expect_row(rt, row, next.len(), 0);
 }
 
 const BEFORE: &str = "2026-05-01T17:59";
@@ -265,10 +274,10 @@ const BEFORE: &str = "2026-05-01T17:59";
 /// A booking is open until its slot begins.
 fn expect_bookings<C: ClubStore>(rt: &impl Host, store: &mut C, row: usize, seen: &Seen) {
     let amy_1 = name(rt, "amy-1");
-    for (numbered, want) in [(7, seen.seventh), (8, None), (9, None)] {
+    let seventh = booked(rt, seen.seventh);
+    for (numbered, want) in [(7, seventh), (8, None), (9, None)] {
         let found = store.booking(&amy_1, number(rt, numbered));
-        let want = want.map(|booked| booking(rt, &booked));
-        expect_row(rt, &row, &found, &Ok(want));
+        expect_row(rt, row, found, Ok(want));
     }
     let open = [
         ("amy", BEFORE, seen.open),
@@ -277,7 +286,7 @@ fn expect_bookings<C: ClubStore>(rt: &impl Host, store: &mut C, row: usize, seen
     ];
     for (member, at, want) in open {
         let count = store.open_count(&name(rt, member), moment(rt, at));
-        expect_row(rt, &row, &count, &Ok(want));
+        expect_row(rt, row, count, Ok(want));
     }
 }
 
@@ -285,48 +294,37 @@ fn expect_seen<C: ClubStore>(rt: &impl Host, store: &mut C, row: usize, seen: &S
     expect_accounts(rt, store, row, seen);
     expect_keys(rt, store, row, seen);
     expect_court(rt, store, row, seen);
+    expect_slots(rt, store, row, seen);
     expect_bookings(rt, store, row, seen);
     expect_days(rt, store, row, seen);
 }
 
-fn apply<C: ClubStore>(
-    rt: &impl Host,
-    store: &mut C,
-    writes: &[Write],
-    want: Result<(), StoreFault>,
-) {
+fn apply<C: ClubStore>(rt: &impl Host, store: &mut C, writes: &[Write], want: Option<StoreFault>) {
     for (row, write) in writes.iter().enumerate() {
-        expect_row(rt, &row, &store.apply(&change(rt, write)), &want);
+        expect_row(rt, row, store.apply(&change(rt, *write)).err(), want);
     }
 }
 
+/// The changes before the row, and the row with its number.
 #[derive(Clone, Copy)]
-struct Played<'a> {
-    before: &'a [Write],
-    number: usize,
-    row: &'a Row,
-}
+struct Played<'a>(&'a [Write], usize, &'a Row);
 
 impl Fixture for Played<'_> {
     fn play<S: ClubStore + Drop>(&self, rt: &impl Host, desk: Desk<S>) {
-        let (writes, seen, refused) = self.row;
+        let Played(before, number, row) = *self;
+        let (writes, seen, refused) = (row.0, &row.1, row.2);
         let mut store = desk.into_store();
-        apply(rt, &mut store, self.before, Ok(()));
-        apply(rt, &mut store, writes, Ok(()));
-        expect_seen(rt, &mut store, self.number, seen);
-        apply(rt, &mut store, refused, Err(StoreFault::Storage));
-        expect_seen(rt, &mut store, self.number, seen);
+        apply(rt, &mut store, before, None);
+        apply(rt, &mut store, writes, None);
+        expect_seen(rt, &mut store, number, seen);
+        apply(rt, &mut store, refused, Some(StoreFault::Storage));
+        expect_seen(rt, &mut store, number, seen);
     }
 }
 
 fn plays_rows(rt: &impl Host, before: &[Write], rows: &[Row]) {
     for (number, row) in rows.iter().enumerate() {
-        let played = Played {
-            before,
-            number,
-            row,
-        };
-        play(rt, &played);
+        play(rt, &Played(before, number, row));
     }
 }
 

@@ -43,19 +43,11 @@ pub(crate) fn runs<S: Alter>(rt: &impl Host, connection: &mut Connection<S>, tex
     }
 }
 
-pub(crate) fn runs_all<S: Alter>(
-    rt: &impl Host,
-    connection: &mut Connection<S>,
-    lists: &[&[&str]],
-) {
-    for texts in lists {
-        runs(rt, connection, texts);
-    }
-}
-
 pub(crate) fn database_after(rt: &impl Host, lists: &[&[&str]]) -> Connection<MemStore> {
     let mut connection = Connection::open_in_memory(rt.alloc()).expect(rt, "memory");
-    runs_all(rt, &mut connection, lists);
+    for texts in lists {
+        runs(rt, &mut connection, texts);
+    }
     connection
 }
 

@@ -1,11 +1,12 @@
 //! Openings of real files. Only `do_in_file` and `make_file` open stores in files, because the
-//! proof of each of these functions takes at least half a minute.
+//! proof of each function that names such a store's type is long.
 
-use super::databases::{Contents, bookings, runs_all};
+use super::databases::{Contents, bookings, runs};
 use super::listing::shows;
 use crate::prelude::*;
 use club_store::FailedOpening;
-use sqlite::Unknown;
+use sqlite::{FileStore, Unknown};
+use sqlite_disk::Disk;
 use std::test::Fail;
 use std::{env, fs, process};
 use test_kit::version_1::STATEMENTS;
@@ -40,29 +41,50 @@ pub trait FileWork {
     fn work<S: Alter>(&self, rt: &impl Host, store: &mut Store<S>);
 }
 
+fn worked<S: Alter + Drop>(
+    rt: &impl Host,
+    opened: Result<Store<S>, (StoreFault, Connection<S>)>,
+    work: &impl FileWork,
+) -> Result<(), (StoreFault, Left)> {
+    match opened {
+        Ok(mut store) => {
+            work.work(rt, &mut store);
+            Ok(())
+        }
+        Err((fault, mut left)) => Err((fault, Left::Open(bookings(&mut left)))),
+    }
+}
+
+/// Makes only one call with the store's type, because each of these calls has a long proof.
+fn worked_in_file<D: Disk + Drop>(
+    rt: &impl Host,
+    opened: Result<Store<FileStore<D>>, (StoreFault, FailedOpening<D>)>,
+    work: &impl FileWork,
+) -> Result<(), (StoreFault, Left)> {
+    let opened = match opened {
+        Ok(store) => Ok(store),
+        Err((fault, FailedOpening::InUse)) => return Err((fault, Left::Held)),
+        Err((fault, FailedOpening::Files(None))) => return Err((fault, Left::Nothing)),
+        Err((fault, FailedOpening::Files(Some(_)))) => return Err((fault, Left::Files)),
+        Err((fault, FailedOpening::Connection(connection))) => Err((fault, connection)),
+    };
+    worked(rt, opened, work)
+}
+
 pub fn do_in_file(
     host: &HostRuntime,
     rt: &impl Host,
     path: &str,
     work: &impl FileWork,
 ) -> Result<(), (StoreFault, Left)> {
-    match Store::open_file(host, path, Unknown) {
-        Ok(mut store) => {
-            work.work(rt, &mut store);
-            Ok(())
-        }
-        Err((fault, FailedOpening::InUse)) => Err((fault, Left::Held)),
-        Err((fault, FailedOpening::Files(None))) => Err((fault, Left::Nothing)),
-        Err((fault, FailedOpening::Files(Some(_)))) => Err((fault, Left::Files)),
-        Err((fault, FailedOpening::Connection(mut connection))) => {
-            Err((fault, Left::Open(bookings(&mut connection))))
-        }
-    }
+    worked_in_file(rt, Store::open_file(host, path, Unknown), work)
 }
 
 pub fn make_file(host: &HostRuntime, rt: &impl Host, path: &str, lists: &[&[&str]]) {
     let mut connection = Connection::open(host, path).expect(rt, "a file");
-    runs_all(rt, &mut connection, lists);
+    for texts in lists {
+        runs(rt, &mut connection, texts);
+    }
     connection.close().expect(rt, "closed");
 }
 
@@ -79,11 +101,10 @@ impl FileWork for OpensOnly {
     fn work<S: Alter>(&self, _rt: &impl Host, _store: &mut Store<S>) {}
 }
 
-/// Returns `None` if the opening succeeds.
-fn left_by_opening(host: &HostRuntime, rt: &impl Host, path: &str) -> Option<Left> {
-    do_in_file(host, rt, path, &OpensOnly)
-        .err()
-        .map(|(_, left)| left)
+/// `want` is `None` if the opening must succeed.
+fn expect_left(host: &HostRuntime, rt: &impl Host, path: &str, want: Option<Left>) {
+    let opened = do_in_file(host, rt, path, &OpensOnly);
+    expect_eq(rt, opened.err().map(|(_, left)| left), want);
 }
 
 #[derive(Clone, Copy)]
@@ -94,23 +115,23 @@ struct Reopening<'a> {
 
 impl FileWork for Reopening<'_> {
     fn work<S: Alter>(&self, rt: &impl Host, _first: &mut Store<S>) {
-        let left = left_by_opening(self.host, rt, self.path);
-        expect_eq(rt, &left, &Some(Left::Held));
+        expect_left(self.host, rt, self.path, Some(Left::Held));
     }
 }
 
 #[test]
 fn a_held_file(rt: HostRuntime) -> Result<(), Fail> {
-    let path = path_of(&rt)?;
+    let rt = &rt;
+    let path = path_of(rt)?;
     let path = path.as_str();
-    let second = Reopening { host: &rt, path };
-    expect_eq(&rt, &do_in_file(&rt, &rt, path, &second), &Ok(()));
-    expect_eq(&rt, &left_by_opening(&rt, &rt, path), &None);
-    remove(&rt, path)?;
-    expect_eq(&rt, &left_by_opening(&rt, &rt, "/"), &Some(Left::Nothing));
-    fs::write(&rt, path, [b'x'; 100])?;
-    expect_eq(&rt, &left_by_opening(&rt, &rt, path), &Some(Left::Files));
-    let _ = fs::remove_file(&rt, path);
+    let second = Reopening { host: rt, path };
+    expect_eq(rt, do_in_file(rt, rt, path, &second), Ok(()));
+    expect_left(rt, rt, path, None);
+    remove(rt, path)?;
+    expect_left(rt, rt, "/", Some(Left::Nothing));
+    fs::write(rt, path, [b'x'; 100])?;
+    expect_left(rt, rt, path, Some(Left::Files));
+    let _ = fs::remove_file(rt, path);
     Ok(())
 }
 
@@ -119,13 +140,11 @@ static NINTH: [&str; 1] = ["UPDATE desk SET version = 9"];
 /// A refused opening doesn't change the rows, so opening the file again has the same result.
 #[test]
 fn a_file_of_refused_tables(rt: HostRuntime) -> Result<(), Fail> {
-    let path = path_of(&rt)?;
+    let rt = &rt;
+    let path = path_of(rt)?;
     let path = path.as_str();
-    make_file(&rt, &rt, path, &[&STATEMENTS, &NINTH]);
-    for _ in 0..2 {
-        let left = left_by_opening(&rt, &rt, path);
-        expect_eq(&rt, &left, &Some(Left::Open(Some(2))));
-    }
-    remove(&rt, path)?;
-    Ok(())
+    make_file(rt, rt, path, &[&STATEMENTS, &NINTH]);
+    expect_left(rt, rt, path, Some(Left::Open(Some(2))));
+    expect_left(rt, rt, path, Some(Left::Open(Some(2))));
+    remove(rt, path)
 }

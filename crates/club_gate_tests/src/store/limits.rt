@@ -86,10 +86,10 @@ fn fault_of<S: Alter>(rt: &impl Host, store: &mut Store<S>, read: Read) -> Optio
         Read::Member => store.member(&name(rt, "amy")).err(),
         Read::Key => store.key(&name(rt, "amy-1")).err(),
         Read::Facility => store.facility(&name(rt, "court-1")).err(),
-        Read::Slot => store.slot(&slot(rt, &COURT_AT_18)).err(),
+        Read::Slot => store.slot(&slot(rt, COURT_AT_18)).err(),
         Read::Day => store.day(day(rt, "2026-05-01")).err(),
         Read::View => {
-            let (key, asked) = (name(rt, "amy-1"), request(rt, &CANCEL_7));
+            let (key, asked) = (name(rt, "amy-1"), request(rt, CANCEL_7));
             store.view(&key, &asked, at(rt, NOON)).err()
         }
     }
@@ -99,7 +99,7 @@ fn ends(rt: &impl Host, text: &str, read: Read, want: Option<StoreFault>) {
     let mut connection = database_after(rt, &[&TABLES, &ROWS]);
     runs(rt, &mut connection, &[text]);
     let fault = fault_of(rt, &mut adopt(rt, connection), read);
-    expect_row(rt, &text, &fault, &want);
+    expect_row(rt, text, fault, want);
 }
 
 /// For each setting, updates the table. Then the read must fail with `want`, or must succeed if

@@ -4,7 +4,7 @@
 use super::databases::{Contents, database};
 use super::rows::{AMY_1, Kept, key, member};
 use crate::prelude::*;
-use crate::values::{booking, number};
+use crate::values::{booked, number};
 use club_core::{KeyView, MemberAccount};
 use test_kit::{BOOKING_8, ROOM_AT_18};
 
@@ -36,30 +36,30 @@ pub(crate) fn adopt<S: Alter + Drop>(rt: &impl Host, connection: Connection<S>) 
         .expect(rt, "adopted")
 }
 
-fn view<S: Alter>(rt: &impl Host, store: &mut Store<S>, asked: &PlainRequest) -> KeyView {
+fn view<S: Alter>(rt: &impl Host, store: &mut Store<S>, asked: PlainRequest) -> KeyView {
     let at = moment(rt, DAY_BEFORE);
     let found = store.view(&name(rt, "amy-1"), &request(rt, asked), at);
     found.expect(rt, "an answer").expect(rt, "a view")
 }
 
 /// `Store::key` and `Store::view` must both return the key and its older root.
-pub(crate) fn shows_key<S: Alter>(rt: &impl Host, store: &mut Store<S>, kept: &Kept) {
+pub(crate) fn shows_key<S: Alter>(rt: &impl Host, store: &mut Store<S>, kept: Kept) {
     let want = key(rt, kept);
-    expect_eq(rt, &store.key(&want.name), &Ok(Some(want)));
-    let seen = view(rt, store, &ACCOUNT);
-    expect_eq(rt, &seen.key, &want);
-    expect_eq(rt, &seen.view.key, &want.row());
+    expect_eq(rt, store.key(&want.name), Ok(Some(want)));
+    let seen = view(rt, store, ACCOUNT);
+    expect_eq(rt, seen.key, want);
+    expect_eq(rt, seen.view.key, want.row());
 }
 
 /// Amy had 10,000 points. The court cost 600. The room cost 601, with a refund of 300.
 fn shows_views<S: Alter>(rt: &impl Host, store: &mut Store<S>) {
-    for (row, (asked, taken, booked)) in VIEWS.iter().enumerate() {
+    for (row, view_of) in VIEWS.iter().enumerate() {
+        let (asked, taken, want) = *view_of;
         let seen = view(rt, store, asked).view;
         let account = (seen.spent, seen.balance, seen.open_count);
-        expect_row(rt, &row, &account, &(901, 9_099, 1));
-        expect_row(rt, &row, &(seen.taken, seen.closed), &(*taken, false));
-        let booked = booked.map(|booked| booking(rt, &booked));
-        expect_row(rt, &row, &seen.booking, &booked);
+        expect_row(rt, row, account, (901, 9_099, 1));
+        expect_row(rt, row, (seen.taken, seen.closed), (taken, false));
+        expect_row(rt, row, seen.booking, booked(rt, want));
     }
 }
 
@@ -70,34 +70,34 @@ fn shows_rows<C: ClubStore>(rt: &impl Host, store: &mut C) {
         member: member(rt, "amy", 10_000),
         balance: 9_099,
     };
-    expect_eq(rt, &store.account(&amy), &Ok(Some(account)));
+    expect_eq(rt, store.account(&amy), Ok(Some(account)));
     let at = moment(rt, DAY_BEFORE);
-    expect_eq(rt, &store.open_count(&amy, at), &Ok(1));
+    expect_eq(rt, store.open_count(&amy, at), Ok(1));
     let amy_1 = name(rt, "amy-1");
-    expect_eq(rt, &store.spent(&amy_1), &Ok(901));
-    for (numbered, booked) in &BOOKINGS {
-        let found = store.booking(&amy_1, number(rt, *numbered));
-        let booked = booked.map(|booked| booking(rt, &booked));
-        expect_row(rt, numbered, &found, &Ok(booked));
+    expect_eq(rt, store.spent(&amy_1), Ok(901));
+    for row in &BOOKINGS {
+        let found = store.booking(&amy_1, number(rt, row.0));
+        expect_row(rt, row.0, found, Ok(booked(rt, row.1)));
     }
 }
 
 pub(crate) fn shows<S: Alter>(rt: &impl Host, store: &mut Store<S>, contents: Contents) {
     let amy = store.member(&name(rt, "amy"));
     if let Contents::Nothing = contents {
-        expect_eq(rt, &amy, &Ok(None));
+        expect_eq(rt, amy, Ok(None));
         return;
     }
-    expect_eq(rt, &amy, &Ok(Some(member(rt, "amy", 10_000))));
-    shows_key(rt, store, &AMY_1);
+    expect_eq(rt, amy, Ok(Some(member(rt, "amy", 10_000))));
+    shows_key(rt, store, AMY_1);
     shows_views(rt, store);
     shows_rows(rt, store);
 }
 
 #[test]
 fn shows_what_a_key_sees(rt: HostRuntime) {
-    let mut store = adopt(&rt, database(&rt, Contents::Second));
-    shows(&rt, &mut store, Contents::Second);
-    let mut again = adopt(&rt, store.into_connection());
-    shows(&rt, &mut again, Contents::Second);
+    let rt = &rt;
+    let mut store = adopt(rt, database(rt, Contents::Second));
+    shows(rt, &mut store, Contents::Second);
+    let mut again = adopt(rt, store.into_connection());
+    shows(rt, &mut again, Contents::Second);
 }

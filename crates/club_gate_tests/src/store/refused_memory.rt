@@ -4,7 +4,7 @@
 
 use super::databases::{Contents, database, version};
 use super::files::{do_in_file, make_file, path_of, remove};
-use super::listing::shows;
+use super::listing::{adopt, shows};
 use crate::prelude::*;
 use sqlite::MemStore;
 use std::test::Fail;
@@ -17,9 +17,9 @@ fn adopted_store<S: Alter + Drop>(
     match Store::adopt(rt.alloc(), connection) {
         Ok(store) => store,
         Err((fault, mut left)) => {
-            expect_eq(rt, &fault, &StoreFault::Memory);
-            expect_eq(rt, &version(&mut left), &contents.version());
-            Store::adopt(rt.alloc(), left).ok().expect(rt, "opened")
+            expect_eq(rt, fault, StoreFault::Memory);
+            expect_eq(rt, version(&mut left), contents.version());
+            adopt(rt, left)
         }
     }
 }
@@ -43,7 +43,7 @@ fn new_store(rt: &impl Host) -> Store<MemStore> {
     match Store::open_in_memory(rt.alloc()) {
         Ok(store) => store,
         Err(fault) => {
-            expect_eq(rt, &fault, &StoreFault::Memory);
+            expect_eq(rt, fault, StoreFault::Memory);
             Store::open_in_memory(rt.alloc()).expect(rt, "a store")
         }
     }
@@ -57,8 +57,8 @@ fn store_in_memory(rt: HostRuntime) {
 /// The second opening must succeed if the first runs out of memory.
 fn opens_at(host: &HostRuntime, rt: &impl Host, path: &str, contents: Contents) {
     if let Err((fault, _)) = do_in_file(host, rt, path, &contents) {
-        expect_eq(rt, &fault, &StoreFault::Memory);
-        expect_eq(rt, &do_in_file(host, rt, path, &contents), &Ok(()));
+        expect_eq(rt, fault, StoreFault::Memory);
+        expect_eq(rt, do_in_file(host, rt, path, &contents), Ok(()));
     }
 }
 

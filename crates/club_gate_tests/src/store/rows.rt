@@ -29,11 +29,11 @@ pub(crate) fn member(rt: &impl Host, text: &str, credited: u32) -> Member {
     }
 }
 
-pub(crate) fn facility(rt: &impl Host, facility: &PlainFacility) -> Facility {
+pub(crate) fn facility(rt: &impl Host, facility: PlainFacility) -> Facility {
     facility.facility().expect(rt, "a facility")
 }
 
-pub(crate) fn key(rt: &impl Host, kept: &Kept) -> Key {
+pub(crate) fn key(rt: &impl Host, kept: Kept) -> Key {
     Key {
         name: name(rt, kept.name),
         member: name(rt, "amy"),

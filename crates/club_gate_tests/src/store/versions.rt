@@ -19,10 +19,10 @@ fn indexes<S: Alter>(rt: &impl Host, connection: &mut Connection<S>) -> i64 {
 /// The first opening must create the index, and a second opening must keep the index.
 fn gets_the_index(rt: &impl Host, contents: Contents) {
     let mut connection = database(rt, contents);
-    expect_eq(rt, &indexes(rt, &mut connection), &0);
+    expect_eq(rt, indexes(rt, &mut connection), 0);
     for _ in 0..2 {
         connection = adopt(rt, connection).into_connection();
-        expect_eq(rt, &indexes(rt, &mut connection), &1);
+        expect_eq(rt, indexes(rt, &mut connection), 1);
     }
 }
 
@@ -35,9 +35,10 @@ fn makes_the_index_of_the_bookings(rt: HostRuntime) {
 
 #[test]
 fn has_no_older_root_once_migrated(rt: HostRuntime) {
-    let mut store = adopt(&rt, database(&rt, First));
-    shows_key(&rt, &mut store, &AMY_1);
-    shows_key(&rt, &mut adopt(&rt, store.into_connection()), &AMY_1);
+    let rt = &rt;
+    let mut store = adopt(rt, database(rt, First));
+    shows_key(rt, &mut store, AMY_1);
+    shows_key(rt, &mut adopt(rt, store.into_connection()), AMY_1);
 }
 
 const OLDER: Older = Older(ROOT, "2026-04-25T00:00");
@@ -52,9 +53,10 @@ const ROTATED: Kept = Kept {
 
 #[test]
 fn rotates_a_key_once_migrated(rt: HostRuntime) {
-    let mut store = adopt(&rt, database(&rt, First));
-    expect_eq(&rt, &store.apply(&change(&rt, &ROTATES)), &Ok(()));
-    shows_key(&rt, &mut adopt(&rt, store.into_connection()), &ROTATED);
+    let rt = &rt;
+    let mut store = adopt(rt, database(rt, First));
+    expect_eq(rt, store.apply(&change(rt, ROTATES)), Ok(()));
+    shows_key(rt, &mut adopt(rt, store.into_connection()), ROTATED);
 }
 
 /// The contents of a database, the statements that change the contents, and the version of the
@@ -93,22 +95,22 @@ fn refusal<S: Alter + Drop>(
     (fault, version(&mut left))
 }
 
-fn is_refused(rt: &impl Host, row: usize, other: &Other) {
+fn is_refused(rt: &impl Host, row: usize, other: Other) {
     let (contents, texts, version) = other;
-    let mut connection = database(rt, *contents);
+    let mut connection = database(rt, contents);
     runs(rt, &mut connection, texts);
-    let want = (StoreFault::Storage, *version);
-    expect_row(rt, &row, &refusal(rt, connection), &want);
+    let want = (StoreFault::Storage, version);
+    expect_row(rt, row, refusal(rt, connection), want);
 }
 
 #[test]
 fn refuses_other_databases(rt: HostRuntime) {
     for (row, other) in OTHERS.iter().enumerate() {
-        is_refused(&rt, row, other);
+        is_refused(&rt, row, *other);
     }
 }
 
 #[test]
 fn refuses_tables_without_totals(rt: HostRuntime) {
-    is_refused(&rt, 0, &(Nothing, &WITHOUT_TOTALS, Some(1)));
+    is_refused(&rt, 0, (Nothing, &WITHOUT_TOTALS, Some(1)));
 }

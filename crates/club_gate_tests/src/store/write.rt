@@ -37,7 +37,7 @@ fn numbers(rt: &impl Host, facility: &str, places: u8, price: u16, hours: (u8, u
     }
 }
 
-fn rotation(rt: &impl Host, key: &str, former: &Older, to: &[u8]) -> Change {
+fn rotation(rt: &impl Host, key: &str, former: Older, to: &[u8]) -> Change {
     Change::ReplaceRoot {
         key: name(rt, key),
         former: root(rt, former.0),
@@ -46,7 +46,7 @@ fn rotation(rt: &impl Host, key: &str, former: &Older, to: &[u8]) -> Change {
     }
 }
 
-fn cancellation(rt: &impl Host, booked: &PlainBooking, member: &str, refund: u32) -> Change {
+fn cancellation(rt: &impl Host, booked: PlainBooking, member: &str, refund: u32) -> Change {
     Change::MarkCancelled {
         booking: booking(rt, booked),
         member: name(rt, member),
@@ -54,24 +54,24 @@ fn cancellation(rt: &impl Host, booked: &PlainBooking, member: &str, refund: u32
     }
 }
 
-pub(crate) fn change(rt: &impl Host, write: &Write) -> Change {
+pub(crate) fn change(rt: &impl Host, write: Write) -> Change {
     match write {
-        Write::Member(text, credited) => Change::InsertMember(member(rt, text, *credited)),
+        Write::Member(text, credited) => Change::InsertMember(member(rt, text, credited)),
         Write::Credit(member, points) => Change::AddCredit {
             member: name(rt, member),
-            points: *points,
+            points,
         },
         Write::Debit(member, points) => Change::TakeCredit {
             member: name(rt, member),
-            points: *points,
+            points,
         },
         Write::Quota(member, quota) => Change::ReplaceQuota {
             member: name(rt, member),
-            quota: *quota,
+            quota,
         },
         Write::Facility(place) => Change::InsertFacility(facility(rt, place)),
         Write::Numbers(facility, places, price, opens, shuts) => {
-            numbers(rt, facility, *places, *price, (*opens, *shuts))
+            numbers(rt, facility, places, price, (opens, shuts))
         }
         Write::Key(kept) => Change::InsertKey(key(rt, kept)),
         Write::Revoke(key) => Change::MarkRevoked { key: name(rt, key) },
@@ -81,18 +81,18 @@ pub(crate) fn change(rt: &impl Host, write: &Write) -> Change {
         Write::Book(key, number, slot, guests, member, charge) => {
             let booked = PlainBooking {
                 key,
-                number: *number,
-                slot: *slot,
-                guests: *guests,
-                charge: *charge,
+                number,
+                slot,
+                guests,
+                charge,
                 left: 1,
                 refund: None,
             };
             Change::InsertBooking {
-                booking: booking(rt, &booked),
+                booking: booking(rt, booked),
                 member: name(rt, member),
             }
         }
-        Write::Cancel(booked, member, refund) => cancellation(rt, booked, member, *refund),
+        Write::Cancel(booked, member, refund) => cancellation(rt, booked, member, refund),
     }
 }
