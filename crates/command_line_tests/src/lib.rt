@@ -6,4 +6,6 @@ mod clubdesk;
 #[cfg(test)]
 mod expect;
 #[cfg(test)]
+mod lines;
+#[cfg(test)]
 mod passtool;

@@ -1,17 +1,14 @@
 //! Arguments that are refused, and help.
 
-use super::tasks::arguments_of;
-use crate::expect::{Host, expect_end};
+use crate::expect::{Host, expect_case, expect_end, expect_form_refused, printed};
+use crate::lines::{arguments_of, joined};
 use clubdesk_arguments::{CommandName, Fault, Job};
 use command_line::{ArgumentsFault, Asked, read_job, text_fault};
 use test_kit::End::{self, Begins, Prints};
-use test_kit::{Output, form_line};
+use test_kit::Output;
 
 fn output_of_fault(rt: &impl Host, fault: &Fault) -> Output {
-    Output {
-        status: fault.status(),
-        text: fault.to_string(rt.alloc()).expect(rt, "memory"),
-    }
+    printed(rt, fault.status(), fault)
 }
 
 fn asked<'a>(
@@ -21,16 +18,19 @@ fn asked<'a>(
     read_job(rt.alloc(), arguments)
 }
 
-pub(super) fn output_of(rt: &impl Host, line: &str) -> Output {
-    let arguments = arguments_of(rt, line);
+/// Returns the text of help or of a fault. Fails if the line asks for work.
+fn output_of(rt: &impl Host, line: &str) -> Output {
+    let arguments = arguments_of(rt, "clubdesk", line);
     match asked(rt, arguments.as_slice()) {
-        Ok(_) => panic!(rt; "{line}"),
+        Ok(Asked::ShowText(help)) => printed(rt, 0, &help),
+        Ok(Asked::Perform(_)) => panic!(rt; "{line}"),
         Err(fault) => output_of_fault(rt, &Fault::from(fault)),
     }
 }
 
-fn expect_refused(rt: &impl Host, line: &str, end: &End) {
-    expect_end(rt, &output_of(rt, line), end, line);
+pub(super) fn expect_refused(rt: &impl Host, before: &str, rest: &str, end: End) {
+    let line = joined(rt, &[before, rest]);
+    expect_end(rt, &output_of(rt, line.as_str()), end, line.as_str());
 }
 
 const BAD_VALUE: End = Begins(3, "bad value");
@@ -59,31 +59,22 @@ static BAD_VALUES: [&str; 19] = [
     "rotate-key|F|k|000102030405060708090a0b0c0d0e0f|: 1999-12-31T23:59",
 ];
 
-static SPACED: [&str; 2] = ["add-member|F|amy| 5", "show-slot|F|court 1|2026-05-01|18"];
-
 // Roots of 0 bytes, of 15, of 16 and a half, of 16 with a wrong digit, and of 65.
-static BAD_ROOTS: [&str; 5] = [
-    "",
-    "000102030405060708090a0b0c0d0e",
-    "000102030405060708090a0b0c0d0e0f1",
-    "000102030405060708090a0b0c0d0e0g",
-    "0000000000000000000000000000000000000000000000000000000000000000\
-    000000000000000000000000000000000000000000000000000000000000000000",
-];
+const BAD_ROOTS: &str = " 000102030405060708090a0b0c0d0e 000102030405060708090a0b0c0d0e0f1 \
+    000102030405060708090a0b0c0d0e0g \
+    0000000000000000000000000000000000000000000000000000000000000000\
+    000000000000000000000000000000000000000000000000000000000000000000";
 
-fn expect_ends_refused(rt: &impl Host, row: &str) {
-    let (before, ends) = row.split_once(": ").expect(rt, "a row");
-    for rest in ends.split(' ') {
-        let line = format!(in rt.alloc(); "{before}{rest}").expect(rt, "memory");
-        expect_refused(rt, line.as_str(), &BAD_VALUE);
+/// Spaces separate the words. Each word stands between `before` and `after`.
+fn expect_each_refused(rt: &impl Host, before: &str, words: &str, after: &str) {
+    for word in words.split(' ') {
+        expect_refused(rt, before, joined(rt, &[word, after]).as_str(), BAD_VALUE);
     }
 }
 
-fn expect_root_refused(rt: &impl Host, root: &str) {
-    let line = format!(in rt.alloc(); "add-key|F|k|bob|{root}").expect(rt, "memory");
-    expect_refused(rt, line.as_str(), &BAD_VALUE);
-    let line = format!(in rt.alloc(); "rotate-key|F|k|{root}|2026-04-25T00:00");
-    expect_refused(rt, line.expect(rt, "memory").as_str(), &BAD_VALUE);
+fn expect_ends_refused(rt: &impl Host, row: &str) {
+    let (before, ends) = row.split_once(": ").expect(rt, "a row");
+    expect_each_refused(rt, before, ends, "");
 }
 
 #[test]
@@ -91,21 +82,17 @@ fn bad_values(rt: HostRuntime) {
     for row in &BAD_VALUES {
         expect_ends_refused(&rt, row);
     }
-    for line in &SPACED {
-        expect_refused(&rt, line, &BAD_VALUE);
-    }
-    for root in &BAD_ROOTS {
-        expect_root_refused(&rt, root);
-    }
+    expect_each_refused(&rt, "add-key|F|k|bob|", BAD_ROOTS, "");
+    expect_each_refused(&rt, "rotate-key|F|k|", BAD_ROOTS, "|2026-04-25T00:00");
+    expect_refused(&rt, "add-member|F|amy| 5", "", BAD_VALUE);
+    expect_refused(&rt, "show-slot|F|court 1|2026-05-01|18", "", BAD_VALUE);
 }
 
 static OTHER_FORMS: [&str; 5] = ["", "v3", "V1", "JSON", "v1 "];
 
 fn expect_other_form(rt: &impl Host, before: &str, form: &str) {
-    let line = format!(in rt.alloc(); "{before}|--form|{form}").expect(rt, "memory");
-    let output = output_of(rt, line.as_str());
-    let want = form_line(rt.alloc(), form).expect(rt, "memory");
-    assert!(rt; output.begins(2, want.as_str()), "{output:?}");
+    let line = joined(rt, &[before, "|--form|", form]);
+    expect_form_refused(rt, &output_of(rt, line.as_str()), line.as_str(), form);
 }
 
 // A form is checked before other values.
@@ -137,7 +124,7 @@ const BAD_ARGUMENTS: &str = "frob help|frob add-member|--version add-member add-
 #[test]
 fn arguments_that_clap_refuses(rt: HostRuntime) {
     for line in BAD_ARGUMENTS.split(' ') {
-        expect_refused(&rt, line, &Begins(2, "error: "));
+        expect_refused(&rt, line, "", Begins(2, "error: "));
     }
 }
 
@@ -151,18 +138,20 @@ const NOT_TEXT: End = Prints(
 #[test]
 fn arguments_that_are_no_text(rt: HostRuntime) {
     let fault = Fault::from(text_fault::<CommandName, ()>(rt.alloc()));
-    expect_end(&rt, &output_of_fault(&rt, &fault), &NOT_TEXT, "no text");
+    expect_end(&rt, &output_of_fault(&rt, &fault), NOT_TEXT, "no text");
 }
 
 const HELP: &str =
     "--help help help|serve help|show-account help|show-slot add-facility|-h --version -V";
 
 fn help_of(rt: &impl Host, line: &str) -> String {
-    let arguments = arguments_of(rt, line);
-    match asked(rt, arguments.as_slice()) {
-        Ok(Asked::ShowText(help)) => help.to_string(rt.alloc()).expect(rt, "memory"),
-        _ => panic!(rt; "{line}"),
-    }
+    let output = output_of(rt, line);
+    expect_case(rt, line, output.status, 0);
+    output.text
+}
+
+fn shows(rt: &impl Host, help: &str, parts: &[&str]) -> bool {
+    help.contains(joined(rt, parts).as_str())
 }
 
 #[test]
@@ -177,12 +166,10 @@ const COMMANDS: &str = "add-member credit debit set-quota add-facility set-facil
     revoke-key rotate-key close-slot open-slot cancel-booking sheet serve show-account show-slot";
 
 fn expect_example(rt: &impl Host, command: &str) {
-    let line = format!(in rt.alloc(); "{command}|--help").expect(rt, "memory");
-    let text = help_of(rt, line.as_str());
-    let example = format!(in rt.alloc(); "\n  clubdesk {command} club.db ").expect(rt, "memory");
-    let piped = format!(in rt.alloc(); " | clubdesk {command} club.db ").expect(rt, "memory");
+    let text = help_of(rt, joined(rt, &[command, "|--help"]).as_str());
     let shown = text.as_str();
-    let has_one = shown.contains(example.as_str()) || shown.contains(piped.as_str());
+    let has_one = shows(rt, shown, &["\n  clubdesk ", command, " club.db "])
+        || shows(rt, shown, &[" | clubdesk ", command, " club.db "]);
     assert!(rt; has_one, "{text}");
 }
 

@@ -1,8 +1,9 @@
 //! Long paths, roots, numbers and words.
 
-use super::bad_arguments::output_of;
+use super::bad_arguments::expect_refused;
 use super::tasks::expect_asked;
-use crate::expect::{Host, expect_case, expect_end, text_of};
+use crate::expect::{Host, expect_case};
+use crate::lines::text_of;
 use clubdesk_arguments::root_of;
 use test_kit::End::{self, Begins};
 use test_kit::Piece;
@@ -18,31 +19,37 @@ static WITH_A_PATH: [(&str, &str, &str); 2] = [
     ),
 ];
 
+fn takes_path(rt: &impl Host, before: &str, path: &str, after: &str, want: &str) {
+    expect_asked(rt, &[before, path, after], path, &[want]);
+}
+
 #[test]
 fn takes_a_long_path(rt: HostRuntime) {
     let path = text_of(&rt, &PATH);
     for (before, after, want) in &WITH_A_PATH {
-        let line = format!(in rt.alloc(); "{before}{path}{after}").expect(&rt, "memory");
-        expect_asked(&rt, line.as_str(), path.as_str(), want);
+        takes_path(&rt, before, path.as_str(), after, want);
     }
 }
 
 #[test]
 fn takes_numbers_of_each_length(rt: HostRuntime) {
     for points in "1 12 123 1234 12345 123456 1234567 12345678 123456789".split(' ') {
-        let line = format!(in rt.alloc(); "credit|F|amy|{points}").expect(&rt, "memory");
-        let want = format!(in rt.alloc(); "Credit {{ member: \"amy\", points: {points} }}");
-        expect_asked(&rt, line.as_str(), "F", want.expect(&rt, "memory").as_str());
+        let want = ["Credit { member: \"amy\", points: ", points, " }"];
+        expect_asked(&rt, &["credit|F|amy|", points], "F", &want);
     }
 }
 
 fn takes_root(rt: &impl Host, len: usize) {
     let text = text_of(rt, &[(len, "a7")]);
     let root = root_of(text.as_str()).expect(rt, "a root");
-    expect_case(rt, "a root", &root.as_bytes().len(), &len);
-    let line = format!(in rt.alloc(); "add-key|F|k|bob|{text}").expect(rt, "memory");
-    let want = format!(in rt.alloc(); "add k of bob {text} V2").expect(rt, "memory");
-    expect_asked(rt, line.as_str(), "F", want.as_str());
+    expect_case(rt, "a root", root.as_bytes().len(), len);
+    let text = text.as_str();
+    expect_asked(
+        rt,
+        &["add-key|F|k|bob|", text],
+        "F",
+        &["add k of bob ", text, " V2"],
+    );
 }
 
 #[test]
@@ -65,7 +72,6 @@ static BEFORE_A_LONG_WORD: [(&str, End); 6] = [
 fn refuses_long_words(rt: HostRuntime) {
     let word = text_of(&rt, &[(1_000, "w")]);
     for (before, end) in &BEFORE_A_LONG_WORD {
-        let line = format!(in rt.alloc(); "{before}{word}").expect(&rt, "memory");
-        expect_end(&rt, &output_of(&rt, line.as_str()), end, before);
+        expect_refused(&rt, before, word.as_str(), *end);
     }
 }

@@ -1,87 +1,106 @@
 //! The tasks that the arguments of `clubdesk` ask for.
 
 use crate::expect::{Host, expect_case};
+use crate::lines::{arguments_of, joined};
 use club_clock::Clock;
 use club_rows::Root;
 use clubdesk_arguments::{Job, KeyChange, KeyCommand, Service, Task, Work, laws};
 use command_line::{ArgumentsFault, Asked, read_job};
-use std::alloc::AllocError;
-use std::fmt::Write;
-
-// Bars separate the arguments.
-pub(crate) fn arguments_of<'a>(rt: &impl Host, line: &'a str) -> Vec<&'a str> {
-    let mut arguments = Vec::from_array(rt.alloc(), ["clubdesk"]).expect(rt, "memory");
-    for argument in line.split('|') {
-        arguments.push(argument).expect(rt, "memory");
-    }
-    arguments
-}
+use std::fmt::{Debug, Display, Write};
 
 fn hex_of(rt: &impl Host, root: &Root) -> String {
     hex::encode(rt.alloc(), root.as_bytes()).expect(rt, "memory")
 }
 
-fn describe_clock(output: &mut String, clock: &Clock<'_>) -> Result<(), AllocError> {
+fn put(rt: &impl Host, output: &mut String, before: &str, value: &impl Display) {
+    write!(output, "{before}{value}").expect(rt, "memory");
+}
+
+fn put_debug(rt: &impl Host, output: &mut String, before: &str, value: &impl Debug) {
+    write!(output, "{before}{value:?}").expect(rt, "memory");
+}
+
+fn describe_clock(rt: &impl Host, output: &mut String, clock: &Clock<'_>) {
     match clock {
-        Clock::Fixed(moment) => write!(output, "at {moment}"),
-        Clock::InZone(_) => write!(output, "by the clock"),
+        Clock::Fixed(moment) => put(rt, output, " at ", moment),
+        Clock::InZone(_) => put(rt, output, " by the clock", &""),
     }
 }
 
-fn describe_key(output: &mut String, command: &KeyCommand, root: &str) -> Result<(), AllocError> {
-    let (name, form) = (&command.name, command.form);
+fn describe_key(rt: &impl Host, output: &mut String, command: &KeyCommand, root: &str) {
     match &command.change {
-        KeyChange::Add { member } => write!(output, "add {name} of {member} {root} {form:?}"),
-        KeyChange::Rotate { until } => {
-            write!(output, "rotate {name} {root} until {until} {form:?}")
+        KeyChange::Add { member } => {
+            put(rt, output, "add ", &command.name);
+            put(rt, output, " of ", member);
+            put(rt, output, " ", &root);
         }
+        KeyChange::Rotate { until } => {
+            put(rt, output, "rotate ", &command.name);
+            put(rt, output, " ", &root);
+            put(rt, output, " until ", until);
+        }
+    }
+    put_debug(rt, output, " ", &command.form);
+}
+
+fn describe_service(rt: &impl Host, output: &mut String, service: &Service<'_>) {
+    put(rt, output, "serve ", &service.port);
+    put(rt, output, " ", &service.count);
+    describe_clock(rt, output, &service.clock);
+    put(rt, output, " for ", &service.patience);
+    if service.log {
+        put(rt, output, " with a log", &"");
     }
 }
 
-fn describe_service(output: &mut String, service: &Service<'_>) -> Result<(), AllocError> {
-    let (port, count, patience) = (service.port, service.count, service.patience);
-    let log = if service.log { " with a log" } else { "" };
-    write!(output, "serve {port} {count} ")?;
-    describe_clock(output, &service.clock)?;
-    write!(output, " for {patience}{log}")
-}
-
-fn describe_work(rt: &impl Host, output: &mut String, work: &Work<'_>) -> Result<(), AllocError> {
-    match work {
-        Work::Office(Task::Give(command)) => write!(output, "{command:?}"),
-        Work::Office(Task::Key(command, root)) => {
-            describe_key(output, command, hex_of(rt, root).as_str())
+fn describe_task(rt: &impl Host, output: &mut String, task: &Task<'_>) {
+    match task {
+        Task::Give(command) => put_debug(rt, output, "", command),
+        Task::Key(command, root) => describe_key(rt, output, command, hex_of(rt, root).as_str()),
+        Task::Sheet(day) => put(rt, output, "sheet ", day),
+        Task::ShowAccount { key, clock } => {
+            put(rt, output, "show ", key);
+            describe_clock(rt, output, clock);
         }
-        Work::Office(Task::Sheet(day)) => write!(output, "sheet {day}"),
-        Work::Office(Task::ShowAccount { key, clock }) => {
-            write!(output, "show {key} ")?;
-            describe_clock(output, clock)
-        }
-        Work::Office(Task::ShowSlot(slot)) => write!(output, "show {slot:?}"),
-        Work::Rootless(command) => describe_key(output, command, "by input"),
-        Work::Serve(service) => describe_service(output, service),
+        Task::ShowSlot(slot) => put_debug(rt, output, "show ", slot),
     }
 }
 
 fn work_text(rt: &impl Host, work: &Work<'_>) -> String {
     let mut output = String::new(rt.alloc());
-    describe_work(rt, &mut output, work).expect(rt, "memory");
+    match work {
+        Work::Office(task) => describe_task(rt, &mut output, task),
+        Work::Rootless(command) => describe_key(rt, &mut output, command, "by input"),
+        Work::Serve(service) => describe_service(rt, &mut output, service),
+    }
     output
 }
 
-pub(super) fn expect_asked(rt: &impl Host, line: &str, file: &str, want: &str) {
-    let arguments = arguments_of(rt, line);
+fn expect_job(rt: &impl Host, line: &str, job: &Job<'_>, file: &str, want: &str) {
+    expect_case(rt, line, work_text(rt, &job.work).as_str(), want);
+    expect_case(rt, line, job.file, file);
+}
+
+fn asks(rt: &impl Host, line: &str, file: &str, want: &str) {
+    let arguments = arguments_of(rt, "clubdesk", line);
     let asked: Result<Asked<Job<'_>>, ArgumentsFault<()>> = read_job(
         rt.alloc(),
         arguments.as_slice(),
     );
     match &asked {
-        Ok(Asked::Perform(job)) => {
-            let work = work_text(rt, &job.work);
-            expect_case(rt, line, &(work.as_str(), job.file), &(want, file));
-        }
+        Ok(Asked::Perform(job)) => expect_job(rt, line, job, file, want),
         _ => panic!(rt; "{line}"),
     }
+}
+
+/// The line and the text of its job consist of the parts.
+pub(super) fn expect_asked(rt: &impl Host, line: &[&str], file: &str, want: &[&str]) {
+    asks(
+        rt,
+        joined(rt, line).as_str(),
+        file,
+        joined(rt, want).as_str(),
+    );
 }
 
 // The file is `F`. The scenarios test how commands are carried out.
@@ -127,7 +146,7 @@ static TASKS: [&str; 22] = [
 fn tasks(rt: HostRuntime) {
     for row in &TASKS {
         let (line, want) = row.split_once(" asks for ").expect(&rt, "a row");
-        expect_asked(&rt, line, "F", want);
+        asks(&rt, line, "F", want);
     }
 }
 
@@ -135,8 +154,8 @@ fn tasks(rt: HostRuntime) {
 #[test]
 fn sheets(rt: HostRuntime) {
     let output = "sheet 2026-05-02";
-    expect_asked(&rt, "sheet|a file.db|2026-05-02", "a file.db", output);
-    expect_asked(&rt, "sheet|--|--port|2026-05-02", "--port", output);
+    asks(&rt, "sheet|a file.db|2026-05-02", "a file.db", output);
+    asks(&rt, "sheet|--|--port|2026-05-02", "--port", output);
 }
 
 #[test]

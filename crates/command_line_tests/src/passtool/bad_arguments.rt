@@ -1,9 +1,9 @@
 //! Arguments that are refused before the input is read, and help.
 
 use super::runs::*;
-use crate::expect::{Host, expect_eq};
-use test_kit::End::{Begins, Prints};
-use test_kit::form_line;
+use crate::expect::{Host, expect_eq, expect_form_refused};
+use crate::lines::joined;
+use test_kit::End::{self, Begins, Prints};
 
 static BAD_ROOTS: [&str; 5] = [
     "",
@@ -14,27 +14,23 @@ static BAD_ROOTS: [&str; 5] = [
     00000000000000000000000000000000000000000000000000000000000000000",
 ];
 
-fn is_no_root(rt: &impl Host, root: &str) {
-    let verify = format!(in rt.alloc(); "verify|--root|{root}").expect(rt, "memory");
-    expect_unread(rt, &[(verify.as_str(), Prints(6, "bad root"))]);
-    let mint = format!(in rt.alloc(); "mint|--root|{root}|--id|k").expect(rt, "memory");
-    expect_unread(rt, &[(mint.as_str(), Prints(6, "bad root"))]);
-}
+const BAD_ROOT: End = Prints(6, "bad root");
 
 #[test]
 fn refuses_bad_roots(rt: HostRuntime) {
     for root in &BAD_ROOTS {
-        is_no_root(&rt, root);
+        expect_unread(&rt, "verify|--root|", root, BAD_ROOT);
+        let named = joined(&rt, &[root, "|--id|k"]);
+        expect_unread(&rt, "mint|--root|", named.as_str(), BAD_ROOT);
     }
 }
 
 static OTHER_FORMS: [&str; 6] = ["", "v3", "V1", "JSON", "v1 ", "binary"];
 
 fn expect_other_form(rt: &impl Host, before: &str, form: &str) {
-    let line = format!(in rt.alloc(); "{before}{form}").expect(rt, "memory");
+    let line = joined(rt, &[before, form]);
     let output = unread_output_of(rt, line.as_str());
-    let want = form_line(rt.alloc(), form).expect(rt, "memory");
-    assert!(rt; output.begins(2, want.as_str()), "{line}: {output:?}");
+    expect_form_refused(rt, &output, line.as_str(), form);
 }
 
 // The form is checked before the root.
@@ -55,13 +51,13 @@ const BAD_ARGUMENTS: &str = " frob help|frob mint mint|--root|zz mint|--id|k min
 #[test]
 fn refuses_what_clap_refuses(rt: HostRuntime) {
     for line in BAD_ARGUMENTS.split(' ') {
-        expect_unread(&rt, &[(line, Begins(2, "error: "))]);
+        expect_unread(&rt, line, "", Begins(2, "error: "));
     }
 }
 
 fn expect_help(rt: &impl Host, line: &str, part: &str) {
     let output = unread_output_of(rt, line);
-    expect_eq(rt, &output.status, &0);
+    expect_eq(rt, output.status, 0);
     assert!(rt; output.text.as_str().contains(part), "{line}: {output:?}");
 }
 
@@ -93,7 +89,6 @@ fn help_of_narrow_shows_the_caveats(rt: HostRuntime) {
         expect_help(&rt, "narrow|-h", caveat);
     }
     // `narrow` understands each of these caveats, so the fault is in the pass.
-    let caveats = CAVEATS;
-    let line = format!(in rt.alloc(); "narrow|{caveats}").expect(&rt, "memory");
-    expect(&rt, line.as_str(), b"!", &MALFORMED);
+    let line = joined(&rt, &["narrow|", CAVEATS]);
+    expect(&rt, line.as_str(), b"!", MALFORMED);
 }

@@ -2,7 +2,8 @@
 
 use super::doubles::Slow;
 use super::runs::*;
-use crate::expect::{Host, expect_end, expect_eq};
+use crate::expect::{Host, expect_end};
+use crate::lines::joined;
 use test_kit::End::{self, Prints, Writes};
 
 const FAILED: End = Prints(7, "input or output failed");
@@ -11,12 +12,12 @@ const FAILED: End = Prints(7, "input or output failed");
 fn reads_in_pieces(rt: HostRuntime) {
     let mut reader = Slow::new(rt.alloc(), TEXT.as_bytes());
     let output = output_of(&rt, VERIFY, &mut reader);
-    expect_end(&rt, &output, &Writes("signed"), VERIFY);
+    expect_end(&rt, &output, Writes("signed"), VERIFY);
 }
 
 fn fails_after(rt: &impl Host, line: &str, left: &[u8]) {
     let output = output_of(rt, line, &mut Slow::failing(rt.alloc(), left));
-    expect_end(rt, &output, &FAILED, line);
+    expect_end(rt, &output, FAILED, line);
 }
 
 fn fails_with_reader(rt: &impl Host, line: &str) {
@@ -39,27 +40,23 @@ fn fails_with_its_reader(rt: HostRuntime) {
 type Run = (&'static str, &'static str, &'static str);
 
 // The writer has room only for `front`.
-fn expect_taken(rt: &impl Host, (line, input, _): &Run, front: &[u8], flushes: bool, end: &End) {
+fn takes(rt: &impl Host, run: &Run, front: &[u8], flushes: bool, end: End) {
     let mut writer = Slow::new(rt.alloc(), b"");
     writer.room = front.len();
     writer.flushes = flushes;
-    let arguments = arguments_of(rt, line);
-    let output = ended_by(rt, arguments.as_slice(), &mut input.as_bytes(), &mut writer);
-    expect_end(rt, &output, end, line);
-    expect_eq(rt, &writer.taken.as_slice(), &front);
+    expect_taken(rt, run.0, &mut run.1.as_bytes(), writer, end, front);
 }
 
 // A writer with enough room fails only if its flush fails.
 fn fails_with_writer(rt: &impl Host, run: &Run) {
-    let text = run.2;
-    let line = format!(in rt.alloc(); "{text}\n").expect(rt, "memory");
-    let bytes = line.as_bytes();
+    let text = joined(rt, &[run.2, "\n"]);
+    let bytes = text.as_bytes();
     for room in 0..bytes.len() {
         let (front, _) = bytes.split_at(room);
-        expect_taken(rt, run, front, true, &FAILED);
+        takes(rt, run, front, true, FAILED);
     }
-    expect_taken(rt, run, bytes, true, &Prints(0, ""));
-    expect_taken(rt, run, bytes, false, &FAILED);
+    takes(rt, run, bytes, true, Prints(0, ""));
+    takes(rt, run, bytes, false, FAILED);
 }
 
 static WRITERS: [Run; 6] = [

@@ -1,12 +1,7 @@
 //! Passes that are made, narrowed, shown and written in each form.
 
 use super::runs::*;
-use crate::expect::Host;
 use test_kit::End::{self, Begins, Writes};
-
-fn expect_text(rt: &impl Host, line: &str, input: &str, text: &'static str) {
-    expect(rt, line, input.as_bytes(), &Writes(text));
-}
 
 // The first text has an empty location, and the other texts have no location. The last text is
 // JSON in base64.
@@ -27,14 +22,18 @@ const OTHER_BYTES: &str = "AgIB_wAABiB83ueSURxbxvUoSFgF3-myTnheKOKpkwH51xHGCeOO9
 const OTHER_BYTES_JSON: &str =
     "{\"c\":[],\"i64\":\"_w\",\"s64\":\"fN7nklEcW8b1KEhYBd_psk54XijiqZMB-dcRxgnjjvc\",\"v\":2}";
 
+static OTHER_PASSES: [Row; 2] = [
+    (TO_V1, REORDERED, Writes(TEXT)),
+    (TO_JSON, OTHER_BYTES, Writes(OTHER_BYTES_JSON)),
+];
+
 #[test]
 fn converts_every_text_of_a_pass(rt: HostRuntime) {
     for input in &OF_KEYID {
-        expect_text(&rt, TO_V2, input, OF_KEYID[1]);
-        expect_text(&rt, TO_JSON, input, OF_KEYID[2]);
+        expect(&rt, TO_V2, input.as_bytes(), Writes(OF_KEYID[1]));
+        expect(&rt, TO_JSON, input.as_bytes(), Writes(OF_KEYID[2]));
     }
-    expect_text(&rt, TO_V1, REORDERED, TEXT);
-    expect_text(&rt, TO_JSON, OTHER_BYTES, OTHER_BYTES_JSON);
+    expect_rows(&rt, &OTHER_PASSES);
 }
 
 const NARROWED_TWICE: &str =
@@ -43,20 +42,35 @@ const NARROWED_TWICE: &str =
 const DASHED_TEXT: &str =
     "MDAxY2xvY2F0aW9uIGh0dHA6Ly9teWJhbmsvCjAwMjZpZGVudGlmaWVyIHdlIHVzZWQgb3VyIHNlY3JldCBrZXkKMDAwYmNpZCAteAowMDJmc2lnbmF0dXJlIH5yFLJImuHOPzWujMWYmtw37uVf1cHSu9BEnMhq071KCg";
 
-static KNOWN: [&str; 3] = [TEXT, V2_TEXT, JSON_TEXT];
+static NARROWED: [Row; 2] = [
+    (
+        "narrow|guests <= 2|kind = court",
+        TEXT,
+        Writes(NARROWED_TWICE),
+    ),
+    ("narrow|--any|--|-x", BARE_TEXT, Writes(DASHED_TEXT)),
+];
 
-static ON_FRIDAYS: [&str; 3] = [
-    "MDAxY2xvY2F0aW9uIGh0dHA6Ly9teWJhbmsvCjAwMjZpZGVudGlmaWVyIHdlIHVzZWQgb3VyIHNlY3JldCBrZXkKMDAxNmNpZCB0ZXN0ID0gY2F2ZWF0CjAwMTZjaWQgd2Vla2RheSA9IGZyaQowMDJmc2lnbmF0dXJlIOCJPKhxcZk4uV_uzhE34LHxO85T7Ga7-rsgg_EtqqKICg",
-    "AgEOaHR0cDovL215YmFuay8CFndlIHVzZWQgb3VyIHNlY3JldCBrZXkAAg10ZXN0ID0gY2F2ZWF0AAINd2Vla2RheSA9IGZyaQAABiDgiTyocXGZOLlf7s4RN-Cx8TvOU-xmu_q7IIPxLaqiiA",
-    "{\"c\":[{\"i\":\"test = caveat\"},{\"i\":\"weekday = fri\"}],\"i\":\"we used our secret key\",\"l\":\"http://mybank/\",\"s64\":\"4Ik8qHFxmTi5X-7OETfgsfE7zlPsZrv6uyCD8S2qoog\",\"v\":2}",
+static ON_FRIDAYS: [(&str, &str); 3] = [
+    (
+        TEXT,
+        "MDAxY2xvY2F0aW9uIGh0dHA6Ly9teWJhbmsvCjAwMjZpZGVudGlmaWVyIHdlIHVzZWQgb3VyIHNlY3JldCBrZXkKMDAxNmNpZCB0ZXN0ID0gY2F2ZWF0CjAwMTZjaWQgd2Vla2RheSA9IGZyaQowMDJmc2lnbmF0dXJlIOCJPKhxcZk4uV_uzhE34LHxO85T7Ga7-rsgg_EtqqKICg",
+    ),
+    (
+        V2_TEXT,
+        "AgEOaHR0cDovL215YmFuay8CFndlIHVzZWQgb3VyIHNlY3JldCBrZXkAAg10ZXN0ID0gY2F2ZWF0AAINd2Vla2RheSA9IGZyaQAABiDgiTyocXGZOLlf7s4RN-Cx8TvOU-xmu_q7IIPxLaqiiA",
+    ),
+    (
+        JSON_TEXT,
+        "{\"c\":[{\"i\":\"test = caveat\"},{\"i\":\"weekday = fri\"}],\"i\":\"we used our secret key\",\"l\":\"http://mybank/\",\"s64\":\"4Ik8qHFxmTi5X-7OETfgsfE7zlPsZrv6uyCD8S2qoog\",\"v\":2}",
+    ),
 ];
 
 #[test]
 fn narrows_in_the_form_it_came_in(rt: HostRuntime) {
-    expect_text(&rt, "narrow|guests <= 2|kind = court", TEXT, NARROWED_TWICE);
-    expect_text(&rt, "narrow|--any|--|-x", BARE_TEXT, DASHED_TEXT);
-    for (input, text) in KNOWN.iter().zip(&ON_FRIDAYS) {
-        expect_text(&rt, "narrow|weekday = fri", input, *text);
+    expect_rows(&rt, &NARROWED);
+    for (input, text) in &ON_FRIDAYS {
+        expect(&rt, "narrow|weekday = fri", input.as_bytes(), Writes(*text));
     }
 }
 
@@ -75,37 +89,49 @@ static MINTED: [(&str, End); 2] = [
 
 #[test]
 fn mints_passes(rt: HostRuntime) {
-    expect_unread(&rt, &MINTED);
-}
-
-static OF_1_LETTER: [&str; 3] = [
-    "MDAxN2xvY2F0aW9uIGNsdWItZGVzawowMDE1aWRlbnRpZmllciBrZXk6YQowMDJmc2lnbmF0dXJlINUNOO5RwGYyFrLLxURCWimOR2Ke7JygR9qsvDKEn0veCg",
-    "AgEJY2x1Yi1kZXNrAgVrZXk6YQAABiDVDTjuUcBmMhayy8VEQlopjkdinuycoEfarLwyhJ9L3g",
-    "{\"c\":[],\"i\":\"key:a\",\"l\":\"club-desk\",\"s64\":\"1Q047lHAZjIWssvFREJaKY5HYp7snKBH2qy8MoSfS94\",\"v\":2}",
-];
-
-static OF_24_LETTERS: [&str; 3] = [
-    "MDAxN2xvY2F0aW9uIGNsdWItZGVzawowMDJjaWRlbnRpZmllciBrZXk6YWJjZGVmZ2hpamtsbW5vcHFyc3R1dnd4CjAwMmZzaWduYXR1cmUgE2VHhUaPyb3pmYgFRMdlNdU60H1ry2MS_d9DlLiV8XEK",
-    "AgEJY2x1Yi1kZXNrAhxrZXk6YWJjZGVmZ2hpamtsbW5vcHFyc3R1dnd4AAAGIBNlR4VGj8m96ZmIBUTHZTXVOtB9a8tjEv3fQ5S4lfFx",
-    "{\"c\":[],\"i\":\"key:abcdefghijklmnopqrstuvwx\",\"l\":\"club-desk\",\"s64\":\"E2VHhUaPyb3pmYgFRMdlNdU60H1ry2MS_d9DlLiV8XE\",\"v\":2}",
-];
-
-fn expect_minted(rt: &impl Host, id: &str, texts: &[&'static str; 3]) {
-    for (form, text) in FORMS.iter().zip(texts) {
-        let named = format!(in rt.alloc(); "|--id|{id}|--location|club-desk|--form|{form}");
-        let named = named.expect(rt, "memory");
-        let line = format!(in rt.alloc(); "mint|--root|00112233445566778899aabbccddeeff{named}");
-        let line = line.expect(rt, "memory");
-        expect_unread(rt, &[(line.as_str(), Writes(*text))]);
+    for (line, end) in &MINTED {
+        expect_unread(&rt, line, "", *end);
     }
 }
 
+const V2_OF_24_LETTERS: &str =
+    "AgEJY2x1Yi1kZXNrAhxrZXk6YWJjZGVmZ2hpamtsbW5vcHFyc3R1dnd4AAAGIBNlR4VGj8m96ZmIBUTHZTXVOtB9a8tjEv3fQ5S4lfFx";
+
+static NAMED: [(&str, &str); 6] = [
+    (
+        "key:a|--location|club-desk|--form|v1",
+        "MDAxN2xvY2F0aW9uIGNsdWItZGVzawowMDE1aWRlbnRpZmllciBrZXk6YQowMDJmc2lnbmF0dXJlINUNOO5RwGYyFrLLxURCWimOR2Ke7JygR9qsvDKEn0veCg",
+    ),
+    (
+        "key:a|--location|club-desk|--form|v2",
+        "AgEJY2x1Yi1kZXNrAgVrZXk6YQAABiDVDTjuUcBmMhayy8VEQlopjkdinuycoEfarLwyhJ9L3g",
+    ),
+    (
+        "key:a|--location|club-desk|--form|json",
+        "{\"c\":[],\"i\":\"key:a\",\"l\":\"club-desk\",\"s64\":\"1Q047lHAZjIWssvFREJaKY5HYp7snKBH2qy8MoSfS94\",\"v\":2}",
+    ),
+    (
+        "key:abcdefghijklmnopqrstuvwx|--location|club-desk|--form|v1",
+        "MDAxN2xvY2F0aW9uIGNsdWItZGVzawowMDJjaWRlbnRpZmllciBrZXk6YWJjZGVmZ2hpamtsbW5vcHFyc3R1dnd4CjAwMmZzaWduYXR1cmUgE2VHhUaPyb3pmYgFRMdlNdU60H1ry2MS_d9DlLiV8XEK",
+    ),
+    (
+        "key:abcdefghijklmnopqrstuvwx|--location|club-desk|--form|v2",
+        V2_OF_24_LETTERS,
+    ),
+    (
+        "key:abcdefghijklmnopqrstuvwx|--location|club-desk|--form|json",
+        "{\"c\":[],\"i\":\"key:abcdefghijklmnopqrstuvwx\",\"l\":\"club-desk\",\"s64\":\"E2VHhUaPyb3pmYgFRMdlNdU60H1ry2MS_d9DlLiV8XE\",\"v\":2}",
+    ),
+];
+
 #[test]
 fn prints_passes_of_short_and_long_names(rt: HostRuntime) {
-    expect_minted(&rt, "key:a", &OF_1_LETTER);
-    expect_minted(&rt, "key:abcdefghijklmnopqrstuvwx", &OF_24_LETTERS);
+    for (named, text) in &NAMED {
+        let mint = "mint|--root|00112233445566778899aabbccddeeff|--id|";
+        expect_unread(&rt, mint, named, Writes(*text));
+    }
     let verify = "verify|--root|00112233445566778899aabbccddeeff";
-    expect_text(&rt, verify, OF_24_LETTERS[1], "signed");
+    expect(&rt, verify, V2_OF_24_LETTERS.as_bytes(), Writes("signed"));
 }
 
 const SHOWN_OF_24_LETTERS: &str =
@@ -117,10 +143,14 @@ const ODD: &str = "AgEHYVxiCn9-IAIBAAACAsOpAAAGIHze55JRHFvG9ShIWAXf6bJOeF4o4qmTA
 const SHOWN_ODD: &str =
     "form v2\nlocation a\\\\b\\x0a\\x7f~ \nidentifier \\x00\ncaveat 1 \\xc3\\xa9\nsignature 7cdee792511c5bc6f528485805dfe9b24e785e28e2a99301f9d711c609e38ef7";
 
+static PASSES: [Row; 2] = [
+    (SHOW, V2_OF_24_LETTERS, Writes(SHOWN_OF_24_LETTERS)),
+    (SHOW, ODD, Writes(SHOWN_ODD)),
+];
+
 #[test]
 fn shows_passes(rt: HostRuntime) {
-    expect_text(&rt, SHOW, OF_24_LETTERS[1], SHOWN_OF_24_LETTERS);
-    expect_text(&rt, SHOW, ODD, SHOWN_ODD);
+    expect_rows(&rt, &PASSES);
 }
 
 static NOT_UNDERSTOOD: [(&str, End); 3] = [
@@ -131,7 +161,9 @@ static NOT_UNDERSTOOD: [(&str, End); 3] = [
 
 #[test]
 fn refuses_caveats_outside_the_language(rt: HostRuntime) {
-    expect_unread(&rt, &NOT_UNDERSTOOD);
+    for (line, end) in &NOT_UNDERSTOOD {
+        expect_unread(&rt, line, "", *end);
+    }
     let understood = "narrow|hours = 18-20|until < 2026-05-01T18:00";
-    expect(&rt, understood, b"!", &MALFORMED);
+    expect(&rt, understood, b"!", MALFORMED);
 }

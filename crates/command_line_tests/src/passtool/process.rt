@@ -1,13 +1,15 @@
 //! Processes of `passtool`: their arguments, statuses and lines.
 
 use super::doubles::Slow;
+use super::plenty::GUESTS_64;
 use super::runs::*;
 use crate::expect::{Host, expect_eq};
+use crate::lines::{arguments_of, joined, text_of};
 use command_line::given_arguments;
 use passtool_commands::{BadValue, Name, run_process};
 use std::fmt::Write;
 use std::io::Read;
-use test_kit::Process;
+use test_kit::{Piece, Process};
 
 /// The status, the standard output and the standard error.
 type Ended = (u8, String, String);
@@ -43,30 +45,26 @@ static ROWS: [Row; 8] = [
     ("convert|--form|v3", "!", 2, OTHER_FORM),
 ];
 
-const SHOWN: &[&[u8]] = &[b"passtool", b"show"];
-
 const NO_TEXT_SHOWN: &[&[u8]] = &[b"passtool", b"show", b"\xff"];
 
-fn expect_ended(rt: &impl Host, (status, written, printed): Ended, want: (u8, &str)) {
-    expect_eq(rt, &status, &want.0);
-    let (text, nothing) = if status < 2 {
-        (written, printed)
-    } else {
-        (printed, written)
-    };
-    expect_eq(rt, &text.as_str(), &want.1);
-    expect_eq(rt, &nothing.as_str(), &"");
+fn expect_ended(rt: &impl Host, ended: Ended, status: u8, text: &str) {
+    expect_eq(rt, ended.0, status);
+    let (written, printed) = if status < 2 { (text, "") } else { ("", text) };
+    expect_eq(rt, ended.1.as_str(), written);
+    expect_eq(rt, ended.2.as_str(), printed);
 }
 
-fn ends(rt: &impl Host, (line, input, status, text): &Row) {
-    let arguments = arguments_of(rt, line);
-    let arguments: Vec<&[u8]> = arguments
-        .iter()
-        .map(|text| text.as_bytes())
-        .collect(rt.alloc())
-        .expect(rt, "memory");
-    let ended = end_of(rt, arguments.as_slice(), &mut input.as_bytes());
-    expect_ended(rt, ended, (*status, text));
+fn end_of_line(rt: &impl Host, line: &str, input: &mut impl Read) -> Ended {
+    let mut arguments = Vec::new(rt.alloc());
+    for text in arguments_of(rt, "passtool", line) {
+        arguments.push(text.as_bytes()).expect(rt, "memory");
+    }
+    end_of(rt, arguments.as_slice(), input)
+}
+
+fn ends(rt: &impl Host, row: &Row) {
+    let ended = end_of_line(rt, row.0, &mut row.1.as_bytes());
+    expect_ended(rt, ended, row.2, row.3);
 }
 
 #[test]
@@ -75,53 +73,64 @@ fn ends_with_a_status_and_a_line(rt: HostRuntime) {
         ends(&rt, row);
     }
     let ended = end_of(&rt, NO_TEXT_SHOWN, &mut TEXT.as_bytes());
-    expect_ended(&rt, ended, (2, NO_TEXT));
-    let ended = end_of(&rt, SHOWN, &mut Slow::failing(rt.alloc(), b""));
-    expect_ended(&rt, ended, (7, "input or output failed\n"));
+    expect_ended(&rt, ended, 2, NO_TEXT);
+    let ended = end_of_line(&rt, SHOW, &mut Slow::failing(rt.alloc(), b""));
+    expect_ended(&rt, ended, 7, "input or output failed\n");
+}
+
+fn numbered(rt: &impl Host, number: usize) -> String {
+    let mut text = String::new(rt.alloc());
+    for _ in 0..=number {
+        write!(text, "argument {number}, ").expect(rt, "memory");
+    }
+    text
+}
+
+fn expect_given(rt: &impl Host, texts: &[String]) {
+    let mut arguments = Vec::new(rt.alloc());
+    for text in texts {
+        arguments.push(text.as_bytes()).expect(rt, "memory");
+    }
+    let process = Process::new(rt.alloc(), arguments.as_slice());
+    let given = given_arguments::<Process<'_>, Name, BadValue>(rt.alloc(), &process);
+    expect_eq(rt, given.ok().expect(rt, "arguments").as_slice(), texts);
 }
 
 #[test]
 fn is_given_all_its_arguments(rt: HostRuntime) {
     let mut texts = Vec::new(rt.alloc());
-    for number in 0..70usize {
-        let mut text = String::new(rt.alloc());
-        for _ in 0..=number {
-            write!(text, "argument {number}, ").expect(&rt, "memory");
-        }
-        texts.push(text).expect(&rt, "memory");
+    for number in 0..70 {
+        texts.push(numbered(&rt, number)).expect(&rt, "memory");
     }
-    let bytes: Vec<&[u8]> = texts
-        .iter()
-        .map(|text| text.as_bytes())
-        .collect(rt.alloc())
-        .expect(&rt, "memory");
-    let process = Process::new(rt.alloc(), bytes.as_slice());
-    let given = given_arguments::<Process<'_>, Name, BadValue>(rt.alloc(), &process);
-    expect_eq(&rt, &given.ok().expect(&rt, "arguments"), &texts);
+    expect_given(&rt, texts.as_slice());
 }
 
-const CAVEATS: usize = 64;
-
 // An independent program computed the chain of HMACs over the caveats.
-const SIGNATURE: &str = "1d7296b54ce52b5364014b69c70c04b77d341727a54806f18dbc39a8fdbcb9eb";
+const SIGNATURE: &str =
+    "signature 1d7296b54ce52b5364014b69c70c04b77d341727a54806f18dbc39a8fdbcb9eb\n";
+
+static NARROW_64: [Piece; 2] = [(1, "narrow"), GUESTS_64];
+
+fn shown_with_guests(rt: &impl Host) -> String {
+    let text = "form v1\nlocation http://mybank/\nidentifier we used our secret key\n";
+    let mut shown = joined(rt, &[text]);
+    for number in 1..=GUESTS_64.0 {
+        writeln!(shown, "caveat {number} guests <= 1").expect(rt, "memory");
+    }
+    shown.push_str(SIGNATURE).expect(rt, "memory");
+    shown
+}
+
+/// Returns the pass that the line prints.
+fn narrowed(rt: &impl Host, line: &str) -> String {
+    let (status, pass, _) = end_of_line(rt, line, &mut BARE_TEXT.as_bytes());
+    expect_eq(rt, status, 0);
+    pass
+}
 
 #[test]
 fn narrows_by_every_caveat(rt: HostRuntime) {
-    let mut arguments: Vec<&[u8]> = Vec::from_array(
-        rt.alloc(),
-        [b"passtool".as_slice(), b"narrow"],
-    ).expect(&rt, "memory");
-    let mut want = String::new(rt.alloc());
-    want.push_str("form v1\nlocation http://mybank/\nidentifier we used our secret key\n")
-        .expect(&rt, "memory");
-    for number in 1..=CAVEATS {
-        arguments.push(b"guests <= 1").expect(&rt, "memory");
-        writeln!(want, "caveat {number} guests <= 1").expect(&rt, "memory");
-    }
-    writeln!(want, "signature {SIGNATURE}").expect(&rt, "memory");
-    let (status, pass, _) = end_of(&rt, arguments.as_slice(), &mut BARE_TEXT.as_bytes());
-    expect_eq(&rt, &status, &0);
-    let mut pass = pass.as_bytes();
-    let shown = output_of(&rt, SHOW, &mut pass);
-    expect_eq(&rt, &shown.text, &want);
+    let pass = narrowed(&rt, text_of(&rt, &NARROW_64).as_str());
+    let shown = output_of(&rt, SHOW, &mut pass.as_bytes());
+    expect_eq(&rt, shown.text.as_str(), shown_with_guests(&rt).as_str());
 }

@@ -2,15 +2,12 @@
 //! libmacaroons' documentation. A program in another language computed the other values.
 
 use super::doubles::Slow;
-use crate::expect::{Host, expect_end, expect_eq};
+use crate::expect::{Host, expect_end, expect_eq, printed};
+use crate::lines::{arguments_of, joined};
 use passtool_commands::run;
 use std::io::{Read, Write};
 use test_kit::End::{self, Prints};
 use test_kit::Output;
-
-// "this is our super secret key; only we should know it"
-const ROOT: &str =
-    "74686973206973206f757220737570657220736563726574206b65793b206f6e6c792077652073686f756c64206b6e6f77206974";
 
 // The pass with the identifier `we used our secret key`, the location http://mybank/ and the caveat
 // `test = caveat`.
@@ -36,8 +33,6 @@ pub(crate) const OTHER_TEXT: &str =
 pub(crate) const OTHER_V2: &str =
     "AgETaHR0cDovL2V4YW1wbGUub3JnLwIFa2V5aWQAAAYgfN7nklEcW8b1KEhYBd_psk54XijiqZMB-dcRxgnjjvc";
 
-pub(crate) static FORMS: [&str; 3] = ["v1", "v2", "json"];
-
 pub(crate) const VERIFY: &str = "verify|--root|ROOT";
 
 pub(crate) const SHOW: &str = "show";
@@ -61,42 +56,26 @@ pub(crate) const TOO_MANY: End = Prints(3, "fault 4: too many caveats");
 
 pub(crate) type Row = (&'static str, &'static str, End);
 
-/// Bars separate the arguments. `ROOT` stands for the root of the known pass.
-pub(crate) fn arguments_of<'a>(rt: &impl Host, line: &'a str) -> Vec<&'a str> {
-    let mut arguments = Vec::from_array(rt.alloc(), ["passtool"]).expect(rt, "memory");
-    if line.is_empty() {
-        return arguments;
-    }
-    for argument in line.split('|') {
-        let argument = if argument == "ROOT" { ROOT } else { argument };
-        arguments.push(argument).expect(rt, "memory");
-    }
-    arguments
-}
-
-pub(crate) fn ended_by<R: Read, W: Write>(
+fn ended_by<R: Read, W: Write>(
     rt: &impl Host,
-    arguments: &[&str],
+    line: &str,
     reader: &mut R,
     writer: &mut W,
 ) -> Output {
-    match run(rt.alloc(), arguments, reader, writer) {
+    let arguments = arguments_of(rt, "passtool", line);
+    match run(rt.alloc(), arguments.as_slice(), reader, writer) {
         Ok(outcome) => Output {
             status: outcome.status(),
             text: String::new(rt.alloc()),
         },
-        Err(fault) => Output {
-            status: fault.status(),
-            text: fault.to_string(rt.alloc()).expect(rt, "memory"),
-        },
+        Err(fault) => printed(rt, fault.status(), &fault),
     }
 }
 
 /// Fails if the run writes anything before a fault.
 pub(crate) fn output_of<R: Read>(rt: &impl Host, line: &str, reader: &mut R) -> Output {
-    let arguments = arguments_of(rt, line);
     let mut written = Vec::new(rt.alloc());
-    let output = ended_by(rt, arguments.as_slice(), reader, &mut written);
+    let output = ended_by(rt, line, reader, &mut written);
     if output.text.is_empty() {
         let text = String::from_utf8(written).ok().expect(rt, "text");
         return Output {
@@ -104,7 +83,7 @@ pub(crate) fn output_of<R: Read>(rt: &impl Host, line: &str, reader: &mut R) -> 
             text,
         };
     }
-    expect_eq(rt, &written.len(), &0);
+    expect_eq(rt, written.len(), 0);
     output
 }
 
@@ -113,19 +92,35 @@ pub(crate) fn unread_output_of(rt: &impl Host, line: &str) -> Output {
     output_of(rt, line, &mut Slow::failing(rt.alloc(), b""))
 }
 
-pub(crate) fn expect(rt: &impl Host, line: &str, input: &[u8], end: &End) {
+pub(crate) fn expect(rt: &impl Host, line: &str, input: &[u8], end: End) {
     let mut reader = input;
     expect_end(rt, &output_of(rt, line, &mut reader), end, line);
 }
 
+pub(crate) fn expect_of(rt: &impl Host, line: &str, text: &str, more: &str, end: End) {
+    expect(rt, line, joined(rt, &[text, more]).as_bytes(), end);
+}
+
 pub(crate) fn expect_rows(rt: &impl Host, rows: &[Row]) {
     for (line, input, end) in rows {
-        expect(rt, line, input.as_bytes(), end);
+        expect(rt, line, input.as_bytes(), *end);
     }
 }
 
-pub(crate) fn expect_unread(rt: &impl Host, rows: &[(&str, End)]) {
-    for (line, end) in rows {
-        expect_end(rt, &unread_output_of(rt, line), end, line);
-    }
+/// Expects this end, and that the writer took these bytes.
+pub(crate) fn expect_taken(
+    rt: &impl Host,
+    line: &str,
+    reader: &mut impl Read,
+    mut writer: Slow<'_>,
+    end: End,
+    taken: &[u8],
+) {
+    expect_end(rt, &ended_by(rt, line, reader, &mut writer), end, line);
+    expect_eq(rt, writer.taken.as_slice(), taken);
+}
+
+pub(crate) fn expect_unread(rt: &impl Host, before: &str, rest: &str, end: End) {
+    let line = joined(rt, &[before, rest]);
+    expect_end(rt, &unread_output_of(rt, line.as_str()), end, line.as_str());
 }

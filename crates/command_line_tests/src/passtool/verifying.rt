@@ -1,7 +1,9 @@
 //! The verification of passes, and texts that aren't passes.
 
 use super::runs::*;
+use crate::lines::text_of;
 use test_kit::End::{self, Prints, Writes};
+use test_kit::Piece;
 
 const VERIFY_OTHER: &str = "verify|--root|00";
 
@@ -23,7 +25,7 @@ fn verifies_signed_and_not_signed(rt: HostRuntime) {
 fn refuses_every_cut(rt: HostRuntime) {
     for len in 0..TEXT.len() {
         let (cut, _) = TEXT.as_bytes().split_at(len);
-        expect(&rt, SHOW, cut, &MALFORMED);
+        expect(&rt, SHOW, cut, MALFORMED);
     }
 }
 
@@ -41,7 +43,7 @@ static NO_PASSES: [&[u8]; 7] = [
 #[test]
 fn refuses_texts_that_are_no_pass(rt: HostRuntime) {
     for input in &NO_PASSES {
-        expect(&rt, "narrow|guests <= 1", input, &MALFORMED);
+        expect(&rt, "narrow|guests <= 1", input, MALFORMED);
     }
 }
 
@@ -55,7 +57,7 @@ static THIRD_PARTIES: [&str; 3] = [
 fn refuses_third_party_caveats_in_each_form(rt: HostRuntime) {
     let end = Prints(3, "fault 3: third-party caveat");
     for input in &THIRD_PARTIES {
-        expect(&rt, TO_V1, input.as_bytes(), &end);
+        expect(&rt, TO_V1, input.as_bytes(), end);
     }
 }
 
@@ -63,28 +65,29 @@ fn refuses_third_party_caveats_in_each_form(rt: HostRuntime) {
 const STANDARD: &str =
     "AgETaHR0cDovL2V4YW1wbGUub3JnLwIFa2V5aWQAAAYgfN7nklEcW8b1KEhYBd/psk54XijiqZMB+dcRxgnjjvc";
 
-static MORE: [(&str, Row); 5] = [
-    ("\n", (VERIFY, TEXT, Prints(0, "signed\n"))),
-    ("\n\n", (VERIFY, TEXT, MALFORMED)),
-    ("", (TO_V1, OTHER_V2, Writes(OTHER_TEXT))),
-    ("", (TO_V1, STANDARD, Writes(OTHER_TEXT))),
-    ("=", (TO_V1, STANDARD, Writes(OTHER_TEXT))),
+static MORE: [(&str, &str, &str, End); 5] = [
+    (VERIFY, TEXT, "\n", Prints(0, "signed\n")),
+    (VERIFY, TEXT, "\n\n", MALFORMED),
+    (TO_V1, OTHER_V2, "", Writes(OTHER_TEXT)),
+    (TO_V1, STANDARD, "", Writes(OTHER_TEXT)),
+    (TO_V1, STANDARD, "=", Writes(OTHER_TEXT)),
 ];
 
 #[test]
 fn takes_one_line_feed_either_alphabet_and_right_padding(rt: HostRuntime) {
-    for (more, (line, text, end)) in &MORE {
-        let input = format!(in rt.alloc(); "{text}{more}").expect(&rt, "memory");
-        expect(&rt, line, input.as_bytes(), end);
+    for (line, text, more, end) in &MORE {
+        expect_of(&rt, line, text, more, *end);
     }
 }
 
-static LENGTHS: [(usize, End); 2] = [(8192, MALFORMED), (8193, Prints(3, "fault 1: too long"))];
+static LONG: [(&[Piece], End); 2] = [
+    (&[(8192, "A")], MALFORMED),
+    (&[(8193, "A")], Prints(3, "fault 1: too long")),
+];
 
 #[test]
 fn refuses_a_text_that_is_too_long(rt: HostRuntime) {
-    for (len, end) in &LENGTHS {
-        let text = vec![in rt.alloc(); b'A'; *len].expect(&rt, "memory");
-        expect(&rt, VERIFY, text.as_slice(), end);
+    for (pieces, end) in &LONG {
+        expect(&rt, VERIFY, text_of(&rt, pieces).as_bytes(), *end);
     }
 }
