@@ -6,6 +6,4 @@ mod clubdesk;
 #[cfg(test)]
 mod expect;
 #[cfg(test)]
-mod lines;
-#[cfg(test)]
 mod passtool;

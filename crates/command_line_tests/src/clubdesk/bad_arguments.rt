@@ -1,7 +1,8 @@
 //! Arguments that are refused, and help.
 
-use crate::expect::{Host, expect_case, expect_end, expect_form_refused, printed};
-use crate::lines::{arguments_of, joined};
+use crate::expect::{
+    Host, arguments_of, expect_case, expect_end, expect_form_refused, joined, printed,
+};
 use clubdesk_arguments::{CommandName, Fault, Job};
 use command_line::{ArgumentsFault, Asked, read_job, text_fault};
 use test_kit::End::{self, Begins, Prints};
@@ -11,7 +12,7 @@ fn output_of_fault(rt: &impl Host, fault: &Fault) -> Output {
     printed(rt, fault.status(), fault)
 }
 
-fn asked<'a>(
+pub(super) fn asked<'a>(
     rt: &impl Host,
     arguments: &'a [&'a str],
 ) -> Result<Asked<Job<'a>>, ArgumentsFault<()>> {

@@ -2,8 +2,7 @@
 
 use super::bad_arguments::expect_refused;
 use super::tasks::expect_asked;
-use crate::expect::{Host, expect_case};
-use crate::lines::text_of;
+use crate::expect::{Host, expect_case, text_of};
 use clubdesk_arguments::root_of;
 use test_kit::End::{self, Begins};
 use test_kit::Piece;
@@ -44,12 +43,8 @@ fn takes_root(rt: &impl Host, len: usize) {
     let root = root_of(text.as_str()).expect(rt, "a root");
     expect_case(rt, "a root", root.as_bytes().len(), len);
     let text = text.as_str();
-    expect_asked(
-        rt,
-        &["add-key|F|k|bob|", text],
-        "F",
-        &["add k of bob ", text, " V2"],
-    );
+    let want = ["add k of bob ", text, " V2"];
+    expect_asked(rt, &["add-key|F|k|bob|", text], "F", &want);
 }
 
 #[test]

@@ -1,11 +1,11 @@
 //! The tasks that the arguments of `clubdesk` ask for.
 
-use crate::expect::{Host, expect_case};
-use crate::lines::{arguments_of, joined};
+use super::bad_arguments::asked;
+use crate::expect::{Host, arguments_of, expect_case, joined};
 use club_clock::Clock;
 use club_rows::Root;
 use clubdesk_arguments::{Job, KeyChange, KeyCommand, Service, Task, Work, laws};
-use command_line::{ArgumentsFault, Asked, read_job};
+use command_line::Asked;
 use std::fmt::{Debug, Display, Write};
 
 fn hex_of(rt: &impl Host, root: &Root) -> String {
@@ -83,11 +83,7 @@ fn expect_job(rt: &impl Host, line: &str, job: &Job<'_>, file: &str, want: &str)
 
 fn asks(rt: &impl Host, line: &str, file: &str, want: &str) {
     let arguments = arguments_of(rt, "clubdesk", line);
-    let asked: Result<Asked<Job<'_>>, ArgumentsFault<()>> = read_job(
-        rt.alloc(),
-        arguments.as_slice(),
-    );
-    match &asked {
+    match &asked(rt, arguments.as_slice()) {
         Ok(Asked::Perform(job)) => expect_job(rt, line, job, file, want),
         _ => panic!(rt; "{line}"),
     }
@@ -95,12 +91,8 @@ fn asks(rt: &impl Host, line: &str, file: &str, want: &str) {
 
 /// The line and the text of its job consist of the parts.
 pub(super) fn expect_asked(rt: &impl Host, line: &[&str], file: &str, want: &[&str]) {
-    asks(
-        rt,
-        joined(rt, line).as_str(),
-        file,
-        joined(rt, want).as_str(),
-    );
+    let (line, want) = (joined(rt, line), joined(rt, want));
+    asks(rt, line.as_str(), file, want.as_str());
 }
 
 // The file is `F`. The scenarios test how commands are carried out.

@@ -1,9 +1,8 @@
 //! Arguments that are refused before the input is read, and help.
 
 use super::runs::*;
-use crate::expect::{Host, expect_eq, expect_form_refused};
-use crate::lines::joined;
-use test_kit::End::{self, Begins, Prints};
+use crate::expect::{Host, expect_eq, expect_form_refused, joined};
+use test_kit::End::{Begins, Prints};
 
 static BAD_ROOTS: [&str; 5] = [
     "",
@@ -14,14 +13,12 @@ static BAD_ROOTS: [&str; 5] = [
     00000000000000000000000000000000000000000000000000000000000000000",
 ];
 
-const BAD_ROOT: End = Prints(6, "bad root");
-
 #[test]
 fn refuses_bad_roots(rt: HostRuntime) {
     for root in &BAD_ROOTS {
-        expect_unread(&rt, "verify|--root|", root, BAD_ROOT);
+        expect_unread(&rt, "verify|--root|", root, Prints(6, "bad root"));
         let named = joined(&rt, &[root, "|--id|k"]);
-        expect_unread(&rt, "mint|--root|", named.as_str(), BAD_ROOT);
+        expect_unread(&rt, "mint|--root|", named.as_str(), Prints(6, "bad root"));
     }
 }
 

@@ -2,8 +2,7 @@
 
 use super::doubles::Slow;
 use super::runs::*;
-use crate::expect::{Host, expect_end};
-use crate::lines::joined;
+use crate::expect::{Host, expect_end, joined};
 use test_kit::End::{self, Prints, Writes};
 
 const FAILED: End = Prints(7, "input or output failed");

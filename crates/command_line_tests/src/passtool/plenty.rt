@@ -2,8 +2,7 @@
 
 use super::doubles::Slow;
 use super::runs::*;
-use crate::expect::{Host, expect_case, expect_end, expect_eq};
-use crate::lines::{joined, text_of};
+use crate::expect::{Host, expect_case, expect_end, expect_eq, joined, text_of};
 use test_kit::End::{Begins, Prints, Writes};
 use test_kit::passes::{AMY_JSON, AMY_V1, AMY_V2};
 use test_kit::{End, Output, Piece};
@@ -110,11 +109,9 @@ static OF_LONG: [(&str, &str); 3] = [
     ),
 ];
 
-static LONG_CAVEAT: [Piece; 2] = [(15, "---------------- "), (1, "-")];
-
 #[test]
 fn narrows_by_a_long_caveat(rt: HostRuntime) {
-    let caveat = text_of(&rt, &LONG_CAVEAT);
+    let caveat = text_of(&rt, &[(15, "---------------- "), (1, "-")]);
     expect_eq(&rt, caveat.len(), 256);
     let line = joined(&rt, &["narrow|--any|--|", caveat.as_str()]);
     for (text, want) in &OF_LONG {

@@ -3,13 +3,12 @@
 use super::doubles::Slow;
 use super::plenty::GUESTS_64;
 use super::runs::*;
-use crate::expect::{Host, expect_eq};
-use crate::lines::{arguments_of, joined, text_of};
+use crate::expect::{Host, arguments_of, expect_eq, joined, text_of};
 use command_line::given_arguments;
 use passtool_commands::{BadValue, Name, run_process};
 use std::fmt::Write;
 use std::io::Read;
-use test_kit::{Piece, Process};
+use test_kit::Process;
 
 /// The status, the standard output and the standard error.
 type Ended = (u8, String, String);
@@ -109,8 +108,6 @@ fn is_given_all_its_arguments(rt: HostRuntime) {
 const SIGNATURE: &str =
     "signature 1d7296b54ce52b5364014b69c70c04b77d341727a54806f18dbc39a8fdbcb9eb\n";
 
-static NARROW_64: [Piece; 2] = [(1, "narrow"), GUESTS_64];
-
 fn shown_with_guests(rt: &impl Host) -> String {
     let text = "form v1\nlocation http://mybank/\nidentifier we used our secret key\n";
     let mut shown = joined(rt, &[text]);
@@ -121,7 +118,6 @@ fn shown_with_guests(rt: &impl Host) -> String {
     shown
 }
 
-/// Returns the pass that the line prints.
 fn narrowed(rt: &impl Host, line: &str) -> String {
     let (status, pass, _) = end_of_line(rt, line, &mut BARE_TEXT.as_bytes());
     expect_eq(rt, status, 0);
@@ -130,7 +126,8 @@ fn narrowed(rt: &impl Host, line: &str) -> String {
 
 #[test]
 fn narrows_by_every_caveat(rt: HostRuntime) {
-    let pass = narrowed(&rt, text_of(&rt, &NARROW_64).as_str());
+    let line = text_of(&rt, &[(1, "narrow"), GUESTS_64]);
+    let pass = narrowed(&rt, line.as_str());
     let shown = output_of(&rt, SHOW, &mut pass.as_bytes());
     expect_eq(&rt, shown.text.as_str(), shown_with_guests(&rt).as_str());
 }

@@ -2,8 +2,7 @@
 //! libmacaroons' documentation. A program in another language computed the other values.
 
 use super::doubles::Slow;
-use crate::expect::{Host, expect_end, expect_eq, printed};
-use crate::lines::{arguments_of, joined};
+use crate::expect::{Host, arguments_of, expect_end, expect_eq, joined, printed};
 use passtool_commands::run;
 use std::io::{Read, Write};
 use test_kit::End::{self, Prints};
@@ -56,12 +55,7 @@ pub(crate) const TOO_MANY: End = Prints(3, "fault 4: too many caveats");
 
 pub(crate) type Row = (&'static str, &'static str, End);
 
-fn ended_by<R: Read, W: Write>(
-    rt: &impl Host,
-    line: &str,
-    reader: &mut R,
-    writer: &mut W,
-) -> Output {
+fn ended_by(rt: &impl Host, line: &str, reader: &mut impl Read, writer: &mut impl Write) -> Output {
     let arguments = arguments_of(rt, "passtool", line);
     match run(rt.alloc(), arguments.as_slice(), reader, writer) {
         Ok(outcome) => Output {

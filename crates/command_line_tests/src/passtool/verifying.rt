@@ -1,7 +1,7 @@
 //! The verification of passes, and texts that aren't passes.
 
 use super::runs::*;
-use crate::lines::text_of;
+use crate::expect::text_of;
 use test_kit::End::{self, Prints, Writes};
 use test_kit::Piece;
 
