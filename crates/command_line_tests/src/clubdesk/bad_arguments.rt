@@ -8,8 +8,9 @@ use command_line::{ArgumentsFault, Asked, read_job, text_fault};
 use test_kit::End::{self, Begins, Prints};
 use test_kit::Output;
 
-fn output_of_fault(rt: &impl Host, fault: &Fault) -> Output {
-    printed(rt, fault.status(), fault)
+fn output_of_fault(rt: &impl Host, fault: ArgumentsFault<()>) -> Output {
+    let fault = Fault::from(fault);
+    printed(rt, fault.status(), &fault)
 }
 
 pub(super) fn asked<'a>(
@@ -25,7 +26,7 @@ fn output_of(rt: &impl Host, line: &str) -> Output {
     match asked(rt, arguments.as_slice()) {
         Ok(Asked::ShowText(help)) => printed(rt, 0, &help),
         Ok(Asked::Perform(_)) => panic!(rt; "{line}"),
-        Err(fault) => output_of_fault(rt, &Fault::from(fault)),
+        Err(fault) => output_of_fault(rt, fault),
     }
 }
 
@@ -138,8 +139,8 @@ const NOT_TEXT: End = Prints(
 
 #[test]
 fn arguments_that_are_no_text(rt: HostRuntime) {
-    let fault = Fault::from(text_fault::<CommandName, ()>(rt.alloc()));
-    expect_end(&rt, &output_of_fault(&rt, &fault), NOT_TEXT, "no text");
+    let output = output_of_fault(&rt, text_fault::<CommandName, ()>(rt.alloc()));
+    expect_end(&rt, &output, NOT_TEXT, "no text");
 }
 
 const HELP: &str =

@@ -1,7 +1,7 @@
 //! Arguments that are refused before the input is read, and help.
 
 use super::runs::*;
-use crate::expect::{Host, expect_eq, expect_form_refused, joined};
+use crate::expect::{Host, expect_case, expect_form_refused, joined};
 use test_kit::End::{Begins, Prints};
 
 static BAD_ROOTS: [&str; 5] = [
@@ -54,7 +54,7 @@ fn refuses_what_clap_refuses(rt: HostRuntime) {
 
 fn expect_help(rt: &impl Host, line: &str, part: &str) {
     let output = unread_output_of(rt, line);
-    expect_eq(rt, output.status, 0);
+    expect_case(rt, line, output.status, 0);
     assert!(rt; output.text.as_str().contains(part), "{line}: {output:?}");
 }
 

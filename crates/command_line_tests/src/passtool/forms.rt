@@ -30,12 +30,8 @@ fn converts_every_text_of_a_pass(rt: HostRuntime) {
         expect(&rt, TO_JSON, input.as_bytes(), Writes(OF_KEYID[2]));
     }
     expect(&rt, TO_V1, REORDERED.as_bytes(), Writes(TEXT));
-    expect(
-        &rt,
-        TO_JSON,
-        OTHER_BYTES.as_bytes(),
-        Writes(OTHER_BYTES_JSON),
-    );
+    let other = OTHER_BYTES.as_bytes();
+    expect(&rt, TO_JSON, other, Writes(OTHER_BYTES_JSON));
 }
 
 const NARROWED: &str =
@@ -112,24 +108,23 @@ const ODD: &str = "AgEHYVxiCn9-IAIBAAACAsOpAAAGIHze55JRHFvG9ShIWAXf6bJOeF4o4qmTA
 const SHOWN_ODD: &str =
     "form v2\nlocation a\\\\b\\x0a\\x7f~ \nidentifier \\x00\ncaveat 1 \\xc3\\xa9\nsignature 7cdee792511c5bc6f528485805dfe9b24e785e28e2a99301f9d711c609e38ef7";
 
+static PASSES: [Row; 2] = [
+    (SHOW, V2_OF_24_LETTERS, Writes(SHOWN_OF_24_LETTERS)),
+    (SHOW, ODD, Writes(SHOWN_ODD)),
+];
+
 #[test]
 fn shows_passes(rt: HostRuntime) {
-    expect(
-        &rt,
-        SHOW,
-        V2_OF_24_LETTERS.as_bytes(),
-        Writes(SHOWN_OF_24_LETTERS),
-    );
-    expect(&rt, SHOW, ODD.as_bytes(), Writes(SHOWN_ODD));
+    expect_rows(&rt, &PASSES);
 }
 
 #[test]
 fn refuses_caveats_outside_the_language(rt: HostRuntime) {
     let first = Begins(5, "caveat 1 not understood");
-    let second = Begins(5, "caveat 2 not understood");
     expect_unread(&rt, "narrow|test = caveat", "", first);
-    expect_unread(&rt, "narrow|guests <= 1|x", "", second);
     expect_unread(&rt, "narrow|--|--any", "", first);
+    let second = Begins(5, "caveat 2 not understood");
+    expect_unread(&rt, "narrow|guests <= 1|x", "", second);
     let understood = "narrow|hours = 18-20|until < 2026-05-01T18:00";
     expect(&rt, understood, b"!", MALFORMED);
 }

@@ -2,7 +2,7 @@
 
 use super::doubles::Slow;
 use super::runs::*;
-use crate::expect::{Host, expect_case, expect_end, expect_eq, joined, text_of};
+use crate::expect::{Host, expect_case, expect_end, joined, text_of};
 use test_kit::End::{Begins, Prints, Writes};
 use test_kit::passes::{AMY_JSON, AMY_V1, AMY_V2};
 use test_kit::{End, Output, Piece};
@@ -10,8 +10,8 @@ use test_kit::{End, Output, Piece};
 const VERIFY: &str = "verify|--root|00112233445566778899aabbccddeeff";
 
 // An independent program computed these texts of amy's pass. Each entry has the line that converts
-// passes to the text's form, the text up to and including the first caveat, one more caveat, the
-// end after 63 caveats, and the end after 64 caveats.
+// to the form, the text up to and including the first caveat, one more caveat, and the ends after
+// 63 and after 64 caveats.
 type Guests = [&'static str; 5];
 
 static GUESTS: [Guests; 3] = [
@@ -112,7 +112,7 @@ static OF_LONG: [(&str, &str); 3] = [
 #[test]
 fn narrows_by_a_long_caveat(rt: HostRuntime) {
     let caveat = text_of(&rt, &[(15, "---------------- "), (1, "-")]);
-    expect_eq(&rt, caveat.len(), 256);
+    expect_case(&rt, "the caveat", caveat.len(), 256);
     let line = joined(&rt, &["narrow|--any|--|", caveat.as_str()]);
     for (text, want) in &OF_LONG {
         expect_text(&rt, line.as_str(), text, want);
@@ -155,7 +155,7 @@ fn expect_signed(rt: &impl Host, text: &str, signals: u8) {
 #[test]
 fn reads_the_longest_line_byte_by_byte(rt: HostRuntime) {
     let line = minted(&rt, 6_104).text;
-    expect_eq(&rt, line.len(), 8_193);
+    expect_case(&rt, "the line", line.len(), 8_193);
     expect_signed(&rt, line.as_str(), 1);
     expect_signed(&rt, line.as_str(), 2);
 }

@@ -3,7 +3,7 @@
 use super::doubles::Slow;
 use super::plenty::GUESTS_64;
 use super::runs::*;
-use crate::expect::{Host, arguments_of, expect_eq, joined, text_of};
+use crate::expect::{Host, arguments_of, expect_case, joined, text_of};
 use command_line::given_arguments;
 use passtool_commands::{BadValue, Name, run_process};
 use std::fmt::Write;
@@ -47,10 +47,10 @@ static ROWS: [Row; 8] = [
 const NO_TEXT_SHOWN: &[&[u8]] = &[b"passtool", b"show", b"\xff"];
 
 fn expect_ended(rt: &impl Host, ended: Ended, status: u8, text: &str) {
-    expect_eq(rt, ended.0, status);
+    expect_case(rt, text, ended.0, status);
     let (written, printed) = if status < 2 { (text, "") } else { ("", text) };
-    expect_eq(rt, ended.1.as_str(), written);
-    expect_eq(rt, ended.2.as_str(), printed);
+    expect_case(rt, text, ended.1.as_str(), written);
+    expect_case(rt, text, ended.2.as_str(), printed);
 }
 
 fn end_of_line(rt: &impl Host, line: &str, input: &mut impl Read) -> Ended {
@@ -92,7 +92,8 @@ fn expect_given(rt: &impl Host, texts: &[String]) {
     }
     let process = Process::new(rt.alloc(), arguments.as_slice());
     let given = given_arguments::<Process<'_>, Name, BadValue>(rt.alloc(), &process);
-    expect_eq(rt, given.ok().expect(rt, "arguments").as_slice(), texts);
+    let given = given.ok().expect(rt, "arguments");
+    expect_case(rt, "arguments", given.as_slice(), texts);
 }
 
 #[test]
@@ -120,7 +121,7 @@ fn shown_with_guests(rt: &impl Host) -> String {
 
 fn narrowed(rt: &impl Host, line: &str) -> String {
     let (status, pass, _) = end_of_line(rt, line, &mut BARE_TEXT.as_bytes());
-    expect_eq(rt, status, 0);
+    expect_case(rt, line, status, 0);
     pass
 }
 
@@ -129,5 +130,6 @@ fn narrows_by_every_caveat(rt: HostRuntime) {
     let line = text_of(&rt, &[(1, "narrow"), GUESTS_64]);
     let pass = narrowed(&rt, line.as_str());
     let shown = output_of(&rt, SHOW, &mut pass.as_bytes());
-    expect_eq(&rt, shown.text.as_str(), shown_with_guests(&rt).as_str());
+    let want = shown_with_guests(&rt);
+    expect_case(&rt, SHOW, shown.text.as_str(), want.as_str());
 }

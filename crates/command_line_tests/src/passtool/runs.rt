@@ -2,7 +2,7 @@
 //! libmacaroons' documentation. A program in another language computed the other values.
 
 use super::doubles::Slow;
-use crate::expect::{Host, arguments_of, expect_end, expect_eq, joined, printed};
+use crate::expect::{Host, arguments_of, expect_case, expect_end, joined, printed};
 use passtool_commands::run;
 use std::io::{Read, Write};
 use test_kit::End::{self, Prints};
@@ -72,12 +72,10 @@ pub(crate) fn output_of<R: Read>(rt: &impl Host, line: &str, reader: &mut R) -> 
     let output = ended_by(rt, line, reader, &mut written);
     if output.text.is_empty() {
         let text = String::from_utf8(written).ok().expect(rt, "text");
-        return Output {
-            status: output.status,
-            text,
-        };
+        let status = output.status;
+        return Output { status, text };
     }
-    expect_eq(rt, written.len(), 0);
+    expect_case(rt, line, written.len(), 0);
     output
 }
 
@@ -111,7 +109,7 @@ pub(crate) fn expect_taken(
     taken: &[u8],
 ) {
     expect_end(rt, &ended_by(rt, line, reader, &mut writer), end, line);
-    expect_eq(rt, writer.taken.as_slice(), taken);
+    expect_case(rt, line, writer.taken.as_slice(), taken);
 }
 
 pub(crate) fn expect_unread(rt: &impl Host, before: &str, rest: &str, end: End) {
