@@ -82,19 +82,6 @@ pub struct Sender<'a> {
     written: &'a Written,
 }
 
-impl<'a> Sender<'a> {
-    fn new(request: &'a [u8], command: &'a [u8], written: &'a Written) -> Sender<'a> {
-        let (half, rest) = request.split_at(request.len() / 2);
-        Sender {
-            half,
-            rest,
-            command,
-            was_read: false,
-            written,
-        }
-    }
-}
-
 fn read_from(bytes: &[u8], room: &mut [u8]) -> Waited
     ensures { IfSome (moved result) (λ n. n ≤ length room.new) }
 {
@@ -190,7 +177,14 @@ impl<'a> Arrivals for Queue<'a> {
         if request.is_empty() {
             return Arrival::Command(Letter { command, written });
         }
-        let sender = Sender::new(request.as_slice(), command, written);
+        let (half, rest) = request.as_slice().split_at(request.len() / 2);
+        let sender = Sender {
+            half,
+            rest,
+            command,
+            was_read: false,
+            written,
+        };
         Arrival::Client(Accepted::new(sender, self.machine, Duration::from_secs(10)))
     }
 }

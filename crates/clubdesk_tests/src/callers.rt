@@ -23,7 +23,7 @@ impl Read for Input<'_> {
 }
 
 /// Counts of the calls to a database in memory.
-#[derive(Drop)]
+#[derive(Default, Drop)]
 pub struct Notes {
     pub opened: Cell<u64>,
     pub closed: Cell<u64>,
@@ -33,18 +33,6 @@ pub struct Notes {
     pub removed: Cell<Option<u64>>,
     /// The length of the last command that was handed over.
     pub handed: Cell<usize>,
-}
-
-impl Notes {
-    pub fn new() -> Notes {
-        Notes {
-            opened: Cell::new(0),
-            closed: Cell::new(0),
-            written: Cell::new(None),
-            removed: Cell::new(None),
-            handed: Cell::new(0),
-        }
-    }
 }
 
 /// A writer with limited room. When the server flushes its `listening on` line, the clients connect

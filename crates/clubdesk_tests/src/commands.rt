@@ -1,7 +1,7 @@
 //! Commands over a club in memory, and roots from standard input.
 
 use crate::callers::Input;
-use crate::memory::play;
+use crate::memory::run_row;
 use crate::runs::Fixture;
 use crate::servers::OFFICE;
 use std::test::Fail;
@@ -22,7 +22,7 @@ static PASSES_OF_KEYS: [&str; 3] = [
 #[test]
 fn passes_of_keys(rt: HostRuntime) -> Result<(), Fail> {
     for row in &PASSES_OF_KEYS {
-        play(&rt, &Fixture::after(&OFFICE), row)?.expect_openings(5, 5)?;
+        run_row(&rt, &Fixture::after(&OFFICE), row, 5)?;
     }
     Ok(())
 }
@@ -37,7 +37,7 @@ static WORDS: [&str; 3] = [
 #[test]
 fn arguments(rt: HostRuntime) -> Result<(), Fail> {
     for row in &WORDS {
-        play(&rt, &Fixture::after(&[]), row)?.expect_openings(0, 0)?;
+        run_row(&rt, &Fixture::after(&[]), row, 0)?;
     }
     Ok(())
 }
@@ -65,14 +65,13 @@ static NO_ROOTS: [&[u8]; 8] = [
 
 const NO_ROOT: &str = "add-key amy-2 amy --root-stdin => 3 bad value";
 
+const NO_ROOT_TO_ROTATE: &str = "rotate-key amy-1 2026-04-25T00:00 --root-stdin => 3 bad value";
+
 // The rows of `OFFICE` open the club four times.
 fn ends_so(rt: &HostRuntime, row: &str, input: Input<'_>, openings: u64) -> Result<(), Fail> {
-    let scene = Fixture {
-        input,
-        ..Fixture::after(&OFFICE)
-    };
+    let scene = Fixture::after(&OFFICE).reading(input);
     let openings = openings.saturating_add(4);
-    play(rt, &scene, row)?.expect_openings(openings, openings)
+    run_row(rt, &scene, row, openings)
 }
 
 #[test]
@@ -88,10 +87,8 @@ fn roots(rt: HostRuntime) -> Result<(), Fail> {
 #[test]
 fn no_roots(rt: HostRuntime) -> Result<(), Fail> {
     for input in &NO_ROOTS {
-        let input = Input::Bytes(input);
-        ends_so(&rt, NO_ROOT, input, 0)?;
-        let row = "rotate-key amy-1 2026-04-25T00:00 --root-stdin => 3 bad value";
-        ends_so(&rt, row, input, 0)?;
+        ends_so(&rt, NO_ROOT, Input::Bytes(input), 0)?;
+        ends_so(&rt, NO_ROOT_TO_ROTATE, Input::Bytes(input), 0)?;
     }
     let row = "add-key amy-2 amy --root-stdin => 7 input or output failed";
     ends_so(&rt, row, Input::Broken, 0)
@@ -108,14 +105,17 @@ static BEHIND_THE_LONGEST: [(&str, bool); 5] = [
     ("\n0", false),
 ];
 
+fn long_root(rt: &HostRuntime, root: &str, behind: &str, is_taken: bool) -> Result<(), Fail> {
+    let text = format!(in rt.alloc(); "{root}{behind}")?;
+    let row = if is_taken { LONGEST } else { NO_ROOT };
+    ends_so(rt, row, Input::Bytes(text.as_bytes()), u64::from(is_taken))
+}
+
 #[test]
 fn long_roots(rt: HostRuntime) -> Result<(), Fail> {
     let longest = "00".repeat(rt.alloc(), 64)?;
-    for (behind, is_taken) in &BEHIND_THE_LONGEST {
-        let text = format!(in rt.alloc(); "{longest}{behind}")?;
-        let row = if *is_taken { LONGEST } else { NO_ROOT };
-        let input = Input::Bytes(text.as_bytes());
-        ends_so(&rt, row, input, u64::from(*is_taken))?;
+    for row in &BEHIND_THE_LONGEST {
+        long_root(&rt, longest.as_str(), row.0, row.1)?;
     }
     Ok(())
 }

@@ -20,53 +20,72 @@ fn socket_mode(rt: &HostRuntime, path: &str) -> Option<u32> {
 
 const OWN: Option<u32> = Some(0o600);
 
-// A new door replaces an earlier door. When the earlier door is dropped, the new door stays.
-fn expect_door(rt: &HostRuntime, club: &ClubFile<'_>) -> Result<(), Fail> {
+fn expect_mode(club: &ClubFile<'_>, want: Option<u32>) -> Result<(), Fail> {
     let place = club.path_with("-office")?;
-    let door = FileDoor::make(rt, club.path())?;
-    expect_eq(rt, &socket_mode(rt, place.as_str()), &OWN)?;
-    let again = FileDoor::make(rt, club.path())?;
+    expect_eq(club.rt, socket_mode(club.rt, place.as_str()), want)
+}
+
+fn expect_no_door(club: &ClubFile<'_>) -> Result<(), Fail> {
+    expect_eq(club.rt, FileDoor::make(club.rt, club.path()).is_err(), true)
+}
+
+fn replace_door(club: &ClubFile<'_>, door: FileDoor<'_>) -> Result<(), Fail> {
+    let again = FileDoor::make(club.rt, club.path())?;
     drop(door);
-    expect_eq(rt, &connect(rt, club.path()).is_ok(), &true)?;
-    expect_eq(rt, &again.listener().is_some(), &true)?;
-    drop(again);
-    expect_eq(rt, &socket_mode(rt, place.as_str()), &None)?;
-    Ok(())
+    expect_eq(club.rt, connect(club.rt, club.path()).is_ok(), true)?;
+    expect_eq(club.rt, again.listener().is_some(), true)
+}
+
+// A new door replaces an earlier door. When the earlier door is dropped, the new door stays.
+fn expect_door(club: &ClubFile<'_>) -> Result<(), Fail> {
+    let door = FileDoor::make(club.rt, club.path())?;
+    expect_mode(club, OWN)?;
+    replace_door(club, door)?;
+    expect_mode(club, None)
 }
 
 #[test]
 fn a_door_beside_its_file(rt: HostRuntime) -> Result<(), Fail> {
-    expect_door(&rt, &new_club(&rt, "door", &AMY)?)
+    expect_door(&new_club(&rt, "door", &AMY)?)
+}
+
+fn expect_door_in(rt: &HostRuntime, folder: &str) -> Result<(), Fail> {
+    let club = ClubFile::at(rt, format!(in rt.alloc(); "{folder}/club")?);
+    club.play(&AMY)?;
+    expect_door(&club)
 }
 
 // The folder's name alone has more bytes than a socket's address may have.
 #[test]
 fn a_door_in_a_folder_of_a_long_name(rt: HostRuntime) -> Result<(), Fail> {
     let path = new_path(&rt, "deep")?;
-    let zeros = "0".repeat(rt.alloc(), 120)?;
-    let folder = format!(in rt.alloc(); "{path}-{zeros}")?;
+    let folder = format!(in rt.alloc(); "{path}-{:0>120}", 0)?;
     fs::create_dir(&rt, folder.as_str())?;
-    let place = format!(in rt.alloc(); "{folder}/club")?;
-    let club = ClubFile::at(&rt, place);
-    club.play(&AMY)?;
-    expect_door(&rt, &club)?;
-    drop(club);
-    fs::remove_dir(&rt, folder.as_str())?;
-    Ok(())
+    expect_door_in(&rt, folder.as_str())?;
+    Ok(fs::remove_dir(&rt, folder.as_str())?)
+}
+
+fn expect_no_door_over(club: &ClubFile<'_>, place: &str) -> Result<(), Fail> {
+    fs::write(club.rt, place, b"x")?;
+    expect_no_door(club)?;
+    expect_eq(club.rt, fs::read(club.rt, place)?.len(), 1)?;
+    fs::remove_file(club.rt, place)?;
+    fs::create_dir(club.rt, place)?;
+    expect_no_door(club)?;
+    Ok(fs::remove_dir(club.rt, place)?)
 }
 
 #[test]
 fn no_door_over_a_file(rt: HostRuntime) -> Result<(), Fail> {
     let club = new_club(&rt, "no-door", &AMY)?;
+    expect_no_door_over(&club, club.path_with("-office")?.as_str())
+}
+
+fn move_door(club: &ClubFile<'_>) -> Result<(), Fail> {
     let place = club.path_with("-office")?;
-    fs::write(&rt, place.as_str(), b"x")?;
-    expect_eq(&rt, &FileDoor::make(&rt, club.path()).is_err(), &true)?;
-    expect_eq(&rt, &fs::read(&rt, place.as_str())?.len(), &1)?;
-    fs::remove_file(&rt, place.as_str())?;
-    fs::create_dir(&rt, place.as_str())?;
-    expect_eq(&rt, &FileDoor::make(&rt, club.path()).is_err(), &true)?;
-    fs::remove_dir(&rt, place.as_str())?;
-    Ok(())
+    let elsewhere = club.path_with("-elsewhere")?;
+    fs::rename(club.rt, place.as_str(), elsewhere.as_str())?;
+    Ok(symlink(club.rt, elsewhere.as_str(), place.as_str())?)
 }
 
 // If a link has the door's name, no server makes a door there. A command fails, even if the link
@@ -75,16 +94,12 @@ fn no_door_over_a_file(rt: HostRuntime) -> Result<(), Fail> {
 fn no_door_over_a_link(rt: HostRuntime) -> Result<(), Fail> {
     let club = new_club(&rt, "linked-door", &AMY)?;
     let door = FileDoor::make(&rt, club.path())?;
-    let place = club.path_with("-office")?;
-    let elsewhere = club.path_with("-elsewhere")?;
-    fs::rename(&rt, place.as_str(), elsewhere.as_str())?;
-    symlink(&rt, elsewhere.as_str(), place.as_str())?;
-    expect_eq(&rt, &FileDoor::make(&rt, club.path()).is_err(), &true)?;
+    move_door(&club)?;
+    expect_no_door(&club)?;
     club.play(&["add-member bob 5 => 5 storage failed"])?;
-    fs::remove_file(&rt, place.as_str())?;
+    club.remove_with("-office")?;
     drop(door);
-    fs::remove_file(&rt, elsewhere.as_str())?;
-    Ok(())
+    club.remove_with("-elsewhere")
 }
 
 /// The ids of a user, of the file's owner and of the command's user, and whether the first user may
@@ -101,7 +116,7 @@ static MAKERS: [(u32, u32, u32, bool); 6] = [
 #[test]
 fn who_may_make_a_door(rt: HostRuntime) -> Result<(), Fail> {
     for (user, owner, caller, want) in &MAKERS {
-        expect_eq(&rt, &may_make_door(*user, *owner, *caller), want)?;
+        expect_eq(&rt, may_make_door(*user, *owner, *caller), *want)?;
     }
     Ok(())
 }

@@ -15,27 +15,22 @@ pub fn new_club<'a>(rt: &'a HostRuntime, name: &str, rows: &[&str]) -> Result<Cl
     Ok(club)
 }
 
-fn expect_reply(
-    rt: &HostRuntime,
-    club: &ClubFile<'_>,
-    scene: Fixture<'_>,
-    want: &str,
-) -> Result<(), Fail> {
-    let scene = Fixture {
-        requests: &[BOOK_7],
-        ..scene
-    };
-    let output = club.run(&scene, "serve --port 0 --count 1 --at 2026-04-20T12:00")?;
-    expect_eq(rt, &str::from_utf8(&output.reply), &Ok(want))?;
-    Ok(())
+fn expect_bytes(club: &ClubFile<'_>, want: &[u8]) -> Result<(), Fail> {
+    let bytes = fs::read(club.rt, club.path())?;
+    expect_eq(club.rt, bytes.as_slice(), want)
+}
+
+fn expect_reply(club: &ClubFile<'_>, scene: Fixture<'_>, want: &str) -> Result<(), Fail> {
+    let output = club.run(scene, "serve --port 0 --count 1 --at 2026-04-20T12:00")?;
+    expect_eq(club.rt, str::from_utf8(output.reply.as_slice()), Ok(want))
 }
 
 // Later runs and a second server find the booking in the file.
 #[test]
 fn a_day_in_a_file(rt: HostRuntime) -> Result<(), Fail> {
     let club = new_club(&rt, "day", &OFFICE)?;
-    expect_reply(&rt, &club, Fixture::after(&[]), BOOKED_7)?;
-    expect_reply(&rt, &club, Fixture::after(&[]), BOOKED_7)?;
+    expect_reply(&club, Fixture::between(&[], &[BOOK_7], &[]), BOOKED_7)?;
+    expect_reply(&club, Fixture::between(&[], &[BOOK_7], &[]), BOOKED_7)?;
     club.play(&BOOKED)?;
     club.play(&["close-slot court-1 2026-05-01 18 => 1 refused: slot in use"])
 }
@@ -45,13 +40,10 @@ fn a_day_in_a_file(rt: HostRuntime) -> Result<(), Fail> {
 fn a_booking_in_the_log_alone(rt: HostRuntime) -> Result<(), Fail> {
     let club = new_club(&rt, "left", &OFFICE)?;
     let before = fs::read(&rt, club.path())?;
-    let scene = Fixture {
-        is_killed: true,
-        ..Fixture::after(&[])
-    };
-    expect_reply(&rt, &club, scene, BOOKED_7)?;
-    let after = fs::read(&rt, club.path())?;
-    expect_eq(&rt, &(after.as_slice() == before.as_slice()), &true)?;
+    let mut scene = Fixture::between(&[], &[BOOK_7], &[]);
+    scene.is_killed = true;
+    expect_reply(&club, scene, BOOKED_7)?;
+    expect_bytes(&club, before.as_slice())?;
     club.play(&BOOKED)
 }
 
@@ -61,16 +53,16 @@ fn a_file_that_was_removed(rt: HostRuntime) -> Result<(), Fail> {
     let club = new_club(&rt, "gone", &OFFICE)?;
     let scene = Fixture {
         removed: Some(club.path()),
-        ..Fixture::after(&[])
+        ..Fixture::between(&[], &[BOOK_7], &[])
     };
-    expect_reply(&rt, &club, scene, UNAVAILABLE)
+    expect_reply(&club, scene, UNAVAILABLE)
 }
 
 // Before a command ends, it moves its changes from the log into the file.
 #[test]
 fn the_log_may_go(rt: HostRuntime) -> Result<(), Fail> {
     let club = new_club(&rt, "log", &AMY)?;
-    fs::remove_file(&rt, club.path_with("-wal")?.as_str())?;
+    club.remove_with("-wal")?;
     club.play(&["add-member amy 5 => 1 refused: exists"])
 }
 
@@ -85,22 +77,25 @@ fn files_of_something_else(rt: HostRuntime) -> Result<(), Fail> {
     let club = ClubFile::new(&rt, "x")?;
     fs::write(&rt, club.path(), [b'x'; 100])?;
     club.play(&STORAGE_FAILED)?;
-    let left = fs::read(&rt, club.path())?;
-    expect_eq(&rt, &left.as_slice(), &[b'x'; 100].as_slice())
+    expect_bytes(&club, &[b'x'; 100])
 }
 
 /// In a new file, the version is the last byte of the second page.
 const VERSION_AT: usize = 8_191;
 
-#[test]
-fn files_of_another_version(rt: HostRuntime) -> Result<(), Fail> {
-    let club = new_club(&rt, "version", &AMY)?;
-    let mut bytes = fs::read(&rt, club.path())?;
+fn change_version(rt: &HostRuntime, path: &str) -> Result<(), Fail> {
+    let mut bytes = fs::read(rt, path)?;
     match bytes.get_mut(VERSION_AT) {
         Some(version) if *version == 2 => *version = 9,
         _ => return Err("the version lies elsewhere".into()),
     }
-    fs::write(&rt, club.path(), bytes.as_slice())?;
+    Ok(fs::write(rt, path, bytes.as_slice())?)
+}
+
+#[test]
+fn files_of_another_version(rt: HostRuntime) -> Result<(), Fail> {
+    let club = new_club(&rt, "version", &AMY)?;
+    change_version(&rt, club.path())?;
     club.play(&STORAGE_FAILED)
 }
 
@@ -111,8 +106,7 @@ fn files_that_cannot_be(rt: HostRuntime) -> Result<(), Fail> {
         let path = format!(in rt.alloc(); "{path}")?;
         ClubFile::at(&rt, path).play(&STORAGE_FAILED)?;
     }
-    expect_eq(&rt, &fs::metadata(&rt, ":memory:").is_err(), &true)?;
-    Ok(())
+    expect_eq(&rt, fs::metadata(&rt, ":memory:").is_err(), true)
 }
 
 #[test]
@@ -120,7 +114,7 @@ fn modes(rt: HostRuntime) -> Result<(), Fail> {
     let club = new_club(&rt, "modes", &AMY)?;
     for end in ["", "-wal"] {
         let found = fs::metadata(&rt, club.path_with(end)?.as_str())?;
-        expect_eq(&rt, &(found.mode() & 0o777), &0o600)?;
+        expect_eq(&rt, found.mode() & 0o777, 0o600)?;
     }
     Ok(())
 }

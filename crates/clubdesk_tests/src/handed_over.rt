@@ -35,17 +35,21 @@ fn answer_of(row: &str) -> Result<ServerAnswer<'_>, Fail> {
     }
 }
 
+fn hand_over(rt: &HostRuntime, bytes: usize, row: &str) -> Result<(), Fail> {
+    let scene = Fixture {
+        server: Some(answer_of(row)?),
+        input: Input::Bytes(b"00112233445566778899aabbccddeeff\n"),
+        ..Fixture::after(&[])
+    };
+    let played = play(rt, &scene, row)?;
+    expect_eq(rt, played.notes.handed.get(), bytes)?;
+    played.expect_openings(0, 0)
+}
+
 #[test]
 fn hands_commands_over(rt: HostRuntime) -> Result<(), Fail> {
-    for (bytes, row) in &HANDED {
-        let scene = Fixture {
-            server: Some(answer_of(row)?),
-            input: Input::Bytes(b"00112233445566778899aabbccddeeff\n"),
-            ..Fixture::after(&[])
-        };
-        let played = play(&rt, &scene, row)?;
-        expect_eq(&rt, &played.notes.handed.get(), bytes)?;
-        played.expect_openings(0, 0)?;
+    for row in &HANDED {
+        hand_over(&rt, row.0, row.1)?;
     }
     Ok(())
 }
@@ -86,18 +90,21 @@ static COMMANDS: [(&[u8], u8); 19] = [
     ),
 ];
 
-fn hand_over<S: ClubStore + Drop>(rt: &HostRuntime, store: S) -> Result<(), Fail> {
-    let mut desk = OfficeDesk::new(rt.alloc(), rt, store);
+fn expect_statuses<D: Office>(rt: &HostRuntime, desk: &mut D) -> Result<(), Fail> {
     for length in 0..WHOLE.len() {
-        expect_eq(rt, &desk.command(&WHOLE[..length]).carried.status, &2)?;
+        expect_eq(rt, desk.command(&WHOLE[..length]).carried.status, 2)?;
     }
-    for (bytes, want) in &COMMANDS {
-        expect_eq(rt, &desk.command(bytes).carried.status, want)?;
+    for row in &COMMANDS {
+        expect_eq(rt, desk.command(row.0).carried.status, row.1)?;
     }
     Ok(())
 }
 
+fn refuse<S: ClubStore + Drop>(rt: &HostRuntime, store: S) -> Result<(), Fail> {
+    expect_statuses(rt, &mut OfficeDesk::new(rt.alloc(), rt, store))
+}
+
 #[test]
 fn refuses_bytes_that_are_no_command(rt: HostRuntime) -> Result<(), Fail> {
-    hand_over(&rt, Store::open_in_memory(rt.alloc())?)
+    refuse(&rt, Store::open_in_memory(rt.alloc())?)
 }

@@ -34,8 +34,7 @@ static ANSWERED: [(&[u8], Answer); 8] = [
 
 fn send(server: &mut UnixStream, bytes: &[u8]) -> Result<(), Fail> {
     server.write_all(bytes)?;
-    server.shutdown(Shutdown::Write)?;
-    Ok(())
+    Ok(server.shutdown(Shutdown::Write)?)
 }
 
 fn server_of(rt: &HostRuntime, bytes: &[u8]) -> Result<(UnixStream, UnixStream), Fail> {
@@ -47,27 +46,34 @@ fn server_of(rt: &HostRuntime, bytes: &[u8]) -> Result<(UnixStream, UnixStream),
 fn expect_sent(rt: &HostRuntime, server: &mut UnixStream, bytes: &[u8]) -> Result<(), Fail> {
     let mut sent = Vec::new(rt.alloc());
     server.read_to_end(&mut sent)?;
-    expect_eq(rt, &sent.as_slice(), &bytes)
+    expect_eq(rt, sent.as_slice(), bytes)
 }
 
-fn expect_answer(
-    rt: &HostRuntime,
-    answer: &Option<(u8, String)>,
-    want: &Answer,
-) -> Result<(), Fail> {
-    match answer {
-        Some((status, text)) => expect_eq(rt, &Some((*status, text.as_str())), want),
-        None => expect_eq(rt, &None, want),
+fn expect_answer(rt: &HostRuntime, given: &Option<(u8, String)>, want: Answer) -> Result<(), Fail> {
+    match given {
+        Some((status, text)) => expect_eq(rt, Some((*status, text.as_str())), want),
+        None => expect_eq(rt, None, want),
     }
+}
+
+// Hands `COMMAND` over to a server that has sent its bytes.
+fn expect_handed(
+    rt: &HostRuntime,
+    path: &str,
+    client: UnixStream,
+    mut server: UnixStream,
+    want: Answer,
+) -> Result<(), Fail> {
+    let answer = FileVisit::over(rt, path, client)?.give(COMMAND);
+    expect_sent(rt, &mut server, COMMAND)?;
+    expect_answer(rt, &answer, want)
 }
 
 #[test]
 fn hands_a_command_over(rt: HostRuntime) -> Result<(), Fail> {
-    for (bytes, want) in &ANSWERED {
-        let (client, mut server) = server_of(&rt, bytes)?;
-        let answer = FileVisit::over(&rt, NO_FILE, client)?.give(COMMAND);
-        expect_sent(&rt, &mut server, COMMAND)?;
-        expect_answer(&rt, &answer, want)?;
+    for row in &ANSWERED {
+        let (client, server) = server_of(&rt, row.0)?;
+        expect_handed(&rt, NO_FILE, client, server, row.1)?;
     }
     Ok(())
 }
@@ -117,12 +123,10 @@ fn tries_again(rt: &HostRuntime, retried: &Retried) -> Result<(), Fail> {
     if replies.len().checked_sub(greeted.1.len()) != Some(*got) || clock.slept.get() != *millis {
         return Err("another number of servers was asked, or another time slept".into());
     }
-    for (n, server) in servers.iter_mut().enumerate() {
-        if n < *got {
-            expect_sent(rt, server, COMMAND)?;
-        }
+    for server in servers.iter_mut().take(*got) {
+        expect_sent(rt, server, COMMAND)?;
     }
-    expect_answer(rt, &answer, want)
+    expect_answer(rt, &answer, *want)
 }
 
 #[test]
@@ -139,13 +143,10 @@ fn nothing_was_done_by_a_server_that_is_gone(rt: HostRuntime) -> Result<(), Fail
     let (gone, server) = UnixStream::pair(&rt)?;
     drop(server);
     let (client, _server) = server_of(&rt, b"\0done\n\0")?;
-    let mut clients = Vec::new(rt.alloc());
-    clients.push(client)?;
-    clients.push(gone)?;
-    let mut greeted = Greeted(rt.alloc(), clients);
+    let mut greeted = Greeted(rt.alloc(), Vec::from_array(rt.alloc(), [client, gone])?);
     let clock = Machine::new(Some(0), 0);
     let answer = hand_over_until_done(&clock, &mut greeted, COMMAND);
-    expect_answer(&rt, &answer, &Some((0, "done\n")))
+    expect_answer(&rt, &answer, Some((0, "done\n")))
 }
 
 /// The system resets a connection that is closed with unread bytes, so each greeting has at most
@@ -156,10 +157,19 @@ static NO_GREETINGS: [&[u8]; 3] = [b"", b"?", b"\0"];
 fn hands_nothing_without_a_greeting(rt: HostRuntime) -> Result<(), Fail> {
     for bytes in &NO_GREETINGS {
         let (client, mut server) = server_of(&rt, bytes)?;
-        expect_eq(&rt, &FileVisit::over(&rt, NO_FILE, client).is_err(), &true)?;
+        expect_eq(&rt, FileVisit::over(&rt, NO_FILE, client).is_err(), true)?;
         expect_sent(&rt, &mut server, b"")?;
     }
     Ok(())
+}
+
+fn hand_over_by(rt: &HostRuntime, path: &str, link: &str) -> Result<(), Fail> {
+    let door = FileDoor::make(rt, path)?;
+    let client = connect(rt, link)?;
+    let (mut server, _) = door.listener().ok_or("a door")?.accept()?;
+    server.set_nonblocking(false)?;
+    send(&mut server, b"!\0done\n\0")?;
+    expect_handed(rt, link, client, server, Some((0, "done\n")))
 }
 
 #[test]
@@ -167,14 +177,7 @@ fn hands_over_by_a_door_behind_a_link(rt: HostRuntime) -> Result<(), Fail> {
     let club = new_club(&rt, "linked", &AMY)?;
     let link = ClubFile::new(&rt, "link")?;
     symlink(&rt, club.path(), link.path())?;
-    let door = FileDoor::make(&rt, club.path())?;
-    let client = connect(&rt, link.path())?;
-    let (mut server, _) = door.listener().ok_or("a door")?.accept()?;
-    server.set_nonblocking(false)?;
-    send(&mut server, b"!\0done\n\0")?;
-    let answer = FileVisit::over(&rt, link.path(), client)?.give(COMMAND);
-    expect_sent(&rt, &mut server, COMMAND)?;
-    expect_answer(&rt, &answer, &Some((0, "done\n")))
+    hand_over_by(&rt, club.path(), link.path())
 }
 
 /// The number of attempts that fail before an attempt succeeds.
@@ -204,8 +207,11 @@ fn sleeps_between_attempts(rt: HostRuntime) -> Result<(), Fail> {
     for (vain, gains, millis) in &TRIED {
         let clock = Machine::new(Some(0), 0);
         let gained = gain(&mut Trier(*vain), &clock, 5);
-        let outcome = (gained.is_some(), clock.slept.get());
-        expect_eq(&rt, &outcome, &(*gains, *millis))?;
+        expect_eq(
+            &rt,
+            (gained.is_some(), clock.slept.get()),
+            (*gains, *millis),
+        )?;
     }
     Ok(())
 }

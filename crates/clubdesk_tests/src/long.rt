@@ -1,8 +1,8 @@
 //! Long paths, roots and credits of each length, and the sheet of a day with many bookings.
 
 use crate::callers::Input;
-use crate::memory::play;
-use crate::runs::{ClubFile, Fixture, expect_end, new_path, parts_of};
+use crate::memory::{play, run_row};
+use crate::runs::{ClubFile, Fixture, new_path};
 use crate::servers::OFFICE;
 use std::test::Fail;
 
@@ -23,8 +23,7 @@ fn at_a_path_of_4000_letters(rt: HostRuntime) -> Result<(), Fail> {
     let short = new_path(&rt, "long")?;
     let letters = 4_000usize.saturating_sub(short.len());
     let dots = "/.".repeat(rt.alloc(), letters / 2)?;
-    let path = format!(in rt.alloc(); "{dots}{short}")?;
-    let club = ClubFile::at(&rt, path);
+    let club = ClubFile::at(&rt, format!(in rt.alloc(); "{dots}{short}")?);
     club.play(&OFFICE)?;
     club.play(&EDGES)
 }
@@ -44,21 +43,24 @@ fn takes_credits_of_each_length(rt: HostRuntime) -> Result<(), Fail> {
     Ok(())
 }
 
-// The scenarios test the passes under roots of each length.
-fn takes_a_root(rt: &HostRuntime, club: &ClubFile<'_>, hex: &str) -> Result<(), Fail> {
-    let words = format!(in rt.alloc(); "rotate-key amy-1 {hex} 2099-12-31T23:59")?;
-    let output = club.run(&Fixture::after(&[]), words.as_str())?;
-    let returned = output.returned.as_str();
-    if !returned.starts_with("0 AgEJY2x1Yi1kZXNrAglrZXk6YW15LTEAAAYg") || returned.len() != 82 {
-        return Err(format!(in rt.alloc(); "{hex}: {returned}")?.into());
+fn expect_pass(rt: &HostRuntime, hex: &str, returned: &str) -> Result<(), Fail> {
+    if returned.starts_with("0 AgEJY2x1Yi1kZXNrAglrZXk6YW15LTEAAAYg") && returned.len() == 82 {
+        return Ok(());
     }
+    Err(format!(in rt.alloc(); "{hex}: {returned}")?.into())
+}
+
+// The scenarios test the passes under roots of each length.
+fn takes_a_root(club: &ClubFile<'_>, hex: &str) -> Result<(), Fail> {
+    let words = format!(in club.rt.alloc(); "rotate-key amy-1 {hex} 2099-12-31T23:59")?;
+    let output = club.run(Fixture::after(&[]), words.as_str())?;
+    expect_pass(club.rt, hex, output.returned.as_str())?;
+    let row = "rotate-key amy-1 2099-12-31T23:59 --root-stdin => 1 refused: exists";
     let scene = Fixture {
         input: Input::Bytes(hex.as_bytes()),
         ..Fixture::after(&[])
     };
-    let row = "rotate-key amy-1 2099-12-31T23:59 --root-stdin => 1 refused: exists";
-    let output = club.run(&scene, "rotate-key amy-1 2099-12-31T23:59 --root-stdin")?;
-    expect_end(rt, row, output.returned.as_str())
+    club.play_in(scene, row)
 }
 
 #[test]
@@ -67,7 +69,7 @@ fn takes_roots_of_each_length(rt: HostRuntime) -> Result<(), Fail> {
     club.play(&OFFICE)?;
     for len in 16..=64usize {
         let hex = "a7".repeat(rt.alloc(), len)?;
-        takes_a_root(&rt, &club, hex.as_str())?;
+        takes_a_root(&club, hex.as_str())?;
     }
     Ok(())
 }
@@ -90,6 +92,23 @@ const HOURS: u32 = 20;
 
 const EACH: u32 = 3;
 
+fn booking_request(rt: &HostRuntime, hour: u32, number: u32, pass: &str) -> Result<String, Fail> {
+    Ok(format!(in rt.alloc();
+        "PUT /slots/a-facility-of-24-letters/2026-05-01/{hour:02}/bookings/{number} \
+        HTTP/1.1\r\nHost: club\r\nAuthorization: Bearer {pass}\r\n\
+        Content-Length: 12\r\n\r\n{{\"guests\":0}}"
+    )?)
+}
+
+// Returns the key and its pass.
+fn key_and_pass(row: &str) -> Option<(&str, &str)> {
+    let (words, end) = row.split_once(" => ")?;
+    let (_, words) = words.split_once(' ')?;
+    let (key, _) = words.split_once(' ')?;
+    let (_, pass) = end.trim_end().split_once(' ')?;
+    Some((key, pass))
+}
+
 fn book_hour(
     rt: &HostRuntime,
     row: &str,
@@ -97,17 +116,10 @@ fn book_hour(
     requests: &mut Vec<String>,
     sheet: &mut String,
 ) -> Result<(), Fail> {
-    let (words, end) = parts_of(row)?;
-    let (_, words) = words.split_once(' ').ok_or("a key")?;
-    let (key, _) = words.split_once(' ').ok_or("a member")?;
-    let (_, pass) = end.trim_end().split_once(' ').ok_or("a pass")?;
+    let (key, pass) = key_and_pass(row).ok_or("a key and its pass")?;
     for place in 0..EACH {
         let number = 999_999_000 + hour.saturating_mul(EACH).saturating_add(place) % 1_000;
-        requests.push(format!(in rt.alloc();
-            "PUT /slots/a-facility-of-24-letters/2026-05-01/{hour:02}/bookings/{number} \
-            HTTP/1.1\r\nHost: club\r\nAuthorization: Bearer {pass}\r\n\
-            Content-Length: 12\r\n\r\n{{\"guests\":0}}"
-        )?)?;
+        requests.push(booking_request(rt, hour, number, pass)?)?;
         let row = format!(in rt.alloc();
             "a-facility-of-24-letters {hour:02}:00 {key} {number}  1      0\n"
         )?;
@@ -133,12 +145,8 @@ fn book_day(rt: &HostRuntime) -> Result<(Vec<String>, String), Fail> {
 fn prints_a_long_sheet(rt: HostRuntime) -> Result<(), Fail> {
     let (texts, sheet) = book_day(&rt)?;
     let requests: Vec<&str> = texts.iter().map(|text| text.as_str()).collect(rt.alloc())?;
-    let scene = Fixture {
-        requests: requests.as_slice(),
-        after: &[sheet.as_str()],
-        ..Fixture::after(&KEYS)
-    };
+    let after = [sheet.as_str()];
+    let scene = Fixture::between(&KEYS, requests.as_slice(), &after);
     let row = "serve --port 0 --count 120 --at 2026-04-20T12:00 => 0 ";
-    play(&rt, &scene, row)?;
-    Ok(())
+    run_row(&rt, &scene, row, 7)
 }

@@ -58,24 +58,6 @@ struct InMemory<'a, S: ClubStore + Drop> {
     notes: &'a Notes,
 }
 
-impl<'a, S: ClubStore + Drop> InMemory<'a, S> {
-    fn new(
-        rt: &'a HostRuntime,
-        store: S,
-        fault: Option<StoreFault>,
-        server: Option<ServerAnswer<'a>>,
-        notes: &'a Notes,
-    ) -> InMemory<'a, S> {
-        InMemory {
-            rt,
-            store: Some(store),
-            fault,
-            server,
-            notes,
-        }
-    }
-}
-
 impl<'a, S: ClubStore + Drop> Databases for InMemory<'a, S> {
     type Store = S;
 
@@ -152,8 +134,14 @@ fn play_in<S: ClubStore + Drop>(
     scene: &Fixture<'_>,
     words: &str,
 ) -> Result<Played, Fail> {
-    let notes = Notes::new();
-    let mut databases = InMemory::new(rt, store, scene.fault, scene.server, &notes);
+    let notes = Notes::default();
+    let mut databases = InMemory {
+        rt,
+        store: Some(store),
+        fault: scene.fault,
+        server: scene.server,
+        notes: &notes,
+    };
     let machine = Machine::new(scene.second, scene.later);
     let output = play_over(rt, &machine, &notes, &mut databases, NAME, scene, words)?;
     drop(databases);
@@ -168,6 +156,11 @@ pub fn play(rt: &HostRuntime, scene: &Fixture<'_>, row: &str) -> Result<Played, 
     let played = play_words(rt, scene, parts_of(row)?.0)?;
     expect_end(rt, row, played.output.returned.as_str())?;
     Ok(played)
+}
+
+/// Plays a row, and fails if the database was opened or closed another number of times.
+pub fn run_row(rt: &HostRuntime, scene: &Fixture<'_>, row: &str, times: u64) -> Result<(), Fail> {
+    play(rt, scene, row)?.expect_openings(times, times)
 }
 
 static FAILING: [&str; 4] = [
@@ -185,10 +178,8 @@ fn openings_that_fail(rt: HostRuntime) -> Result<(), Fail> {
         } else {
             StoreFault::Storage
         };
-        let scene = Fixture {
-            fault: Some(fault),
-            ..Fixture::after(&[])
-        };
+        let mut scene = Fixture::after(&[]);
+        scene.fault = Some(fault);
         play(&rt, &scene, row)?.expect_openings(1, 0)?;
     }
     Ok(())
@@ -214,10 +205,7 @@ fn closed_before_the_answer_is_written(rt: HostRuntime) -> Result<(), Fail> {
 // The next program that opens the database may make a door, so the earlier door must be gone.
 #[test]
 fn a_door_is_removed_before_the_database_is_closed(rt: HostRuntime) -> Result<(), Fail> {
-    let scene = Fixture {
-        requests: &[BOOK_7],
-        ..Fixture::after(&["add-member amy 5 => 0 done\n"])
-    };
+    let scene = Fixture::between(&["add-member amy 5 => 0 done\n"], &[BOOK_7], &[]);
     let row = "serve --port 0 --count 1 --at 2026-04-20T12:00 => 0 ";
     let played = play(&rt, &scene, row)?;
     played.expect_openings(2, 2)?;

@@ -40,13 +40,21 @@ pub struct Fixture<'a> {
 
 impl<'a> Fixture<'a> {
     pub fn after(before: &'a [&'a str]) -> Fixture<'a> {
+        Fixture::between(before, &[], &[])
+    }
+
+    pub fn between(
+        before: &'a [&'a str],
+        requests: &'a [&'a str],
+        after: &'a [&'a str],
+    ) -> Fixture<'a> {
         Fixture {
             before,
-            after: &[],
+            after,
             input: Input::Bytes(b""),
             room: 65_536,
             flushes: true,
-            requests: &[],
+            requests,
             second: Some(0),
             later: 0,
             fault: None,
@@ -54,6 +62,11 @@ impl<'a> Fixture<'a> {
             is_killed: false,
             removed: None,
         }
+    }
+
+    pub fn reading(mut self, input: Input<'a>) -> Fixture<'a> {
+        self.input = input;
+        self
     }
 }
 
@@ -66,19 +79,20 @@ pub struct Output {
     pub log: Vec<u8>,
 }
 
-fn text_of(
-    rt: &HostRuntime,
-    status: u8,
-    printed: &str,
-    written: &[u8],
-) -> Result<String, AllocError> {
+fn text_of(rt: &HostRuntime, status: u8, error: &str, output: &[u8]) -> Result<String, AllocError> {
     if status == 0 {
-        let text = str::from_utf8(written).unwrap_or("no text");
+        let text = str::from_utf8(output).unwrap_or("no text");
         format!(in rt.alloc(); "{status} {text}")
     } else {
-        let line = printed.strip_suffix('\n').unwrap_or("no line");
+        let line = error.strip_suffix('\n').unwrap_or("no line");
         format!(in rt.alloc(); "{status} {line}")
     }
+}
+
+fn arguments_of<'l>(rt: &HostRuntime, line: &'l str) -> Result<Vec<&'l [u8]>, AllocError> {
+    line.split(' ')
+        .map(|word| word.as_bytes())
+        .collect(rt.alloc())
 }
 
 fn run_over<C: Clock, D: Databases>(
@@ -89,8 +103,7 @@ fn run_over<C: Clock, D: Databases>(
     scene: &Fixture<'_>,
     line: &str,
 ) -> Result<Output, AllocError> {
-    let words = line.split(' ').map(|word| word.as_bytes());
-    let arguments: Vec<&[u8]> = words.collect(rt.alloc())?;
+    let arguments = arguments_of(rt, line)?;
     let process = Process::new(rt.alloc(), arguments.as_slice());
     let mut input = scene.input;
     let mut caller = Caller::new(rt, scene, notes);
@@ -116,10 +129,10 @@ pub fn line_of(rt: &HostRuntime, name: &str, words: &str) -> Result<String, Allo
     }
 }
 
-pub fn expect_eq<T: PartialEq + Debug>(
+pub fn expect_eq<T: Copy + PartialEq + Debug>(
     rt: &HostRuntime,
-    returned: &T,
-    want: &T,
+    returned: T,
+    want: T,
 ) -> Result<(), Fail> {
     if returned == want {
         return Ok(());
@@ -147,7 +160,7 @@ fn play_rows<D: Databases>(
     for row in rows {
         let line = line_of(rt, name, parts_of(row)?.0)?;
         let machine = Machine::new(Some(0), 0);
-        let notes = Notes::new();
+        let notes = Notes::default();
         let scene = Fixture::after(&[]);
         let output = run_over(rt, &machine, &notes, databases, &scene, line.as_str())?;
         expect_end(rt, row, output.returned.as_str())?;
@@ -213,48 +226,35 @@ impl<D: Databases> Databases for Fragile<'_, D> {
 }
 
 #[derive(Drop)]
-struct AtFile<'x> {
-    rt: &'x HostRuntime,
-    path: &'x str,
-    scene: Fixture<'x>,
-    words: &'x str,
-}
+struct AtFile<'c, 'r, 's, 'w>(&'c ClubFile<'r>, Fixture<'s>, &'w str);
 
-impl DatabasesUser for AtFile<'_> {
+impl DatabasesUser for AtFile<'_, '_, '_, '_> {
     type Outcome = Result<Output, Fail>;
 
     ghost outcomes = { λ _ _. Unit {0} };
 
     fn run_over<D: Databases>(self, databases: &mut D) -> Result<Output, Fail> {
-        let rt = self.rt;
-        let notes = Notes::new();
-        let is_killed = self.scene.is_killed;
+        let AtFile(club, scene, words) = self;
+        let notes = Notes::default();
+        let is_killed = scene.is_killed;
         let mut fragile = Fragile {
             databases,
             is_killed,
         };
-        let scene = &self.scene;
-        play_over(rt, rt, &notes, &mut fragile, self.path, scene, self.words)
+        play_over(
+            club.rt,
+            club.rt,
+            &notes,
+            &mut fragile,
+            club.path(),
+            &scene,
+            words,
+        )
     }
 }
 
-fn play_at_file<'x>(
-    rt: &'x HostRuntime,
-    path: &'x str,
-    scene: Fixture<'x>,
-    words: &'x str,
-) -> Result<Output, Fail> {
-    let at_file = AtFile {
-        rt,
-        path,
-        scene,
-        words,
-    };
-    run_over_files(rt, at_file)
-}
-
 pub struct ClubFile<'a> {
-    rt: &'a HostRuntime,
+    pub rt: &'a HostRuntime,
     path: String,
 }
 
@@ -272,8 +272,7 @@ impl<'a> ClubFile<'a> {
     }
 
     pub fn new(rt: &'a HostRuntime, name: &str) -> Result<ClubFile<'a>, Fail> {
-        let path = new_path(rt, name)?;
-        Ok(ClubFile { rt, path })
+        Ok(ClubFile::at(rt, new_path(rt, name)?))
     }
 
     pub fn path(&self) -> &str {
@@ -284,14 +283,22 @@ impl<'a> ClubFile<'a> {
         format!(in self.rt.alloc(); "{}{end}", self.path)
     }
 
-    pub fn run(&self, scene: &Fixture<'_>, words: &str) -> Result<Output, Fail> {
-        play_at_file(self.rt, self.path(), *scene, words)
+    pub fn remove_with(&self, end: &str) -> Result<(), Fail> {
+        Ok(fs::remove_file(self.rt, self.path_with(end)?.as_str())?)
+    }
+
+    pub fn run(&self, scene: Fixture<'_>, words: &str) -> Result<Output, Fail> {
+        run_over_files(self.rt, AtFile(self, scene, words))
+    }
+
+    pub fn play_in(&self, scene: Fixture<'_>, row: &str) -> Result<(), Fail> {
+        let output = self.run(scene, parts_of(row)?.0)?;
+        expect_end(self.rt, row, output.returned.as_str())
     }
 
     pub fn play(&self, rows: &[&str]) -> Result<(), Fail> {
         for row in rows {
-            let output = self.run(&Fixture::after(&[]), parts_of(row)?.0)?;
-            expect_end(self.rt, row, output.returned.as_str())?;
+            self.play_in(Fixture::after(&[]), row)?;
         }
         Ok(())
     }

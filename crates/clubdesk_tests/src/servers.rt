@@ -1,7 +1,7 @@
 //! Servers and account listings that use the test's clock. A program in another language computed
 //! the moments from the zone database.
 
-use crate::memory::{play, play_words};
+use crate::memory::{Played, play_words, run_row};
 use crate::runs::{Fixture, expect_eq};
 use std::alloc::AllocError;
 use std::test::Fail;
@@ -48,29 +48,34 @@ fn log_of(rt: &HostRuntime, line: &str) -> Result<String, AllocError> {
     }
 }
 
-// A row has the clock's second, the server's options, the outcome and the log. A log ends with the
-// microseconds of the connection.
+// Splits a row into the clock's second, the server's options, the outcome and the log.
+fn parts_of_served(row: &str) -> Option<(&str, &str, &str, &str)> {
+    let (second, rest) = row.split_once("; ")?;
+    let (options, rest) = rest.split_once("; ")?;
+    let (outcome, log) = rest.split_once("; ")?;
+    Some((second, options, outcome, log))
+}
+
+fn expect_served(rt: &HostRuntime, played: &Played, reply: &str, line: &str) -> Result<(), Fail> {
+    let log = log_of(rt, line)?;
+    let output = &played.output;
+    expect_eq(rt, str::from_utf8(output.reply.as_slice()), Ok(reply))?;
+    expect_eq(rt, str::from_utf8(output.log.as_slice()), Ok(log.as_str()))?;
+    played.expect_openings(6, 6)
+}
+
+// A log ends with the microseconds of the connection.
 fn serves(rt: &HostRuntime, row: &str) -> Result<(), Fail> {
-    let (second, rest) = row.split_once("; ").ok_or("a second")?;
-    let (options, rest) = rest.split_once("; ").ok_or("options")?;
-    let (outcome, log) = rest.split_once("; ").ok_or("an outcome")?;
+    let (second, options, outcome, log) = parts_of_served(row).ok_or("a row")?;
     let (_, later) = log.rsplit_once(' ').unwrap_or(("", "1533"));
     let (end, reply, sheet) = outcome_of(outcome);
+    let mut scene = Fixture::between(&OFFICE, &[BOOK_7], sheet);
+    scene.second = second.parse().ok();
+    scene.later = later.parse().unwrap_or(0);
     let words = format!(in rt.alloc(); "serve --port 0 --count 1 {options}")?;
-    let scene = Fixture {
-        second: second.parse().ok(),
-        later: later.parse().unwrap_or(0),
-        requests: &[BOOK_7],
-        after: sheet,
-        ..Fixture::after(&OFFICE)
-    };
     let played = play_words(rt, &scene, words.as_str())?;
-    let output = &played.output;
-    let log = log_of(rt, log)?;
-    expect_eq(rt, &(row, output.returned.as_str()), &(row, end))?;
-    expect_eq(rt, &str::from_utf8(&output.reply), &Ok(reply))?;
-    expect_eq(rt, &str::from_utf8(&output.log), &Ok(log.as_str()))?;
-    played.expect_openings(6, 6)
+    expect_eq(rt, (row, played.output.returned.as_str()), (row, end))?;
+    expect_served(rt, &played, reply, log)
 }
 
 static SERVED: [&str; 18] = [
@@ -119,12 +124,8 @@ fn waits(rt: &HostRuntime, patience: u32, later: u64) -> Result<(), Fail> {
     let words = format!(in rt.alloc();
         "serve --port 0 --count 2 --at 2026-04-20T12:00 --patience {patience}"
     )?;
-    let scene = Fixture {
-        later,
-        requests: &[BEGINNING, BOOK_7],
-        after: &BOOKED,
-        ..Fixture::after(&OFFICE)
-    };
+    let mut scene = Fixture::between(&OFFICE, &[BEGINNING, BOOK_7], &BOOKED);
+    scene.later = later;
     let before = rt.monotonic()?;
     let output = play_words(rt, &scene, words.as_str())?.output;
     let waited = rt.monotonic()?.saturating_sub(before).as_secs();
@@ -137,8 +138,8 @@ fn waits(rt: &HostRuntime, patience: u32, later: u64) -> Result<(), Fail> {
 // The test waits in real time, and its time limit stops a server that waits too long.
 #[test]
 fn waits_as_long_as_its_patience(rt: HostRuntime) -> Result<(), Fail> {
-    for (patience, later) in &A_SECOND_LEFT {
-        waits(&rt, *patience, *later)?;
+    for row in &A_SECOND_LEFT {
+        waits(&rt, row.0, row.1)?;
     }
     Ok(())
 }
@@ -157,11 +158,9 @@ static SHOWN: [&str; 5] = [
 fn shows_accounts_by_a_clock(rt: HostRuntime) -> Result<(), Fail> {
     for row in &SHOWN {
         let (second, row) = row.split_once("; ").ok_or("a second")?;
-        let scene = Fixture {
-            second: second.parse().ok(),
-            ..Fixture::after(&OFFICE)
-        };
-        play(&rt, &scene, row)?.expect_openings(5, 5)?;
+        let mut scene = Fixture::after(&OFFICE);
+        scene.second = second.parse().ok();
+        run_row(&rt, &scene, row, 5)?;
     }
     Ok(())
 }
@@ -169,16 +168,22 @@ fn shows_accounts_by_a_clock(rt: HostRuntime) -> Result<(), Fail> {
 /// Each number is the first of ten ports. At least one of the ten is free.
 static FIRST_OF_TEN: [u16; 6] = [1_025, 30_000, 60_001, 60_990, 61_001, 65_526];
 
+// Returns false if the port is in use.
+fn serves_at(rt: &HostRuntime, port: u16) -> Result<bool, Fail> {
+    let scene = Fixture::between(&OFFICE, &[BOOK_7], &[]);
+    let words = format!(in rt.alloc(); "serve --port {port} --count 1 --at 2026-04-20T12:00")?;
+    let output = play_words(rt, &scene, words.as_str())?.output;
+    if output.returned.as_str() == "7 input or output failed" {
+        return Ok(false);
+    }
+    expect_eq(rt, str::from_utf8(output.reply.as_slice()), Ok(BOOKED_7))?;
+    Ok(true)
+}
+
 fn serves_in(rt: &HostRuntime, first: u16) -> Result<(), Fail> {
-    let scene = Fixture {
-        requests: &[BOOK_7],
-        ..Fixture::after(&OFFICE)
-    };
     for port in first..=first.saturating_add(9) {
-        let words = format!(in rt.alloc(); "serve --port {port} --count 1 --at 2026-04-20T12:00")?;
-        let output = play_words(rt, &scene, words.as_str())?.output;
-        if output.returned.as_str() != "7 input or output failed" {
-            return expect_eq(rt, &str::from_utf8(&output.reply), &Ok(BOOKED_7));
+        if serves_at(rt, port)? {
+            return Ok(());
         }
     }
     Err("no port is free".into())
