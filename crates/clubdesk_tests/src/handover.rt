@@ -123,7 +123,8 @@ fn tries_again(rt: &HostRuntime, retried: &Retried) -> Result<(), Fail> {
     if replies.len().checked_sub(greeted.1.len()) != Some(*got) || clock.slept.get() != *millis {
         return Err("another number of servers was asked, or another time slept".into());
     }
-    for server in servers.iter_mut().take(*got) {
+    servers.truncate(*got);
+    for server in servers.iter_mut() {
         expect_sent(rt, server, COMMAND)?;
     }
     expect_answer(rt, &answer, *want)

@@ -1,7 +1,7 @@
 //! Long paths, roots and credits of each length, and the sheet of a day with many bookings.
 
 use crate::callers::Input;
-use crate::memory::{play, run_row};
+use crate::memory::run_row;
 use crate::runs::{ClubFile, Fixture, new_path};
 use crate::servers::OFFICE;
 use std::test::Fail;
@@ -38,7 +38,7 @@ static CREDITS: [u32; 13] = [
 fn takes_credits_of_each_length(rt: HostRuntime) -> Result<(), Fail> {
     for points in &CREDITS {
         let row = format!(in rt.alloc(); "credit amy {points} => 0 done\n")?;
-        play(&rt, &Fixture::after(&OFFICE), row.as_str())?;
+        run_row(&rt, &Fixture::after(&OFFICE), row.as_str(), 5)?;
     }
     Ok(())
 }
@@ -103,10 +103,8 @@ fn booking_request(rt: &HostRuntime, hour: u32, number: u32, pass: &str) -> Resu
 // Returns the key and its pass.
 fn key_and_pass(row: &str) -> Option<(&str, &str)> {
     let (words, end) = row.split_once(" => ")?;
-    let (_, words) = words.split_once(' ')?;
-    let (key, _) = words.split_once(' ')?;
-    let (_, pass) = end.trim_end().split_once(' ')?;
-    Some((key, pass))
+    let (key, _) = words.split_once(' ')?.1.split_once(' ')?;
+    Some((key, end.trim_end().split_once(' ')?.1))
 }
 
 fn book_hour(

@@ -43,6 +43,7 @@ impl<'a> Fixture<'a> {
         Fixture::between(before, &[], &[])
     }
 
+    /// A run between the rows of `before` and `after`, in which clients send `requests`.
     pub fn between(
         before: &'a [&'a str],
         requests: &'a [&'a str],
@@ -235,21 +236,14 @@ impl DatabasesUser for AtFile<'_, '_, '_, '_> {
 
     fn run_over<D: Databases>(self, databases: &mut D) -> Result<Output, Fail> {
         let AtFile(club, scene, words) = self;
+        let (rt, path) = (club.rt, club.path());
         let notes = Notes::default();
         let is_killed = scene.is_killed;
         let mut fragile = Fragile {
             databases,
             is_killed,
         };
-        play_over(
-            club.rt,
-            club.rt,
-            &notes,
-            &mut fragile,
-            club.path(),
-            &scene,
-            words,
-        )
+        play_over(rt, rt, &notes, &mut fragile, path, &scene, words)
     }
 }
 
