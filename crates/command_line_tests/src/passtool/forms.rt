@@ -64,8 +64,7 @@ fn narrows_in_the_form_it_came_in(rt: HostRuntime) {
 
 static MINTED: [&str; 2] = [
     "mint|--id|key:amy-1|kind = court|--root|00FF prints AgIJa2V5OmFteS0xAAIMa2luZCA9IGNvdXJ0AAAGICfWuQ_cMZP6886vBgHq1h-9kfS-piIzi-4GOPexX2IH",
-    "mint|--root|ROOT|--id|we used our secret key|--location=http://mybank/|--form=v1|--|-x \
-    prints MDAxY2xvY2F0aW9uIGh0dHA6Ly9teWJhbmsvCjAwMjZpZGVudGlmaWVyIHdlIHVzZWQgb3VyIHNlY3JldCBrZXkKMDAwYmNpZCAteAowMDJmc2lnbmF0dXJlIH5yFLJImuHOPzWujMWYmtw37uVf1cHSu9BEnMhq071KCg",
+    "mint|--root|ROOT|--id|we used our secret key|--location=http://mybank/|--form=v1|--|-x prints MDAxY2xvY2F0aW9uIGh0dHA6Ly9teWJhbmsvCjAwMjZpZGVudGlmaWVyIHdlIHVzZWQgb3VyIHNlY3JldCBrZXkKMDAwYmNpZCAteAowMDJmc2lnbmF0dXJlIH5yFLJImuHOPzWujMWYmtw37uVf1cHSu9BEnMhq071KCg",
 ];
 
 fn expect_printed(rt: &impl Host, rows: &[&'static str]) {

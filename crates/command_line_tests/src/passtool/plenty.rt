@@ -10,8 +10,8 @@ use test_kit::{End, Output, Piece};
 const VERIFY: &str = "verify|--root|00112233445566778899aabbccddeeff";
 
 // An independent program computed these texts of amy's pass. Each entry has the line that converts
-// to the form, the text up to and including the first caveat, one more caveat, and the ends after
-// 63 and after 64 caveats.
+// to the form, and the text up to and including the first caveat. Then come one more caveat, and
+// the ends after 63 and after 64 caveats.
 type Guests = [&'static str; 5];
 
 static GUESTS: [Guests; 3] = [
