@@ -1,9 +1,9 @@
 #!/usr/bin/env python3
 """Measures the processor seconds that the gate needs for the proof, the tests and the mutants of each crate.
 
-The program runs `rt ci`, the gate, in a scratch clone of HEAD. The program adds up the processor seconds of the compiler's processes for three parts
-of each crate. The parts are the proof with the build of a program, the proof with the build of the tests, and the mutants in must-fail/. At the end,
-the program prints the sums, the elapsed time, and the last line of the gate's output. The status is the gate's status.
+The program runs `rt ci`, the gate, in a scratch clone of HEAD. The program adds up the processor seconds of the compiler's processes for four parts
+of each crate. The parts are the crate's proof, the proof of its tests, the mutants in must-fail/, and clang with the linker. At the end, the program
+prints the sums, the elapsed time, and the last line of the gate's output. The status is the gate's status.
   tests/times.py                 measures the whole gate
   tests/times.py club_core ..    measures these crates and all crates that they depend on
 The program reads the times from /proc once a second, so it may miss the last second of each process. The times don't include the runs of programs and
@@ -22,15 +22,14 @@ from pathlib import Path
 from tempfile import TemporaryDirectory
 
 ROOT = Path(__file__).resolve().parent.parent
-KINDS = ("proof", "tests", "edits")
+KINDS = ("proof", "tests", "edits", "clang")
 TICKS = os.sysconf("SC_CLK_TCK")
 
 
 def process(pid):
-    """Returns a process's parent, its start time, and its processor time in ticks. The processor time includes the time of ended children that the
-    process has waited for."""
+    """Returns a process's parent, its start time, and its own processor time in ticks."""
     fields = Path(f"/proc/{pid}/stat").read_text(encoding="utf-8", errors="replace").rpartition(")")[2].split()
-    return int(fields[1]), fields[19], sum(map(int, fields[11:15]))
+    return int(fields[1]), fields[19], sum(map(int, fields[11:13]))
 
 
 def task(pid, work):
@@ -47,19 +46,19 @@ def task(pid, work):
 
 
 def sample(spent, work):
-    """Records the ticks of each compiling process. If a compiling process has compiling children, the children's ticks count for the parent."""
-    found, totals = {}, Counter()
+    """Records the ticks of each compiling process, and of each program that a compiling process runs."""
+    found = {}
     for pid in filter(str.isdigit, os.listdir("/proc")):
         try:
-            if what := task(pid, work):
-                found[int(pid)] = (*process(pid), what)
+            found[int(pid)] = (*process(pid), task(pid, work))
         except (OSError, ValueError, IndexError):
             continue
-    for top, (_, _, ticks, _) in found.items():
-        while found[top][0] in found:
-            top = found[top][0]
-        totals[top, found[top][1], found[top][3]] += ticks
-    spent |= totals  # keeps the larger value of each
+    for pid, (parent, start, ticks, what) in found.items():
+        while what is None and parent in found:
+            parent, _, _, above = found[parent]
+            what = above and (above[0], "clang")
+        if what:
+            spent[pid, start, what] = max(spent[pid, start, what], ticks)
 
 
 def run_gate(work, names):
