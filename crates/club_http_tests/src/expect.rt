@@ -14,7 +14,7 @@ pub(crate) trait Runtime: Abort + Alloc<A = Global> + Clock {}
 
 impl<R: Abort + Alloc<A = Global> + Clock> Runtime for R {}
 
-/// Ends the test unless the values are equal. Each direct `assert_eq!` lengthens a proof more.
+/// Ends the test unless the values are equal. A direct `assert_eq!` makes a proof longer.
 pub(crate) fn expect_eq<T: PartialEq + Debug + Copy>(rt: &impl Runtime, returned: T, want: T) {
     assert_eq!(rt; returned, want);
 }

@@ -70,8 +70,8 @@ fn booking_of(rt: &impl Runtime, head: usize, body: usize, length: &'static str)
     )
 }
 
-/// The number of bytes of a head, of a body, the latter as a text, and the number of bytes of each
-/// piece of the request.
+/// The number of bytes of a head and of a body, the body's number as a text, and the number of
+/// bytes of each piece of the request.
 static BOOKINGS: [(usize, usize, &str, usize); 6] = [
     (200, 12, "12", 7),
     (8_192, 256, "256", 500),

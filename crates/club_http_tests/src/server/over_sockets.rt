@@ -41,6 +41,7 @@ fn accepts_a_client(rt: HostRuntime) {
     drop(client_at(&rt, &listener, None, &rt, patience()));
 }
 
+/// Returns the face, which contains the bytes of the request.
 fn exchanges<'x>(
     rt: &impl Runtime,
     listener: &'x TcpListener,
