@@ -310,9 +310,7 @@ def kept_by_rule():
         return name[:13] if (today - day(name)).days < 2 else name[:10]
 
     newest = max(made)
-    last = {}
-    for name in sorted(made):
-        last[group(name)] = name
+    last = {group(name): name for name in sorted(made)}
     counted = [it for it in sorted(made) if group(it) == group(newest) or last[group(it)] == it]
     monday = today - datetime.timedelta(today.weekday())
     wanted = {it for it in counted if (today - day(it)).days < 14}
