@@ -3,20 +3,20 @@
 -- allows the request.
 use Rattle.std.proofs.Common.{◌≡◌, ◌≢◌, ℕ, ◌+◌, ◌<◌, ◌≤◌, ◌↔◌, ◌-◌, Bool, true, false, cond, List, [], ◌∷◌, ◌++◌, length, get_or, take, drop, refl, ap, ◌∙◌}
 use Rattle.std.proofs.Common.{arith, IsTrue, All, Contains, ◌==◌, map, Option, Some, None, sym, Bor, ◌&&◌, ◌||◌, not, filter, is_some, codes, nat_lt, Decides}
-use Rattle.std.proofs.{Common.{IsSomeAnd, rules}, lemmas.Bool.{cond_both, Decides.{nat_tests, same_from_decides, Decides-like, Decides-and, Decides-ltb}}}
-use Rattle.std.proofs.lemmas.{Bool.Decides.{Decides-by_and, Decides-by_or}, Fmt.{decimal_is_IsNumeral, decimal_injective}, Grind.common_steps}
+use Rattle.std.proofs.{Common.{IsSomeAnd, rules}, lemmas.Bool.{cond_both, Decides.{nat_tests, same_from_decides, Decides-like, Decides-ltb}}}
+use Rattle.std.proofs.lemmas.{Bool.Decides.{Decides-by_and, Decides-by_or}, Fmt.{decimal_is_IsNumeral, decimal_injective}, Grind.common_steps, Option.cond_some}
 use Rattle.std.proofs.lemmas.List.{take-append-drop, length-map, append-nil, Elements.{All-head, All-tail, All-nil, All-cons, at_from_Contains}}
 use Rattle.std.proofs.lemmas.{List.Splits.{slice_split_none, slice_split_at, length-slice_split, join_with_byte-slice_split}, Slice.Eq.bytes_eq-Decides}
 use Rattle.std.specs.{Bool.MatchBool, List.{HoldsAt, AllWithin, list_all, list_any}, Option.{option_copied, option_map_or}, Str.bytes_eq}
-use Rattle.club_values.proofs.DayLemmas.{day_text-spells, spells-day_text, day_text_injective, moment_text-spells, spells-moment_text, two_again}
-use Rattle.club_values.{proofs.{DayLemmas.{day_of-day_text, moment_of-moment_text}, TextLemmas.{Decides-leb, Decides-is_name}}, specs.Kind.action_text}
-use Rattle.club_values.specs.{Kind.weekdays, Moment.{IsDay, day_text, SpellsDay, SpellsMoment}, Name.IsName, Number.{SpellsNumber, Reads}}
-use Rattle.club_values.specs.{computed.TextOf.{day_of, is_name}, declared.{kind.Kind.{Kind as AKind, TheVariants.Court}, slot.Slot.Slot}}
+use Rattle.club_values.specs.{Kind.{action_text, weekdays}, Laws.{DistinctDayTexts, IsTextOfDay, IsTextOfMoment, ReadsDays, ReadsMoments, ReadsNames}}
+use Rattle.club_values.specs.{Moment.{IsDay, IsMoment, day_text, moment_text, SpellsDay}, Name.IsName, Number.SpellsNumber, declared.slot.Slot.Slot}
+use Rattle.club_values.specs.computed.TextOf.{day_of, day_of_text, is_name, moment_of, moment_of_text, name_of_text}
+use Rattle.club_values.specs.declared.kind.Kind.{Kind as AKind, TheVariants.Court}
 use Rattle.pass_caveats.specs.{Caveat.{IsCaveat, caveat_text, Understood, Permits, permits, SpellsCaveat}, Choices.{AreNames, comma_parts, comma_list, Skips}}
 use Rattle.pass_caveats.specs.{Choices.{parts_left, all_actions, has_action, weekday_text, has_weekday}, computed.CaveatOf.{is_next, after_next, words_found}}
-use Rattle.pass_caveats.specs.{computed.CaveatOf.{candidate, actions_from, weekdays_from, is_caveat, spells}, declared.actions.Actions.Actions as SomeActions}
+use Rattle.pass_caveats.specs.{Laws.ReadsWhatIsUnderstood, computed.CaveatOf.{candidate, actions_from, weekdays_from, is_caveat, spells, caveat_of}}
 use Rattle.pass_caveats.specs.declared.{ask.Ask.Ask, caveat.Caveat.{Caveat, TheVariants.{Facility, Kind, Hours, Days, Weekdays, Until, Guests, Spend, Actions}}}
-use Rattle.pass_caveats.specs.declared.weekdays.Weekdays.{Weekdays as SomeWeekdays}
+use Rattle.pass_caveats.specs.declared.{actions.Actions.Actions as SomeActions, weekdays.Weekdays.Weekdays as SomeWeekdays}
 
 pub contains_from_any : (r : Bool) (xs : List (List ℕ)) (x : List ℕ) →
     MatchBool r ((k : ℕ) × (k < length xs) × HoldsAt (λ y. y ≡ x) xs k) (AllWithin (λ y. y ≢ x) xs 0 (length xs)) → IsTrue r ↔ Contains xs x
@@ -167,46 +167,53 @@ something_left None e none = cc
 pub nothing_left : (rest : Option (Bor (List ℕ))) → is_some rest ≡ false → parts_left (option_copied rest) ≡ []
 nothing_left rest e = grind arith
 
-second_day : (a b : ℕ) → IsDay b → day_of (drop 12 (day_text a ++ (codes ".." ++ day_text b))) ≡ b
-unfolding day_text
-second_day a b h = day_of-day_text b [] h
+module _ (days : ReadsDays) (day_texts : IsTextOfDay) (moments : ReadsMoments) (moment_texts : IsTextOfMoment) where
+  day_again : (n : ℕ) (rest : List ℕ) → IsDay n → day_of (day_text n ++ rest) ≡ n
+  unfolding day_of_text day_text
+  day_again n rest h = (cond_some _ _ n ((days (day_text n) n).1 ((day_texts (day_text n) n).1 (h, refl)))).1
 
-pub candidate-caveat_text : (caveat : Caveat) → IsCaveat caveat → candidate (caveat_text caveat) ≡ caveat
-unfolding candidate
-candidate-caveat_text (Facility names) h = ap Facility (names_again names h)
-candidate-caveat_text (Kind Court) h = refl
-candidate-caveat_text (Kind kind) h = refl
-candidate-caveat_text (Hours from until) h = rw (two_again from, two_again until)
-candidate-caveat_text (Days first last) h = rw (day_of-day_text first (codes ".." ++ day_text last) h.0, second_day first last h.1)
-candidate-caveat_text (Weekdays set) h = ap Weekdays (ap weekdays_from (choice_again (has_weekday set) weekday_text weekdays (record {
-  distinct = refl;
-  plain =
-      refl;
-}) h))
-candidate-caveat_text (Until moment) h = ap Until (moment_of-moment_text moment h)
-candidate-caveat_text (Guests n) h = ap Guests (decimal_is_IsNumeral n (omega arith)).1
-candidate-caveat_text (Spend n) h = ap Spend (decimal_is_IsNumeral n (omega arith)).1
-candidate-caveat_text (Actions actions) h = ap Actions (ap actions_from (choice_again (has_action actions) action_text all_actions (record {
-  distinct = refl;
-  plain = refl;
-}) h))
+  moment_again : (n : ℕ) → IsMoment n → moment_of (moment_text n) ≡ n
+  unfolding moment_of_text
+  moment_again n h = (cond_some _ _ n ((moments (moment_text n) n).1 ((moment_texts (moment_text n) n).1 (h, refl)))).1
 
-pub one_caveat : (text : List ℕ) (a b : Caveat) → Understood text a → Understood text b → a ≡ b
-one_caveat text a b h k =
-    sym (candidate-caveat_text a h.line.real)
-    ∙ (ap candidate (sym h.line.spelling ∙ k.line.spelling) ∙ candidate-caveat_text b k.line.real)
+  candidate-caveat_text : (caveat : Caveat) → IsCaveat caveat → candidate (caveat_text caveat) ≡ caveat
+  unfolding candidate day_text
+  candidate-caveat_text (Facility names) h = ap Facility (names_again names h)
+  candidate-caveat_text (Kind Court) h = refl
+  candidate-caveat_text (Kind kind) h = refl
+  candidate-caveat_text (Hours from until) h = grind arith
+  candidate-caveat_text (Days first last) h = rw (day_again first (codes ".." ++ day_text last) h.0, day_again last [] h.1)
+  candidate-caveat_text (Weekdays set) h = ap Weekdays (ap weekdays_from (choice_again (has_weekday set) weekday_text weekdays (record {
+    distinct = refl;
+    plain =
+        refl;
+  }) h))
+  candidate-caveat_text (Until moment) h = ap Until (moment_again moment h)
+  candidate-caveat_text (Guests n) h = ap Guests (decimal_is_IsNumeral n (omega arith)).1
+  candidate-caveat_text (Spend n) h = ap Spend (decimal_is_IsNumeral n (omega arith)).1
+  candidate-caveat_text (Actions actions) h = ap Actions (ap actions_from (choice_again (has_action actions) action_text all_actions (record {
+    distinct = refl;
+    plain = refl;
+  }) h))
 
-Decides-are_names : (names : List (List ℕ)) → Decides (is_caveat (Facility names)) (AreNames names)
-Decides-are_names names =
-    let all = Decides-by_and is_name IsName (list_all is_name) Decides-is_name refl (λ _ _. refl) names in
-    Decides-like _ (λ h. record { some = h.0.0; few = h.0.1; each_is_name = h.1 }) (λ h. ((h.some, h.few), h.each_is_name))
-    (Decides-and _ _ (Decides-and _ _ (Decides-ltb 0 (length names)) (Decides-leb (length names) 8)) all)
+Decides-are_names : ReadsNames → (names : List (List ℕ)) → Decides (is_caveat (Facility names)) (AreNames names)
+unfolding name_of_text
+Decides-are_names reads names =
+    let all = Decides-by_and is_name IsName (list_all is_name) (λ name. grind (arith, reads name name)) refl (λ _ _. refl) names in
+    grind (arith, nat_tests, all)
 
 Decides-some : (texts : List (List ℕ)) → Decides (nat_lt 0 (length texts)) (texts ≢ [])
 Decides-some texts = Decides-like _ (λ h e. absurd (omega (arith, ap (length {A = List ℕ}) e, h))) (some_of texts) (Decides-ltb 0 (length texts))
 
-pub Decides-spells : (text : List ℕ) (caveat : Caveat) → Decides (spells text caveat) (Understood text caveat)
-Decides-spells text caveat = grind (arith, nat_tests, Decides-are_names, Decides-some, bytes_eq-Decides)
+Decides-spells : ReadsNames → (text : List ℕ) (caveat : Caveat) → Decides (spells text caveat) (Understood text caveat)
+Decides-spells reads text caveat = grind (arith, nat_tests, Decides-are_names reads, Decides-some, bytes_eq-Decides)
+
+pub reads_what_is_understood : ReadsNames → ReadsDays → IsTextOfDay → ReadsMoments → IsTextOfMoment → ReadsWhatIsUnderstood
+unfolding caveat_of
+reads_what_is_understood names days day_texts moments moment_texts text caveat = (
+  λ h. grind (arith, candidate-caveat_text days day_texts moments moment_texts, Decides-spells names),
+  λ e. let is = cond_some (spells text (candidate text)) (candidate text) caveat e in rw (← is.1) ((Decides-spells names text (candidate text)).0 is.0),
+)
 
 Decides-slot : (slot : Option Slot) (p : Slot → Bool) (P : Slot → Type 0) → ((s : Slot) → Decides (p s) (P s)) →
     Decides (option_map_or p slot false) (IsSomeAnd slot P)
@@ -225,16 +232,6 @@ Decides-permits caveat ask = grind (arith, nat_tests)
 pub same_as_permits : (caveat : Caveat) (ask : Ask) (r : Bool) → IsTrue r ↔ Permits caveat ask → r ≡ permits caveat ask
 same_as_permits caveat ask r h = same_from_decides r (permits caveat ask) h (Decides-permits caveat ask)
 
-reads_as : {A : Type 0} (P Q : A → Type 0) (r : Option A) → Reads P r → ((x : A) → P x → Q x) → ((x : A) → Q x → P x) → Reads Q r
-reads_as P Q r h to from = grind arith
-
-pub reads_until : (text rest : List ℕ) (r : Option ℕ) → text ≡ codes "until < " ++ rest → Reads (SpellsMoment rest) r →
-    Reads (λ moment. SpellsCaveat text (Until moment)) r
-reads_until text rest r e h =
-    reads_as (SpellsMoment rest) (λ moment. SpellsCaveat text (Until moment)) r h
-    (λ n s. let is = spells-moment_text rest n s in record { real = is.1; spelling = e ∙ ap (λ (t : List ℕ). codes "until < " ++ t) is.0 })
-    (λ n s. rw (ap (drop 8) (sym e ∙ s.spelling)) (moment_text-spells n s.real))
-
 pub too_many_guests : (text rest : List ℕ) (n : ℕ) → text ≡ codes "guests <= " ++ rest → SpellsNumber rest n → 49 < n → (x : ℕ) → SpellsCaveat text (Guests x)
     → ⊥
 too_many_guests text rest n e s large x h = grind (arith, common_steps, decimal_injective)
@@ -250,9 +247,9 @@ pub dates_of : (text rest : List ℕ) (a b : ℕ) → text ≡ codes "days = " +
 unfolding day_text
 dates_of text rest a b e h = grind (arith, common_steps, h.spelling)
 
-pub no_first_day : (text rest front : List ℕ) → text ≡ codes "days = " ++ rest → front ≡ take 10 rest → ((n : ℕ) → SpellsDay front n → ⊥) → (x : ℕ × ℕ) →
-    SpellsCaveat text (Days x.0 x.1) → ⊥
-no_first_day text rest front e front_is never x h = never x.0 (rw (front_is, (dates_of text rest x.0 x.1 e h).first) (day_text-spells x.0 h.real.0))
+pub no_first_day : IsTextOfDay → (text rest front : List ℕ) → text ≡ codes "days = " ++ rest → front ≡ take 10 rest → ((n : ℕ) → SpellsDay front n → ⊥) →
+    (x : ℕ × ℕ) → SpellsCaveat text (Days x.0 x.1) → ⊥
+no_first_day texts text rest front e front_is never x h = never x.0 ((texts front x.0).1 (h.real.0, front_is ∙ (dates_of text rest x.0 x.1 e h).first))
 
 pub no_dots : (text rest back : List ℕ) → text ≡ codes "days = " ++ rest → back ≡ drop 10 rest → ((last : List ℕ) → back ≡ codes ".." ++ last → ⊥) →
     (x : ℕ × ℕ) → SpellsCaveat text (Days x.0 x.1) → ⊥
@@ -262,26 +259,26 @@ second_is : (text rest back last : List ℕ) (a b : ℕ) → text ≡ codes "day
     SpellsCaveat text (Days a b) → last ≡ day_text b
 second_is text rest back last a b e back_is dots h = ap (drop 2) (sym dots ∙ (back_is ∙ (dates_of text rest a b e h).second))
 
-pub no_second_day : (text rest back last : List ℕ) → text ≡ codes "days = " ++ rest → back ≡ drop 10 rest → back ≡ codes ".." ++ last →
+pub no_second_day : IsTextOfDay → (text rest back last : List ℕ) → text ≡ codes "days = " ++ rest → back ≡ drop 10 rest → back ≡ codes ".." ++ last →
     ((n : ℕ) → SpellsDay last n → ⊥) → (x : ℕ × ℕ) → SpellsCaveat text (Days x.0 x.1) → ⊥
-no_second_day text rest back last e back_is dots never x h =
-    never x.1 (rw (second_is text rest back last x.0 x.1 e back_is dots h) (day_text-spells x.1 h.real.1))
+no_second_day texts text rest back last e back_is dots never x h =
+    never x.1 ((texts last x.1).1 (h.real.1, second_is text rest back last x.0 x.1 e back_is dots h))
 
-pub spells_days : (text rest front back last : List ℕ) (a b : ℕ) → text ≡ codes "days = " ++ rest → front ≡ take 10 rest → back ≡ drop 10 rest →
+pub spells_days : IsTextOfDay → (text rest front back last : List ℕ) (a b : ℕ) → text ≡ codes "days = " ++ rest → front ≡ take 10 rest → back ≡ drop 10 rest →
     back ≡ codes ".." ++ last → SpellsDay front a → SpellsDay last b → a ≤ b → SpellsCaveat text (Days a b)
-spells_days text rest front back last a b e front_is back_is dots s t le =
-    let first = spells-day_text front a s in
-    let second = spells-day_text last b t in
+spells_days texts text rest front back last a b e front_is back_is dots s t le =
+    let first = (texts front a).0 s in
+    let second = (texts last b).0 t in
     let both : front ++ back ≡ rest = rw (front_is, back_is) (take-append-drop 10 rest) in
-    record { real = (s.within, t.within, le); spelling = rw (e, ← both, dots, first, second) refl }
+    record { real = (first.0, second.0, le); spelling = rw (e, ← both, dots, first.1, second.1) refl }
 
-pub days_fall : (text rest front back last : List ℕ) (a b : ℕ) → text ≡ codes "days = " ++ rest → front ≡ take 10 rest → back ≡ drop 10 rest →
-    back ≡ codes ".." ++ last → SpellsDay front a → SpellsDay last b → b < a → (x : ℕ × ℕ) → SpellsCaveat text (Days x.0 x.1) → ⊥
-days_fall text rest front back last a b e front_is back_is dots s t lt x h =
-    let first : day_text a ≡ day_text x.0 = sym (spells-day_text front a s) ∙ (front_is ∙ (dates_of text rest x.0 x.1 e h).first) in
-    let second : day_text b ≡ day_text x.1 = sym (spells-day_text last b t) ∙ second_is text rest back last x.0 x.1 e back_is dots h in
-    let same_first = day_text_injective a x.0 [] [] s.within h.real.0 (ap (λ (d : List ℕ). d ++ []) first) in
-    let same_second = day_text_injective b x.1 [] [] t.within h.real.1 (ap (λ (d : List ℕ). d ++ []) second) in
+pub days_fall : IsTextOfDay → DistinctDayTexts → (text rest front back last : List ℕ) (a b : ℕ) → text ≡ codes "days = " ++ rest → front ≡ take 10 rest →
+    back ≡ drop 10 rest → back ≡ codes ".." ++ last → SpellsDay front a → SpellsDay last b → b < a → (x : ℕ × ℕ) → SpellsCaveat text (Days x.0 x.1) → ⊥
+days_fall texts distinct text rest front back last a b e front_is back_is dots s t lt x h =
+    let first = (texts front a).0 s in
+    let second = (texts last b).0 t in
+    let same_first = distinct a x.0 first.0 h.real.0 (sym first.1 ∙ (front_is ∙ (dates_of text rest x.0 x.1 e h).first)) in
+    let same_second = distinct b x.1 second.0 h.real.1 (sym second.1 ∙ second_is text rest back last x.0 x.1 e back_is dots h) in
     absurd (omega (arith, h.real.2))
 
 pub no_line : (text : List ℕ) → ((x : List (List ℕ)) → SpellsCaveat text (Facility x) → ⊥) → ((x : AKind) → SpellsCaveat text (Kind x) → ⊥) →

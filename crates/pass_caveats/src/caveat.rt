@@ -8,6 +8,7 @@ ghost use Rattle.pass_caveats.specs.computed.CaveatOf.{caveat_of};
 
 use crate::actions::Actions;
 use crate::ask::Ask;
+use crate::laws::reads_what_is_understood;
 use crate::lines::{
     read_actions, read_days, read_facility, read_guests, read_hours, read_kind, read_spend,
     read_until, read_weekdays,
@@ -100,6 +101,8 @@ pub fn read(bytes: &[u8]) -> Option<Caveat<'_>>
     ensures understood { Reads (Understood bytes.now) result }
     ensures function { result ≡ caveat_of bytes.now }
 {
+    // By this law, `caveat_of` returns a caveat if and only if the text is understood as it.
+    reads_what_is_understood();
     short_line_of(bytes)
 }
 
@@ -149,6 +152,7 @@ pub fn looks_at_kind(text: &[u8]) -> bool
     ensures blind { result ≡ false → IsBlindToKind text.now }
     ensures off_kind { IsBlindToKind text.now → result ≡ false }
 {
+    reads_what_is_understood();
     match read(text) {
         Some(caveat) => caveat.is_on_kind(),
         None => false,

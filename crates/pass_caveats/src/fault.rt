@@ -6,6 +6,7 @@ ghost use Rattle.pass_caveats.specs.{Fault.first_fault_of, computed.CaveatOf.cav
 
 use crate::ask::Ask;
 use crate::caveat::{allows, read};
+use crate::laws::reads_what_is_understood;
 use std::error::Error;
 use std::fmt;
 
@@ -56,6 +57,8 @@ pub fn fault_at(text: &[u8], number: usize, ask: &Ask) -> Option<CaveatFault>
     ensures cases { IsFaultAt text.now number ask.now result }
     ensures function { result ≡ first_fault_from number (caveat_of text.now ∷ []) ask.now }
 {
+    // By this law, the fault of a text is the fault of the caveat that `caveat_of` returns.
+    reads_what_is_understood();
     fault_of_text(text, number, ask)
 }
 
@@ -77,5 +80,6 @@ pub fn first_fault(caveats: &[Vec<u8>], ask: &Ask) -> Option<CaveatFault>
     ensures first { IsFirstFault (map vec_items caveats.now) ask.now result }
     ensures function { result ≡ first_fault_of (map caveat_of (map vec_items caveats.now)) ask.now }
 {
+    reads_what_is_understood();
     fault_of(caveats, ask)
 }

@@ -9,6 +9,7 @@ use crate::actions::Actions;
 use crate::names::Names;
 use crate::weekdays::Weekdays;
 use club_values::digits::{read_number, read_two};
+use club_values::laws::{distinct_day_texts, is_text_of_day, is_text_of_moment};
 use club_values::{Day, HOURS_A_DAY, Kind, MAX_GUESTS, Moment};
 
 /// Returns the bytes that follow `word` in `text`, or `None` if `text` doesn't begin with `word`.
@@ -49,6 +50,9 @@ pub(crate) fn read_hours(text: &[u8]) -> Option<(u8, u8)>
 pub(crate) fn read_days(text: &[u8]) -> Option<(Day, Day)>
     ensures { Reads (λ days. SpellsCaveat text.now (caveats.Days days.0 days.1)) result }
 {
+    // By these laws, each day has exactly one text, and different days have different texts.
+    is_text_of_day();
+    distinct_day_texts();
     let rest = after(text, b"days = ")?;
     if rest.len() < 10 {
         return None;
@@ -72,6 +76,8 @@ pub(crate) fn read_weekdays(text: &[u8]) -> Option<Weekdays>
 pub(crate) fn read_until(text: &[u8]) -> Option<Moment>
     ensures { Reads (λ moment. SpellsCaveat text.now (caveats.Until moment)) result }
 {
+    // By this law, each moment has exactly one text.
+    is_text_of_moment();
     Moment::read(after(text, b"until < ")?)
 }
 

@@ -6,6 +6,7 @@ ghost use Rattle.pass_caveats.specs.Spending.{HoldsWithin, slack_under};
 use crate::ask::Ask;
 use crate::caveat::{Caveat, allows, read};
 use crate::fault::CaveatFault;
+use crate::laws::is_understood_once;
 
 /// The fault of a caveat for a key that has spent nothing. The fault stays the same while the key
 /// has spent at most `slack` points.
@@ -24,6 +25,8 @@ pub struct Unspent {
 pub fn unspent_at(text: &[u8], number: usize, ask: &Ask) -> Unspent
     ensures { HoldsWithin text.now number ask.now result.fault result.slack }
 {
+    // By this law, a text is understood as at most one caveat.
+    is_understood_once();
     let Some(caveat) = read(text) else {
         return Unspent {
             fault: Some(CaveatFault::NotUnderstood(number)),

@@ -1,5 +1,5 @@
 use Rattle.pass_caveats.proofs.lines.read_until.Goals as goal
-use Rattle.pass_caveats.proofs.ChoiceLemmas.{reads_until}
+use Rattle.std.proofs.{Common.arith, lemmas.Grind.common_steps}
 
 pub returns : goal.returns
-returns c = reads_until c.args.text.now c.in_ok-after.field-0.now c.read.result c.in_ok-after.ensures c.read.ensures.spelled
+returns c = grind (arith, common_steps, c.is_text_of_moment.ensures c.in_ok-after.field-0.now)
