@@ -145,7 +145,7 @@ const END: &str = "\nTotal bookings 120, persons 120, charge 0\n";
 /// The sheet has a line of 76 bytes for each booking.
 fn prints_all<S: ClubStore>(rt: &impl Host, desk: &mut Desk<S>) {
     let sheet = desk.sheet(day(rt, "2026-05-01")).expect(rt, "a sheet");
-    expect_eq(rt, sheet.len(), (21 + 120 * 76 + 42));
+    expect_eq(rt, sheet.len(), 21 + 120 * 76 + 42);
     expect_eq(rt, sheet.starts_with(HEAD), true);
     expect_eq(rt, sheet.ends_with(END), true);
 }

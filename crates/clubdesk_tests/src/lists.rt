@@ -51,7 +51,7 @@ fn pass_text(rt: &HostRuntime, asking: Asking) -> Result<String, Fail> {
     Ok(write_any(rt.alloc(), asking.form, &pass)?)
 }
 
-// Returns `front`, the slot and `end`.
+// Returns `front`, the slot and `end`. The slot has `between` between its parts.
 fn words_at(
     rt: &HostRuntime,
     front: &str,

@@ -259,7 +259,7 @@ fn expect_court<C: ClubStore>(rt: &impl Host, store: &mut C, row: usize, seen: &
 /// The next day must have no booking.
 fn expect_days<C: ClubStore>(rt: &impl Host, store: &mut C, row: usize, seen: &Seen) {
     let rows = store.day(day(rt, "2026-05-01")).expect(rt, "a day");
-    expect_row(rt, row, (rows.len() as u64), seen.open);
+    expect_row(rt, row, rows.len() as u64, seen.open);
     let first = match seen.open {
         0 => None,
         _ => booked(rt, seen.seventh),
