@@ -70,9 +70,14 @@ fn is_refused_cut_short(rt: &impl Host, text: &str) {
     }
 }
 
+fn are_refused_cut_short(rt: &impl Host, texts: &[&str]) {
+    for text in texts {
+        is_refused_cut_short(rt, text);
+    }
+}
+
 #[test]
 fn refuses_texts_cut_short(rt: HostRuntime) {
-    for text in KNOWN.iter().chain(EXAMPLE.iter()) {
-        is_refused_cut_short(&rt, text);
-    }
+    are_refused_cut_short(&rt, &KNOWN);
+    are_refused_cut_short(&rt, &EXAMPLE);
 }

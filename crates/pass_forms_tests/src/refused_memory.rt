@@ -24,14 +24,15 @@ fn written_text(rt: &impl Host, form: Form, pass: &Pass) -> String {
 }
 
 pub(crate) fn is_written(rt: &impl Host, pass: &Pass, texts: &[&str; 3]) {
-    for (form, text) in FORMS.iter().zip(texts) {
-        expect_eq(rt, written_text(rt, *form, pass).as_str(), *text, form);
+    for (place, form) in FORMS.iter().enumerate() {
+        let text = written_text(rt, *form, pass);
+        expect_eq(rt, text.as_str(), texts[place], form);
     }
 }
 
 pub(crate) fn convert(rt: &impl Host, texts: &[&str; 3]) {
-    for (form, text) in FORMS.iter().zip(texts) {
-        is_written(rt, &read_in(rt, *form, text), texts);
+    for (place, form) in FORMS.iter().enumerate() {
+        is_written(rt, &read_in(rt, *form, texts[place]), texts);
     }
 }
 

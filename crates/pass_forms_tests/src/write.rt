@@ -37,8 +37,8 @@ fn expect_text(rt: &impl Host, form: Form, pass: &Pass, want: &str) {
 #[test]
 fn answers_with_ample_memory(rt: HostRuntime) {
     let pass = known_pass(&rt);
-    for (form, text) in FORMS.iter().zip(&KNOWN) {
-        expect_text(&rt, *form, &pass, text);
+    for (place, form) in FORMS.iter().enumerate() {
+        expect_text(&rt, *form, &pass, KNOWN[place]);
     }
 }
 
