@@ -8,9 +8,12 @@ byte a second. A fourth client never reads its reply, and a fifth stays connecte
 by 1 to 100,000 more bytes, and 1,000 heads of 100,000 bytes. Half of these requests and heads come in two pieces. Then clients send requests in
 three, four and six pieces, with a Content-Length or in chunks. During 100 more requests, the test suspends and resumes the server.
 
-Each client sends all its bytes before it reads, as Python's HTTP clients do. A client gives up if it can't send its bytes.
+Each client sends all its bytes before it reads, as Python's HTTP clients do. A client gives up if it can't send its bytes. After it refused a request,
+the server closes the connection once no byte has come for 200 milliseconds. On a busy machine, a client may be late with a piece. Such a client may
+lose its reply, but at most a tenth of the clients may be late.
 """
 
+import itertools
 import os
 import signal
 import socket
@@ -24,6 +27,7 @@ from kinds import Row, account, slot
 pytestmark = [pytest.mark.faults, pytest.mark.needs("clubdesk")]
 
 PATIENCE, COUNT = 2, 1000
+WAIT = 0.2  # the longest time between two pieces
 REQUEST = account().data
 
 
@@ -39,13 +43,27 @@ def connected(server):
     return client
 
 
-def replied(server, pieces, pause):
-    """Sends pieces with a pause between them, then reads the reply."""
+def replied(server, data):
     with connected(server) as client:
-        for place, piece in enumerate(pieces):
-            time.sleep(pause if place else 0)
-            client.sendall(piece)
+        client.sendall(data)
         return desk.read(client)
+
+
+def is_late(server, pieces, pause, wanted):
+    """Sends pieces with a pause between them, and expects the reply. Returns whether a piece was so late that the client may have lost the reply."""
+    reply, times = None, [time.monotonic()]
+    with connected(server) as client:
+        try:
+            for place, piece in enumerate(pieces):
+                time.sleep(pause if place else 0)
+                client.sendall(piece)
+                times.append(time.monotonic())
+            reply = desk.read(client)
+        except ConnectionError:
+            times.append(time.monotonic())
+    late = any(after - before >= WAIT for before, after in itertools.pairwise(times))
+    assert late or reply == wanted
+    return late
 
 
 def cut(text, count):
@@ -62,7 +80,7 @@ def test_client_behind_one_that_dawdles(patient, dawdle, least, most):
     with patient(2) as server, connected(server) as client:
         began = time.monotonic()
         client.sendall(dawdle)
-        assert replied(server, [REQUEST], 0) == account().wanted
+        assert replied(server, REQUEST) == account().wanted
         assert least <= time.monotonic() - began <= most
 
 
@@ -73,7 +91,7 @@ def test_client_of_a_byte_a_second_is_cut_off(patient):
             began = time.monotonic()
             desk.drip(client, REQUEST[:3 * PATIENCE])
             assert time.monotonic() - began <= PATIENCE + 3
-        assert replied(server, [REQUEST], 0) == account().wanted
+        assert replied(server, REQUEST) == account().wanted
 
 
 @pytest.mark.parametrize("data_of, wanted", [
@@ -82,8 +100,8 @@ def test_client_of_a_byte_a_second_is_cut_off(patient):
     ids=["bytes after requests", "heads of 100,000 bytes"])
 def test_all_is_sent_before_it_is_read(patient, data_of, wanted):
     with patient(COUNT) as server:
-        for place in range(COUNT):
-            assert replied(server, cut(data_of(place), 1 + place % 2), 0.002) == wanted
+        late = sum(is_late(server, cut(data_of(place), 1 + place % 2), 0.002, wanted) for place in range(COUNT))
+    assert late <= COUNT // 10
 
 
 @pytest.mark.parametrize("count", [3, 4, 6])
@@ -94,13 +112,15 @@ def test_requests_in_pieces(patient, count):
     without = b"\r\n".join(line for line in head.split(b"\r\n") if not line.startswith(b"Content-Length"))
     chunks = b"".join(b"%x\r\n%s\r\n" % (len(part), part) for part in cut(body, count)) + b"0\r\n\r\n"
     bad = Row().gets(1).wanted
-    with patient(800) as server:
-        for i in range(200):
-            pause = (0.001, 0.005, 0.02, 0.05)[i % 4]
-            assert replied(server, cut(row.data, count), pause) == row.wanted
-            assert replied(server, [head, *cut(body, count - 1)], pause) == row.wanted
-            assert replied(server, [without[:-2] + b"Transfer-Encoding: chunked\r\n\r\n", *cut(chunks, count - 1)], pause) == bad
-            assert replied(server, cut(without[:-2] + b"Content-Length: 1000\r\n\r\n" + b"x" * 1000, count), pause) == bad
+    sent = [
+        (cut(row.data, count), row.wanted),
+        ([head, *cut(body, count - 1)], row.wanted),
+        ([without[:-2] + b"Transfer-Encoding: chunked\r\n\r\n", *cut(chunks, count - 1)], bad),
+        (cut(without[:-2] + b"Content-Length: 1000\r\n\r\n" + b"x" * 1000, count), bad),
+    ]
+    with patient(4 * 200) as server:
+        late = sum(is_late(server, pieces, pause, wanted) for pause in 50 * (0.001, 0.005, 0.02, 0.05) for pieces, wanted in sent)
+    assert late <= 4 * 200 // 10
 
 
 def test_server_that_is_stopped_and_goes_on(patient):
