@@ -133,9 +133,10 @@ fn shows_the_night_of_each_winter_and_summer(rt: HostRuntime) {
 }
 
 fn shows_changes(rt: &impl Runtime, month: &str, days: &[u8], before: &str, after: &str) {
-    for (year, day) in (2000..2100).zip(days) {
-        shows(rt, (year, month, *day), 3_599, before);
-        shows(rt, (year, month, *day), 3_600, after);
+    for year in 2000..2100u16 {
+        let day = *days.get(usize::from(year - 2000)).expect(rt, "a day");
+        shows(rt, (year, month, day), 3_599, before);
+        shows(rt, (year, month, day), 3_600, after);
     }
 }
 
