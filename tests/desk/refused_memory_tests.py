@@ -31,9 +31,8 @@ OPENINGS = "store_in_memory databases_in_memory new_file files_of_each_version"
 # The tests of each crate. If a name has no module, its test is in the module `refused_memory`.
 TESTS = {
     "pass_forms_tests": "known_passes",
-    "club_gate_tests": " ".join(["commands ask_in_each_form run_in_each_form",
-                                 *(f"store::refused_memory::{it}" for it in OPENINGS.split())]),
-    "end_to_end_tests": "exchange_in_each_form faults_of_bytes",
+    "club_gate_tests": " ".join(["commands ask_in_each_form run_in_each_form", *(f"store::refused_memory::{it}" for it in OPENINGS.split()),
+                                 *(f"exchanges::refused_memory::{it}" for it in ("exchange_in_each_form", "faults_of_bytes"))]),
     "club_http_tests": "bodies::refused_memory counted::refused_memory",
 }
 FAULT = r"([A-Za-z]+\()*((OutOf)?Memory|AllocError|AllocFailed \{ \.\. \}|Os \{ code: 12, kind: OutOfMemory, .*\})\)*"

@@ -24,14 +24,14 @@ import scenario_rows as rows
 from rust_tables import CRATES
 from scenario_rows import Differs
 
-TESTS = ("club_core_tests", "club_gate_tests", "club_http_tests", "end_to_end_tests", "clubdesk_tests", "command_line_tests", "pass_forms_tests")
+TESTS = ("club_core_tests", "club_gate_tests", "club_http_tests", "clubdesk_tests", "command_line_tests", "pass_forms_tests")
 
 # ---- the reader for each table
 
 READERS = {
     "club_gate_tests/long": {"TEXTS": lambda value: [rows.of_spaced(rows.join(it).decode()) for it in value]},
     "club_http_tests/bodies": {"LONGEST": lambda value: [rows.decodes(rows.join(value), ("book", ("court-1", 20574, 18), 7, 2))]},
-    "end_to_end_tests/tasks": dict.fromkeys(("BOOKS", "EXCHANGES", "CANCELS", "BOOKS_AND_CANCELS", "ADDS_A_KEY", "CLOSES", "OPENS",
+    "club_gate_tests/crashes/tasks": dict.fromkeys(("BOOKS", "EXCHANGES", "CANCELS", "BOOKS_AND_CANCELS", "ADDS_A_KEY", "CLOSES", "OPENS",
                                              "SETS_A_QUOTA", "DEBITS", "SETS_A_FACILITY", "CANCELS_FOR_A_MEMBER", "ROTATES", "MAKES_TABLES", "MIGRATES",
                                              "ADDS_THE_INDEX"), rows.of_crash),
     "clubdesk_tests/commands": {"PASSES_OF_KEYS": rows.of_runs},
@@ -54,10 +54,10 @@ STAYS = {
     "club_http_tests/heads": "whether the received bytes are complete", "club_http_tests/bodies": "bytes after a request, in loops",
     "club_http_tests/counted": "counted calls of readers and writers", "club_http_tests/server": "sockets, clocks, logs and the door",
     "club_http_tests/replies": "the rest of the buffer after a reply",
-    "end_to_end_tests/failing_ends": "readers and writers that fail, and truncated input", "end_to_end_tests/refused_memory": "refused memory",
-    "end_to_end_tests/fixture": "requests after a failure",
-    "end_to_end_tests/desk": "the club that the crashes begin with", "end_to_end_tests/tables": "the statements that read the tables",
-    "end_to_end_tests/torn": "ways that a write can be torn",
+    "club_gate_tests/exchanges/failing_ends": "readers and writers that fail, and truncated input", "club_gate_tests/exchanges/refused_memory": "refused memory",
+    "club_gate_tests/exchanges/fixture": "requests after a failure",
+    "club_gate_tests/crashes/desk": "the club that the crashes begin with", "club_gate_tests/crashes/tables": "the statements that read the tables",
+    "club_gate_tests/crashes/torn": "ways that a write can be torn",
     "clubdesk_tests": "runs of the program: the door, logs, clocks, odd files, input and refused output",
     "clubdesk_tests/commands": "shapes of arguments",
     "command_line_tests": "arguments of the programs, and passtool's reports", "pass_forms_tests": "readers and writers of passes",

@@ -1,5 +1,6 @@
 //! Assertions, and the runtime of a test.
 
+use std::alloc::AllocError;
 use std::fmt::Debug;
 use std::process::Abort;
 
@@ -20,4 +21,24 @@ pub(crate) fn expect_row<T: PartialEq + Debug + Copy>(
     want: T,
 ) {
     assert_eq!(rt; returned, want, "row {row:?}");
+}
+
+pub(crate) fn expect_text(rt: &impl Abort, case: &str, returned: &str, want: &str) {
+    expect_row(rt, case, returned, want);
+}
+
+pub(crate) fn expect_lines(rt: &impl Abort, case: &str, returned: &[String], want: &[String]) {
+    expect_row(rt, case, returned, want);
+}
+
+pub(crate) fn push<T: Drop>(rt: &impl Abort, values: &mut Vec<T>, value: T) {
+    values.push(value).expect(rt, "memory");
+}
+
+pub(crate) fn append(rt: &impl Abort, lines: &mut Vec<String>, mut more: Vec<String>) {
+    lines.append(&mut more).expect(rt, "memory");
+}
+
+pub(crate) fn text(rt: &impl Abort, text: Result<String, AllocError>) -> String {
+    text.expect(rt, "memory")
 }

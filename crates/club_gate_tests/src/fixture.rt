@@ -32,8 +32,11 @@ pub(crate) fn answer<S: ClubStore>(
 }
 
 pub(crate) fn carry_out<S: ClubStore>(rt: &impl Host, desk: &mut Desk<S>, plain: PlainCommand) {
-    let answer = answer(rt, desk, plain);
-    expect_eq(rt, matches!(answer, OfficeReply::Refused(_)), false);
+    let fault = match answer(rt, desk, plain) {
+        OfficeReply::Refused(fault) => Some(fault),
+        _ => None,
+    };
+    expect_eq(rt, fault, None);
 }
 
 pub(crate) fn furnish<S: ClubStore>(rt: &impl Host, mut desk: Desk<S>) -> Desk<S> {

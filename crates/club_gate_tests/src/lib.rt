@@ -1,7 +1,11 @@
-//! Tests of the tables, of the store over them, and of the desk over tables in memory. The
-//! scenarios test the replies to single requests and commands.
+//! Tests of the tables, of the store over them, of the desk over tables in memory, of exchanges
+//! that fail, and of crashes. The scenarios test the replies to single requests and commands.
 #![tactic(auto)]
 
+#[cfg(test)]
+mod crashes;
+#[cfg(test)]
+mod exchanges;
 #[cfg(test)]
 mod expect;
 #[cfg(test)]

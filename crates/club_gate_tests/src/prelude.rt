@@ -1,8 +1,8 @@
 //! The names that most of the tests use.
 
-pub(crate) use crate::expect::{Host, expect_eq, expect_row};
+pub(crate) use crate::expect::{Host, expect_eq, expect_row, push};
 pub(crate) use crate::fixture::{Fixture, answer, carry_out, furnish, play, replied, reply};
-pub(crate) use crate::values::{at, command, day, moment, name, push, request, root, slot};
+pub(crate) use crate::values::{at, command, day, moment, name, request, root, slot};
 pub(crate) use club_core::{ClubStore, OfficeFault, Refusal, Reply, StoreFault};
 pub(crate) use club_gate::{Desk, Fault, OfficeReply};
 pub(crate) use club_store::Store;

@@ -50,8 +50,9 @@ impl<S: ClubStore> Refusing<S> {
 
     pub fn expect_calls(&self, rt: &impl Host, row: usize, want: &[Call]) {
         expect_row(rt, row, self.calls, want.len());
-        for (call, noted) in want.iter().zip(&self.noted) {
-            expect_row(rt, row, *noted, Some(*call));
+        for (place, call) in want.iter().enumerate() {
+            let noted = self.noted.get(place).copied();
+            expect_row(rt, row, noted, Some(Some(*call)));
         }
     }
 

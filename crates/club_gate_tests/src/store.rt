@@ -2,7 +2,7 @@
 
 mod changes;
 mod databases;
-mod files;
+pub(crate) mod files;
 mod limits;
 mod listing;
 mod refused_memory;

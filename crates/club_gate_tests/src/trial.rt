@@ -2,8 +2,9 @@
 
 use crate::passes::text_of_asking;
 use crate::prelude::*;
+use crate::values::office_reply;
 use club_core::OfficeAnswer;
-use club_gate::{Event as SentEvent, EventReply, Words as SentWords, key_signature};
+use club_gate::{Event as SentEvent, EventReply, Words as SentWords};
 use club_reference::{Club, Words};
 use test_kit::drawn::{AMY, Asking, BEGINNING, Event};
 use test_kit::signed_pass;
@@ -47,7 +48,8 @@ fn texts_of(rt: &impl Host, events: &[Event]) -> Vec<String> {
 
 fn sent_events<'a>(rt: &impl Host, events: &[Event], texts: &'a [String]) -> Vec<SentEvent<'a>> {
     let mut sent = Vec::new(rt.alloc());
-    for (event, text) in events.iter().zip(texts) {
+    for (place, event) in events.iter().enumerate() {
+        let text = texts.get(place).expect(rt, "a text");
         push(rt, &mut sent, sent_event(rt, event, text.as_str()));
     }
     sent
@@ -67,16 +69,6 @@ fn desk_reply<S: ClubStore>(rt: &impl Host, desk: &mut Desk<S>, asking: &Asking)
     reply(rt, desk, asking.moment, text.as_bytes(), asking.asked)
 }
 
-fn desk_answer(answer: &OfficeAnswer) -> OfficeReply {
-    match *answer {
-        OfficeAnswer::Done => OfficeReply::Done,
-        OfficeAnswer::NewKey { name, root } => OfficeReply::Key {
-            signature: key_signature(&name, &root),
-        },
-        OfficeAnswer::NotDone(fault) => OfficeReply::Refused(Fault::from(fault)),
-    }
-}
-
 fn office_answer(rt: &impl Host, club: &mut Club, plain: &PlainCommand) -> OfficeAnswer {
     club.office(&command(rt, *plain)).expect(rt, "memory")
 }
@@ -88,7 +80,7 @@ fn event_reply(rt: &impl Host, reference: &mut Club, event: &Event) -> EventRepl
             EventReply::Replied(reply.expect(rt, "memory"))
         }
         Event::Commanded(plain) => {
-            EventReply::Answered(desk_answer(&office_answer(rt, reference, plain)))
+            EventReply::Answered(office_reply(&office_answer(rt, reference, plain)))
         }
     }
 }
@@ -147,7 +139,7 @@ impl<S: ClubStore> Trial<S> {
     fn give(&mut self, rt: &impl Host, plain: &PlainCommand) {
         let want = office_answer(rt, &mut self.reference, plain);
         let returned = answer(rt, &mut self.desk, *plain);
-        expect_eq(rt, returned, desk_answer(&want));
+        expect_eq(rt, returned, office_reply(&want));
         if matches!(want, OfficeAnswer::NotDone(_)) || !self.is_own(plain) {
             return;
         }

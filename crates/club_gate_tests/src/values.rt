@@ -1,7 +1,8 @@
 //! Typed values that tests make from plain values.
 
 use crate::expect::Host;
-use club_core::{Command, Request};
+use club_core::{Command, OfficeAnswer, Request};
+use club_gate::{Fault, OfficeReply, key_signature};
 use club_rows::{Booking, BookingNumber, Root};
 use club_values::{Day, Moment, Name, Slot};
 use test_kit::{PlainBooking, PlainCommand, PlainRequest, PlainSlot};
@@ -51,6 +52,13 @@ pub(crate) fn command(rt: &impl Host, plain: PlainCommand) -> Command {
     plain.command().expect(rt, "a command")
 }
 
-pub(crate) fn push<T: Drop>(rt: &impl Host, values: &mut Vec<T>, value: T) {
-    values.push(value).expect(rt, "memory");
+/// Returns the desk's reply for the answer of the reference machine.
+pub(crate) fn office_reply(answer: &OfficeAnswer) -> OfficeReply {
+    match *answer {
+        OfficeAnswer::Done => OfficeReply::Done,
+        OfficeAnswer::NewKey { name, root } => OfficeReply::Key {
+            signature: key_signature(&name, &root),
+        },
+        OfficeAnswer::NotDone(fault) => OfficeReply::Refused(Fault::from(fault)),
+    }
 }

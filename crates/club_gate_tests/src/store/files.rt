@@ -22,11 +22,11 @@ pub enum Left {
     Nothing,
 }
 
-pub fn path_of(host: &HostRuntime) -> Result<String, Fail> {
+pub fn path_of(host: &HostRuntime, name: &str) -> Result<String, Fail> {
     let folder = env::temp_dir(host)?;
     let folder = folder.as_str();
     let id = process::id(host.process());
-    Ok(format!(in host.alloc(); "{folder}/club-{id}")?)
+    Ok(format!(in host.alloc(); "{folder}/club-{name}-{id}")?)
 }
 
 /// Removes a file and its log.
@@ -122,7 +122,7 @@ impl FileWork for Reopening<'_> {
 #[test]
 fn a_held_file(rt: HostRuntime) -> Result<(), Fail> {
     let rt = &rt;
-    let path = path_of(rt)?;
+    let path = path_of(rt, "file")?;
     let path = path.as_str();
     let second = Reopening { host: rt, path };
     expect_eq(rt, do_in_file(rt, rt, path, &second), Ok(()));
@@ -141,7 +141,7 @@ static NINTH: [&str; 1] = ["UPDATE desk SET version = 9"];
 #[test]
 fn a_file_of_refused_tables(rt: HostRuntime) -> Result<(), Fail> {
     let rt = &rt;
-    let path = path_of(rt)?;
+    let path = path_of(rt, "file")?;
     let path = path.as_str();
     make_file(rt, rt, path, &[&STATEMENTS, &NINTH]);
     expect_left(rt, rt, path, Some(Left::Open(Some(2))));

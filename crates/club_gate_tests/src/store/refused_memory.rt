@@ -64,14 +64,14 @@ fn opens_at(host: &HostRuntime, rt: &impl Host, path: &str, contents: Contents) 
 
 #[test]
 fn new_file(rt: HostRuntime) -> Result<(), Fail> {
-    let path = path_of(&rt)?;
+    let path = path_of(&rt, "refused")?;
     opens_at(&rt, &rt, path.as_str(), Contents::Nothing);
     opens_at(&rt, &rt, path.as_str(), Contents::Nothing);
     remove(&rt, path.as_str())
 }
 
 fn opens_file(host: &HostRuntime, rt: &impl Host, contents: Contents) -> Result<(), Fail> {
-    let path = path_of(host)?;
+    let path = path_of(host, "opened")?;
     make_file(host, rt, path.as_str(), &contents.statements());
     opens_at(host, rt, path.as_str(), contents);
     remove(host, path.as_str())

@@ -1,8 +1,8 @@
 //! The tasks during which a file fails. The scenarios test the replies to these tasks.
 
-use crate::crash::Beginning::{self, First, Made, Nothing, Unindexed};
-use crate::crash::Trial;
-use crate::desk::Event::{self, Asks, Exchanges, Gives};
+use crate::crashes::crash::Beginning::{self, First, Made, Nothing, Unindexed};
+use crate::crashes::crash::Trial;
+use crate::crashes::desk::Event::{self, Asks, Exchanges, Gives};
 use test_kit::PlainCommand::{
     AddKey, CancelBooking, CloseSlot, Debit, OpenSlot, RotateKey, SetFacility, SetQuota,
 };

@@ -1,12 +1,12 @@
 //! Tasks over two files. Each task runs once for each call to a file, and the file fails at this
 //! call. The club must stay undamaged.
 
-use crate::desk::{Event, FIXTURE};
-use crate::disk::{Bytes, NEVER, Part, Stop, Stops};
-use crate::expect::{Host, append, expect_case, expect_lines, push};
-use crate::reference_club::{Version, lines_of, replies};
-use crate::torn::{Case, KEPT, LOST, changes_in, digest_of_left, left, tried_of};
-use crate::work::{Work, do_over};
+use crate::crashes::desk::{Event, FIXTURE};
+use crate::crashes::disk::{Bytes, NEVER, Part, Stop, Stops};
+use crate::crashes::reference_club::{Version, lines_of, replies};
+use crate::crashes::torn::{Case, KEPT, LOST, changes_in, digest_of_left, left, tried_of};
+use crate::crashes::work::{Work, do_over};
+use crate::expect::{Host, append, expect_lines, expect_row, push};
 use club_reference::Club;
 use sqlite::Files;
 use test_kit::exchanges::UNAVAILABLE;
@@ -77,14 +77,12 @@ fn after(rt: &impl Host, bytes: &Bytes, work: Work) -> Bytes {
 }
 
 fn alike(replies: &[String], wanted: &[String]) -> usize {
-    let mut alike = 0;
-    for (reply, text) in replies.iter().zip(wanted) {
-        if reply != text {
-            return alike;
+    for (place, reply) in replies.iter().enumerate() {
+        if wanted.get(place) != Some(reply) {
+            return place;
         }
-        alike = alike.saturating_add(1);
     }
-    alike
+    replies.len()
 }
 
 impl Trial {
@@ -146,7 +144,7 @@ impl Trial {
         expect_lines(rt, "the club before the task", &found, before);
         let log = crashes.calls_of(rt, Part::Log);
         let database = crashes.calls_of(rt, Part::Database);
-        expect_case(rt, "calls", [log, database], self.3);
+        expect_row(rt, "calls", [log, database], self.3);
     }
 }
 
@@ -170,7 +168,7 @@ impl Crashes<'_> {
         let done = alike(replies, &self.replies);
         if let Some(reply) = replies.get(done) {
             let has_failed = reply.as_str() == UNAVAILABLE || reply.as_str() == "storage failed";
-            expect_case(rt, reply.as_str(), has_failed, true);
+            expect_row(rt, reply.as_str(), has_failed, true);
         }
         Some(done)
     }
@@ -227,7 +225,7 @@ impl Crashes<'_> {
         self.expect_each_left(rt, done, &work.files, stop.calls as usize);
         let is_done = done == Some(self.trial.1.len());
         let is_done_or_stopped = is_done || !work.has_calls_left;
-        expect_case(rt, "done or stopped", is_done_or_stopped, true);
+        expect_row(rt, "done or stopped", is_done_or_stopped, true);
         work.has_calls_left
     }
 

@@ -2,9 +2,11 @@
 //! allocation in turn. If the refused allocation is outside the tested exchanges, the test ends
 //! with a report that memory ran out.
 
-use crate::expect::{Host, expect_case};
-use crate::fixture::{Fixture, KEPT, NOT_YET, Served, Step, play};
+use crate::exchanges::fixture::{KEPT, NOT_YET, Served, Step};
+use crate::expect::{Host, expect_row};
+use crate::fixture::{Fixture, play};
 use club_core::ClubStore;
+use club_http::Desk;
 use test_kit::exchanges::{ACCOUNT, BOOK_7, BOOKED_7, UNAVAILABLE};
 use test_kit::passes::{AMY_JSON, AMY_V1, AMY_V2};
 
@@ -14,20 +16,21 @@ use test_kit::passes::{AMY_JSON, AMY_V1, AMY_V2};
 struct Exchange(&'static str);
 
 impl Fixture for Exchange {
-    fn play<S: ClubStore>(&self, rt: &impl Host, front: &mut Served<S>) {
+    fn play<S: ClubStore + Drop>(&self, rt: &impl Host, desk: Desk<S>) {
+        let mut front = Served::new(rt, desk);
         let taker = front.reply_under(rt, self.0, BOOK_7);
         if taker.written_bytes() == UNAVAILABLE.as_bytes() {
             front.asks_in_turn(rt, self.0, &NOT_YET);
             return;
         }
-        expect_case(rt, BOOK_7, taker.written_bytes(), BOOKED_7.as_bytes());
+        expect_row(rt, BOOK_7, taker.written_bytes(), BOOKED_7.as_bytes());
         for Step(asked, want) in &KEPT {
             let taker = front.reply_under(rt, self.0, asked);
             // The refused allocation is in this later exchange, which isn't tested.
             if taker.written_bytes() == UNAVAILABLE.as_bytes() {
                 panic!(rt; "Memory");
             }
-            expect_case(rt, asked, taker.written_bytes(), want.as_bytes());
+            expect_row(rt, asked, taker.written_bytes(), want.as_bytes());
         }
     }
 }
@@ -72,10 +75,11 @@ static FAULTS: [(&str, &str); 4] = [
 struct Faults;
 
 impl Fixture for Faults {
-    fn play<S: ClubStore>(&self, rt: &impl Host, front: &mut Served<S>) {
+    fn play<S: ClubStore + Drop>(&self, rt: &impl Host, desk: Desk<S>) {
+        let mut front = Served::new(rt, desk);
         for (pass, want) in &FAULTS {
             let taker = front.reply_under(rt, pass, ACCOUNT);
-            expect_case(rt, pass, taker.written_bytes(), want.as_bytes());
+            expect_row(rt, pass, taker.written_bytes(), want.as_bytes());
         }
     }
 }

@@ -1,8 +1,8 @@
 //! The contents that a crash may leave: each change since the last sync is kept, lost or torn.
 
-use crate::disk::{Bytes, Stops};
+use crate::crashes::disk::{Bytes, Stops};
+use crate::crashes::recorded::{Change, Recorded, overwrite};
 use crate::expect::{Host, push};
-use crate::recorded::{Change, Recorded, overwrite};
 use sqlite::Files;
 use sqlite_disk::digest_of;
 

@@ -6,7 +6,7 @@ ghost use Rattle.std.specs.Prelude.{OnErr};
 ghost use Rattle.std.proofs.Common.{inl};
 ghost use Rattle.sqlite_disk.specs.{Disk.{Holds, Mixed, Cut, CountsFault}, History.MayLeave};
 ghost use Rattle.sqlite_disk.specs.Refusal.{finds_no_room};
-ghost use Rattle.end_to_end_tests.specs.Steps.{step_from};
+ghost use Rattle.club_gate_tests.specs.Steps.{step_from};
 
 use sqlite_disk::{Disk, Tally, digest_of};
 use std::alloc::{AllocError, Global};

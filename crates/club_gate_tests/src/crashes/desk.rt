@@ -1,12 +1,13 @@
 //! Events at a desk, and the texts of their replies.
 
 use crate::expect::{Host, expect_text, push, text};
+use crate::values::{command, moment};
 use club_core::{ClubStore, Reply};
 use club_gate::OfficeReply;
 use club_http::{
     Desk, Face, MAX_REPLY_LEN, ReadInlet, Routes, Words, WriteOutlet, answer, reply_bytes, words_of,
 };
-use club_values::{Kind, Moment};
+use club_values::Kind;
 use test_kit::PlainCommand;
 use test_kit::roots::ROOT;
 
@@ -30,10 +31,6 @@ pub(crate) static FIXTURE: [Event; 8] = [
     Event::Gives(PlainCommand::AddFacility("court-1", Kind::Court, 4, 200, 8, 22)),
     Event::Gives(PlainCommand::AddFacility("room-1", Kind::Room, 1, 601, 8, 22)),
 ];
-
-pub(crate) fn moment(rt: &impl Host, text: &str) -> Moment {
-    Moment::read(text.as_bytes()).expect(rt, "a moment")
-}
 
 pub(crate) fn reply_text(rt: &impl Host, reply: &Reply) -> String {
     let mut room = [0; MAX_REPLY_LEN];
@@ -72,15 +69,23 @@ fn exchange<S: ClubStore>(rt: &impl Host, desk: &mut Desk<S>, at: &str, bytes: &
 
 fn reply<S: ClubStore>(rt: &impl Host, desk: &mut Desk<S>, event: &Event) -> String {
     match event {
-        Event::Gives(plain) => {
-            let command = plain.command().expect(rt, "a command");
-            office_text(rt, &desk.office(&command))
-        }
+        Event::Gives(plain) => office_text(rt, &desk.office(&command(rt, *plain))),
         Event::Asks(at, bytes) => {
             let words = words_in(rt, bytes);
             reply_text(rt, &desk.ask(moment(rt, at), &words))
         }
         Event::Exchanges(at, bytes) => exchange(rt, desk, at, bytes),
+    }
+}
+
+fn add_replies<S: ClubStore>(
+    rt: &impl Host,
+    replies: &mut Vec<String>,
+    desk: &mut Desk<S>,
+    events: &[Event],
+) {
+    for event in events {
+        push(rt, replies, reply(rt, desk, event));
     }
 }
 
@@ -92,8 +97,7 @@ pub(crate) fn replies_over<S: ClubStore>(
 ) -> (Vec<String>, S) {
     let mut desk = Desk::new(rt.alloc(), store);
     let mut replies = Vec::new(rt.alloc());
-    for event in events.iter().chain(then) {
-        push(rt, &mut replies, reply(rt, &mut desk, event));
-    }
+    add_replies(rt, &mut replies, &mut desk, events);
+    add_replies(rt, &mut replies, &mut desk, then);
     (replies, desk.into_store())
 }

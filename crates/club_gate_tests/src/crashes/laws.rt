@@ -1,5 +1,6 @@
 //! Calls the laws of crashes for stores over two real files and for a store in memory.
 
+use crate::store::files::{path_of, remove};
 use club_store::Store;
 use club_store::laws::{files_hold_one_of, memory_disk_is_clean, one_club_recovered};
 use desk_theorem::served_survives_a_crash;
@@ -7,21 +8,6 @@ use sqlite::{FileFrom, FileStore, Start, Unknown};
 use sqlite_disk::Disk;
 use std::process::Abort;
 use std::test::Fail;
-use std::{env, fs, process};
-
-fn new_path(rt: &HostRuntime, name: &str) -> Result<String, Fail> {
-    let folder = env::temp_dir(rt)?;
-    let folder = folder.as_str();
-    let id = process::id(rt.process());
-    Ok(format!(in rt.alloc(); "{folder}/crash-{name}-{id}")?)
-}
-
-fn remove(rt: &HostRuntime, path: &str) {
-    let _ = fs::remove_file(rt, path);
-    if let Ok(log) = format!(in rt.alloc(); "{path}-wal") {
-        let _ = fs::remove_file(rt, log.as_str());
-    }
-}
 
 type TwoFiles = FileStore<FileFrom<Unknown>>;
 
@@ -53,12 +39,11 @@ fn call_law_of_memory(rt: &impl AllocGlobal, test: &impl Abort) {
 
 #[test]
 fn laws_of_crashes(rt: HostRuntime) -> Result<(), Fail> {
-    let (first, second) = (new_path(&rt, "first")?, new_path(&rt, "second")?);
+    let (first, second) = (path_of(&rt, "first")?, path_of(&rt, "second")?);
     let after = open(&rt, &rt, second.as_str());
     call_laws(into_files(open(&rt, &rt, first.as_str())), &after);
     into_files(after).close();
     call_law_of_memory(&rt, &rt);
-    remove(&rt, first.as_str());
-    remove(&rt, second.as_str());
-    Ok(())
+    remove(&rt, first.as_str())?;
+    remove(&rt, second.as_str())
 }

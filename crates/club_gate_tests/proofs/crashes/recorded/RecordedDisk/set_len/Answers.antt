@@ -1,6 +1,6 @@
 use Rattle.std.proofs.Common.{◌≡◌, rules}
-use Rattle.end_to_end_tests.proofs.Unchanged.{cut_nothing}
-use Rattle.end_to_end_tests.proofs.recorded.RecordedDisk.set_len.Goals as goal
+use Rattle.club_gate_tests.proofs.Unchanged.{cut_nothing}
+use Rattle.club_gate_tests.proofs.crashes.recorded.RecordedDisk.set_len.Goals as goal
 
 pub returns-in_err-count-clause-crash : goal.returns-in_err-count-clause-crash
 returns-in_err-count-clause-crash c left may =

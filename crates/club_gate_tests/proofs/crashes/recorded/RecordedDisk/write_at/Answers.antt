@@ -1,6 +1,6 @@
 use Rattle.std.proofs.Common.{◌≡◌, rules}
-use Rattle.end_to_end_tests.proofs.Unchanged.{mixed_nothing, torn_nothing}
-use Rattle.end_to_end_tests.proofs.recorded.RecordedDisk.write_at.Goals as goal
+use Rattle.club_gate_tests.proofs.Unchanged.{mixed_nothing, torn_nothing}
+use Rattle.club_gate_tests.proofs.crashes.recorded.RecordedDisk.write_at.Goals as goal
 
 pub returns-in_err-count-clause-mixed : goal.returns-in_err-count-clause-mixed
 returns-in_err-count-clause-mixed c mixes fits left may =

@@ -1,13 +1,11 @@
-//! A desk over tables in memory, and amy's requests with their replies.
+//! A desk that is served by exchanges, and amy's requests with their replies.
 
-use crate::desk::moment;
-use crate::ends::{Giver, Taker, WHOLE};
-use crate::expect::{Host, expect_case, expect_eq, text};
+use crate::exchanges::ends::{Giver, Taker, WHOLE};
+use crate::expect::{Host, expect_eq, expect_row, text};
+use crate::fixture::furnish;
+use crate::values::moment;
 use club_core::ClubStore;
-use club_gate::OfficeReply;
 use club_http::{AnswerFault, Desk, Face, ReadInlet, WriteOutlet, answer};
-use club_store::Store;
-use test_kit::FIXTURE;
 use test_kit::exchanges::{ACCOUNT, BALANCE_9400, BALANCE_10000, BOOK_7, BOOKED_7};
 use test_kit::moments::NOON;
 use test_kit::passes::AMY_V2;
@@ -48,30 +46,11 @@ pub(crate) struct Served<S: ClubStore> {
     desk: Desk<S>,
 }
 
-pub(crate) trait Fixture {
-    fn play<S: ClubStore>(&self, rt: &impl Host, front: &mut Served<S>);
-}
-
-/// Only this function names the tables' type, because each proof with that type takes ten seconds.
-pub(crate) fn play(rt: &impl Host, scene: &impl Fixture) {
-    let store = Store::open_in_memory(rt.alloc()).expect(rt, "a store");
-    let mut front = Served {
-        face: Face::new(rt.alloc()).expect(rt, "a face"),
-        desk: Desk::new(rt.alloc(), store),
-    };
-    front.makes_the_fixture(rt);
-    scene.play(rt, &mut front);
-}
-
 impl<S: ClubStore> Served<S> {
-    fn makes_the_fixture(&mut self, rt: &impl Host) {
-        for plain in &FIXTURE {
-            let command = plain.command().expect(rt, "a command");
-            let fault = match self.desk.office(&command) {
-                OfficeReply::Refused(fault) => Some(fault),
-                _ => None,
-            };
-            expect_eq(rt, fault, None);
+    pub fn new(rt: &impl Host, desk: Desk<S>) -> Served<S> {
+        Served {
+            face: Face::new(rt.alloc()).expect(rt, "a face"),
+            desk: furnish(rt, desk),
         }
     }
 
@@ -101,7 +80,7 @@ impl<S: ClubStore> Served<S> {
     pub fn asks_in_turn(&mut self, rt: &impl Host, pass: &str, steps: &[Step]) {
         for Step(asked, want) in steps {
             let taker = self.reply_under(rt, pass, asked);
-            expect_case(rt, asked, taker.written_bytes(), want.as_bytes());
+            expect_row(rt, asked, taker.written_bytes(), want.as_bytes());
         }
     }
 }

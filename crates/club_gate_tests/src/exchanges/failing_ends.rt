@@ -1,10 +1,11 @@
 //! Requests that end too early, and failing writers.
 
-use crate::ends::{Giver, Taker, WHOLE};
-use crate::expect::{Host, expect_case, expect_eq};
-use crate::fixture::{Fixture, KEPT, NOT_YET, Served, play};
+use crate::exchanges::ends::{Giver, Taker, WHOLE};
+use crate::exchanges::fixture::{KEPT, NOT_YET, Served};
+use crate::expect::{Host, expect_eq, expect_row};
+use crate::fixture::{Fixture, play};
 use club_core::ClubStore;
-use club_http::{AnswerFault, MAX_REPLY_LEN};
+use club_http::{AnswerFault, Desk, MAX_REPLY_LEN};
 use test_kit::exchanges::{BAD_REQUEST, BOOK_7, BOOKED_7};
 use test_kit::join;
 use test_kit::passes::AMY_V2;
@@ -31,13 +32,14 @@ static WHOLE_ONES: [Whole; 7] = [
 ];
 
 impl Fixture for Whole {
-    fn play<S: ClubStore>(&self, rt: &impl Host, front: &mut Served<S>) {
+    fn play<S: ClubStore + Drop>(&self, rt: &impl Host, desk: Desk<S>) {
+        let mut front = Served::new(rt, desk);
         let Whole(behind, gives, takes, stay, reads, writes) = *self;
         let text = join(rt.alloc(), &[(1, BOOK_7), (behind, "x")]).expect(rt, "memory");
         let mut giver = Giver::new(text.as_bytes(), gives, true);
         let mut taker = Taker::new(takes, MAX_REPLY_LEN, false);
         expect_eq(rt, front.exchange(rt, &mut giver, &mut taker), None);
-        expect_case(rt, BOOK_7, taker.written_bytes(), BOOKED_7.as_bytes());
+        expect_row(rt, BOOK_7, taker.written_bytes(), BOOKED_7.as_bytes());
         let counts = (giver.left.len(), giver.calls, taker.calls);
         expect_eq(rt, counts, (stay, reads, writes));
     }
@@ -55,11 +57,12 @@ fn whole_exchanges(rt: HostRuntime) {
 struct CutInput;
 
 impl Fixture for CutInput {
-    fn play<S: ClubStore>(&self, rt: &impl Host, front: &mut Served<S>) {
+    fn play<S: ClubStore + Drop>(&self, rt: &impl Host, desk: Desk<S>) {
+        let mut front = Served::new(rt, desk);
         let bytes = BOOK_7.as_bytes();
         for len in 0..bytes.len() {
             let taker = front.written_to(rt, &bytes[..len]);
-            expect_case(rt, "cut", taker.written_bytes(), BAD_REQUEST.as_bytes());
+            expect_row(rt, "cut", taker.written_bytes(), BAD_REQUEST.as_bytes());
             let mut giver = Giver::new(&bytes[..len], WHOLE, true);
             let mut taker = Taker::whole();
             let fault = front.exchange(rt, &mut giver, &mut taker);
@@ -82,7 +85,8 @@ struct ShortWriter {
 }
 
 impl Fixture for ShortWriter {
-    fn play<S: ClubStore>(&self, rt: &impl Host, front: &mut Served<S>) {
+    fn play<S: ClubStore + Drop>(&self, rt: &impl Host, desk: Desk<S>) {
+        let mut front = Served::new(rt, desk);
         let mut giver = Giver::new(BOOK_7.as_bytes(), WHOLE, true);
         let mut taker = Taker::new(MAX_REPLY_LEN, self.len, self.stalls);
         let fault = front.exchange(rt, &mut giver, &mut taker);

@@ -1,13 +1,12 @@
 //! The reference machine's replies to events, and the rows that the tables must have.
 
-use crate::desk::{Event, moment, office_text, reply_text, words_in};
+use crate::crashes::desk::{Event, office_text, reply_text, words_in};
+use crate::crashes::tables::{add_no_tables, none_of};
 use crate::expect::{Host, push, text};
-use crate::tables::{add_no_tables, none_of};
-use club_core::OfficeAnswer;
-use club_gate::{Fault, OfficeReply, key_signature};
+use crate::values::{command, moment, name, office_reply};
 use club_reference::{Club, Words};
 use club_rows::{Booking, Facility, Key, Member};
-use club_values::{Name, Slot};
+use club_values::Slot;
 use test_kit::roots::ROOT;
 use test_kit::signed_pass;
 
@@ -17,10 +16,6 @@ pub(crate) enum Version {
     /// Tables without older roots.
     First,
     Second,
-}
-
-fn name(rt: &impl Host, text: &str) -> Name {
-    Name::read(text.as_bytes()).expect(rt, "a name")
 }
 
 fn ask(rt: &impl Host, club: &mut Club, at: &str, bytes: &str) -> String {
@@ -33,22 +28,11 @@ fn ask(rt: &impl Host, club: &mut Club, at: &str, bytes: &str) -> String {
     reply_text(rt, &reply)
 }
 
-fn desk_reply(answer: &OfficeAnswer) -> OfficeReply {
-    match *answer {
-        OfficeAnswer::Done => OfficeReply::Done,
-        OfficeAnswer::NewKey { name, root } => OfficeReply::Key {
-            signature: key_signature(&name, &root),
-        },
-        OfficeAnswer::NotDone(fault) => OfficeReply::Refused(Fault::from(fault)),
-    }
-}
-
 fn reply(rt: &impl Host, club: &mut Club, event: &Event) -> String {
     match event {
         Event::Gives(plain) => {
-            let command = plain.command().expect(rt, "a command");
-            let answer = club.office(&command).expect(rt, "memory");
-            office_text(rt, &desk_reply(&answer))
+            let answer = club.office(&command(rt, *plain)).expect(rt, "memory");
+            office_text(rt, &office_reply(&answer))
         }
         Event::Asks(at, bytes) | Event::Exchanges(at, bytes) => ask(rt, club, at, bytes),
     }

@@ -1,7 +1,7 @@
 //! Two files in memory. One of them may fail after a number of calls.
 
+use crate::crashes::recorded::Recorded;
 use crate::expect::Host;
-use crate::recorded::Recorded;
 use sqlite::Files;
 use sqlite_disk::{Disk, Fuse};
 

@@ -1,9 +1,9 @@
 //! Tasks over a database in two files.
 
-use crate::desk::{Event, replies_over};
-use crate::disk::{Bytes, Stop, Stops, has_calls_left};
+use crate::crashes::desk::{Event, replies_over};
+use crate::crashes::disk::{Bytes, Stop, Stops, has_calls_left};
+use crate::crashes::tables::lines_in;
 use crate::expect::{Host, append};
-use crate::tables::lines_in;
 use club_store::Store;
 use sqlite::{Alter, Connection, FileStore, Files, Options};
 use sqlite_disk::Disk;
