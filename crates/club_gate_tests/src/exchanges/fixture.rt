@@ -1,4 +1,4 @@
-//! A desk that is served by exchanges, and amy's requests with their replies.
+//! Exchanges with a desk, and amy's requests with their replies.
 
 use crate::exchanges::ends::{Giver, Taker, WHOLE};
 use crate::expect::{Host, expect_eq, expect_row, text};
