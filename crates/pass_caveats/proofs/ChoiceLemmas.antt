@@ -1,6 +1,6 @@
 -- Lemmas about the parts and words of comma-separated lists. Others are for the proofs that a text
--- is understood as at most one caveat, and that `permits` returns true if and only if the caveat
--- allows the request.
+-- is understood as the caveat that `caveat_of` returns, and that `permits` returns true if and only
+-- if the caveat allows the request.
 use Rattle.std.proofs.Common.{◌≡◌, ◌≢◌, ℕ, ◌+◌, ◌<◌, ◌≤◌, ◌↔◌, ◌-◌, Bool, true, false, cond, List, [], ◌∷◌, ◌++◌, length, get_or, take, drop, refl, ap, ◌∙◌}
 use Rattle.std.proofs.Common.{arith, IsTrue, All, Contains, ◌==◌, map, Option, Some, None, sym, Bor, ◌&&◌, ◌||◌, not, filter, is_some, codes, nat_lt, Decides}
 use Rattle.std.proofs.{Common.{IsSomeAnd, rules}, lemmas.Bool.{cond_both, Decides.{nat_tests, same_from_decides, Decides-like, Decides-ltb}}}

@@ -101,7 +101,7 @@ pub fn read(bytes: &[u8]) -> Option<Caveat<'_>>
     ensures understood { Reads (Understood bytes.now) result }
     ensures function { result ≡ caveat_of bytes.now }
 {
-    // By this law, `caveat_of` returns a caveat if and only if the text is understood as it.
+    // By this law, `caveat_of` returns a caveat if and only if the text is understood as this one.
     reads_what_is_understood();
     short_line_of(bytes)
 }
