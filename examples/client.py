@@ -60,8 +60,12 @@ class Record:
 
     def unfinished(self):
         """Returns the number and the action of each request without a reply."""
-        return [(number, action) for number, booking in self.bookings.items()
-                for action in ("book", "cancel") if action in booking and booking[action] is None]
+        return [
+            (number, action)
+            for number, booking in self.bookings.items()
+            for action in ("book", "cancel")
+            if action in booking and booking[action] is None
+        ]
 
 
 class Client:

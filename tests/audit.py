@@ -43,7 +43,9 @@ TOUR = ROOT / "docs" / "TOUR.md"
 # Patterns for the sources that a comment may cite for a definition.
 SOURCES = (r"RFC \d+", r"FIPS [\d-]+", r"NDSS \d+", r"libmacaroons")
 # Methods that types of std also have. The name of such a method doesn't determine the type.
-OF_STD = set("len is_empty push iter next clone as_slice as_bytes as_str into_iter map unwrap unwrap_or ok_or expect write read remove".split())
+OF_STD = set(
+    "len is_empty push iter next clone as_slice as_bytes as_str into_iter map unwrap unwrap_or ok_or expect write read remove".split()
+)
 
 
 class Fault(Exception):
@@ -64,7 +66,11 @@ def clauses_of(book, function, labels=()):
                 start, clauses = file.clauses(name, it)
             except KeyError:
                 continue
-            found = [(file, function, *clause[1:3], start) for clause in clauses if clause[0] == "requires" or not labels or clause[1] in labels]
+            found = [
+                (file, function, *clause[1:3], start)
+                for clause in clauses
+                if clause[0] == "requires" or not labels or clause[1] in labels
+            ]
             if found and {label for _, _, label, _, _ in found} >= set(labels):
                 return found
     raise Fault(f"no clause {function}: {' '.join(labels)}")
@@ -87,11 +93,19 @@ class Promise:
     def __init__(self, book, number, line):
         self.book, self.number = book, number
         self.title = re.match(r"\d+\. \*\*(.*?)\.\*\*", line)[1]
-        self.fields = [it for group in re.findall(r"\((`\w+`(?:, `\w+`)*)\)", line) for it in re.findall(r"`(\w+)`", group)]
+        self.fields = [
+            it
+            for group in re.findall(r"\((`\w+`(?:, `\w+`)*)\)", line)
+            for it in re.findall(r"`(\w+)`", group)
+        ]
         # Matches a function, a colon, and clauses of the function, as in "`Desk::ask`: `lawful`".
-        self.carriers = [(function, re.findall(r"`(\w+)`", labels))
-                         for function, labels in re.findall(r"`([\w:]+)`: (`\w+`(?:, `\w+`)*)", line)]
-        self.clauses = [it for function, labels in self.carriers for it in clauses_of(book, function, labels)]
+        self.carriers = [
+            (function, re.findall(r"`(\w+)`", labels))
+            for function, labels in re.findall(r"`([\w:]+)`: (`\w+`(?:, `\w+`)*)", line)
+        ]
+        self.clauses = [
+            it for function, labels in self.carriers for it in clauses_of(book, function, labels)
+        ]
         self.cited, heads = self.read()
         self.below = closure(self.cited)
         self.below += [it for it in heads if it not in self.below]
@@ -120,18 +134,27 @@ class Promise:
     @property
     def words(self):
         """Returns the promise's functions, clauses and fields as the page prints them."""
-        carriers = [f"`{function}`" + (f": `{'`, `'.join(labels)}`" if labels else "") for function, labels in self.carriers]
+        carriers = [
+            f"`{function}`" + (f": `{'`, `'.join(labels)}`" if labels else "")
+            for function, labels in self.carriers
+        ]
         return "; ".join(carriers) + (f" (`{'`, `'.join(self.fields)}`)" if self.fields else "")
 
 
 def promises_of(book):
-    lines = [line for line in PROMISES.read_text(encoding="utf-8").splitlines() if re.match(r"\d+\. \*\*", line)]
+    lines = [
+        line
+        for line in PROMISES.read_text(encoding="utf-8").splitlines()
+        if re.match(r"\d+\. \*\*", line)
+    ]
     return [Promise(book, number, line) for number, line in enumerate(lines, 1)]
 
 
 def named_as_computing():
     """Returns the names of the computing definitions that promises depend on, according to docs/PROMISES.md."""
-    found = re.search(r"Promises rest on \w+ computing functions: (.*?)\.", PROMISES.read_text(encoding="utf-8"))
+    found = re.search(
+        r"Promises rest on \w+ computing functions: (.*?)\.", PROMISES.read_text(encoding="utf-8")
+    )
     return set(re.findall(r"`(\w+)`", found[1])) if found else set()
 
 
@@ -169,12 +192,23 @@ class Audit:
         unknown = [f"{it}: {word}" for it in self.every.values() for word in it.unknown]
         if unknown:
             raise Fault(f"not understood: {', '.join(unknown)}")
-        known = {(it.crate, it.module.rsplit(".", 1)[-1], it.name) for file in self.book.specs.values() for it in file.definitions.values()}
+        known = {
+            (it.crate, it.module.rsplit(".", 1)[-1], it.name)
+            for file in self.book.specs.values()
+            for it in file.definitions.values()
+        }
         lost = [".".join(it) for it in self.marks if it not in known]
         if lost:
             raise Fault(f"tests/lib/shown.py: no definitions {' '.join(lost)}")
-        rows = closure([it for file in self.book.specs.values() if re.search(r"Example|Rotation", file.module)
-                        for it in file.definitions.values() if it.kind in OF_SPECS])
+        rows = closure(
+            [
+                it
+                for file in self.book.specs.values()
+                if re.search(r"Example|Rotation", file.module)
+                for it in file.definitions.values()
+                if it.kind in OF_SPECS
+            ]
+        )
         self.rows = {id(it) for it in rows}
 
     # ---- parts of the page
@@ -184,7 +218,11 @@ class Audit:
         return mark or ("row" if id(it) in self.rows else "")
 
     def numbers(self, it):
-        return self.spelled(promise.number for promise in self.promises if any(it is other for other in promise.below))
+        return self.spelled(
+            promise.number
+            for promise in self.promises
+            if any(it is other for other in promise.below)
+        )
 
     @staticmethod
     def spelled(numbers):
@@ -202,8 +240,10 @@ class Audit:
         for it in self.promises:
             specs = it.of(*OF_SPECS)
             plain = [other for other in specs if not other.is_computed]
-            yield (f"| {it.number}. {it.title} | {it.words} | {len(plain)} | {sum(other.lines for other in plain)} "
-                   f"| {len(specs) - len(plain)} | {len(it.of('type'))} |")
+            yield (
+                f"| {it.number}. {it.title} | {it.words} | {len(plain)} | {sum(other.lines for other in plain)} "
+                f"| {len(specs) - len(plain)} | {len(it.of('type'))} |"
+            )
         specs = [it for it in self.every.values() if it.kind in OF_SPECS]
         plain = [it for it in specs if not it.is_computed]
         types = [it for it in self.every.values() if it.kind == "type"]
@@ -211,19 +251,32 @@ class Audit:
 
     def functions(self):
         """Returns the functions whose clauses state the promises."""
-        return list(dict.fromkeys(function for promise in self.promises for function, _ in promise.carriers))
+        return list(
+            dict.fromkeys(function for promise in self.promises for function, _ in promise.carriers)
+        )
 
     def beside(self):
         """Returns further computing definitions, which no promise depends on. Other clauses of the promises' functions depend on these definitions,
         or cite ghosts whose values depend on them."""
-        found = {id(it): it for function in self.functions() for it in below_all(self.book, function)}
+        found = {
+            id(it): it for function in self.functions() for it in below_all(self.book, function)
+        }
         for ghost in [it for it in found.values() if it.kind == "ghost"]:
-            found.update((id(it), it) for *_, below in self.book.standing_for(ghost) for it in below)
-        listed = (it for it in found.values() if it.is_computed and it.kind in OF_SPECS and id(it) not in self.every)
+            found.update(
+                (id(it), it) for *_, below in self.book.standing_for(ghost) for it in below
+            )
+        listed = (
+            it
+            for it in found.values()
+            if it.is_computed and it.kind in OF_SPECS and id(it) not in self.every
+        )
         return sorted(listed, key=lambda it: (it.module, it.line))
 
     def computed(self):
-        return sorted((it for it in self.every.values() if it.is_computed and it.kind in OF_SPECS), key=lambda it: (it.module, it.line))
+        return sorted(
+            (it for it in self.every.values() if it.is_computed and it.kind in OF_SPECS),
+            key=lambda it: (it.module, it.line),
+        )
 
     def first_computed(self):
         """Returns a dict from the id of each computing definition to the names of the clauses and non-computing definitions that cite it."""
@@ -243,7 +296,9 @@ class Audit:
         cited = self.first_computed()
         for it in self.computed():
             if id(it) in cited:
-                names = ", ".join(name if " " in name else f"`{name}`" for name in sorted(cited[id(it)]))
+                names = ", ".join(
+                    name if " " in name else f"`{name}`" for name in sorted(cited[id(it)])
+                )
                 yield f"- `{it.name}` in `{it.file}`, cited by {names}"
 
     def further_faults(self):
@@ -256,16 +311,35 @@ class Audit:
 
     def definitions_of(self, crate):
         """Yields the page's lines about a crate's definitions, file by file. Neighbouring definitions with the same promises and the same mark share
-        a list item. If a file has only one item, the item follows the file's name on the same line."""
-        listed = [it for it in self.every.values() if it.crate == crate and it.kind in OF_SPECS and not it.is_computed]
-        for file in in_reading_order(self.book, [self.book.specs[module] for module in {it.module for it in listed}]):
+        a list item. If a file has only one item, the item follows the file's name on the same line.
+        """
+        listed = [
+            it
+            for it in self.every.values()
+            if it.crate == crate and it.kind in OF_SPECS and not it.is_computed
+        ]
+        for file in in_reading_order(
+            self.book, [self.book.specs[module] for module in {it.module for it in listed}]
+        ):
             own = sorted((it for it in listed if it.module == file.module), key=lambda it: it.line)
-            gist = re.sub(r" \([^)]*(\)|$)", "", re.match(r".*?[^A-Z0-9][.:](?= |$)|.*", file.head)[0]).rstrip(".:")
-            gist = re.sub(r"(?:This file )?(?:defines|states) (.)", lambda it: it[1].upper(), gist, count=1, flags=re.IGNORECASE)
+            gist = re.sub(
+                r" \([^)]*(\)|$)", "", re.match(r".*?[^A-Z0-9][.:](?= |$)|.*", file.head)[0]
+            ).rstrip(".:")
+            gist = re.sub(
+                r"(?:This file )?(?:defines|states) (.)",
+                lambda it: it[1].upper(),
+                gist,
+                count=1,
+                flags=re.IGNORECASE,
+            )
             source = source_of(" ".join([file.head, *(it.comment for it in own)]))
             source = f" [{source}]" if source else ""
-            groups = [(numbers + (mark and " " + mark), ", ".join(f"`{it.name}`" for it in group))
-                      for (numbers, mark), group in groupby(own, lambda it: (self.numbers(it), self.mark(it)))]
+            groups = [
+                (numbers + (mark and " " + mark), ", ".join(f"`{it.name}`" for it in group))
+                for (numbers, mark), group in groupby(
+                    own, lambda it: (self.numbers(it), self.mark(it))
+                )
+            ]
             head = f"**`{file.path.relative_to(ROOT)}`** ({sum(it.lines for it in own)}): {gist}{source}"
             if len(groups) == 1:
                 yield f"{head}. {groups[0][0]}: {groups[0][1]}"
@@ -282,18 +356,31 @@ class Audit:
         order = {crate: at for at, crate in enumerate(self.book.crates)}
         for crate in sorted({path.relative_to(ROOT).parts[1] for path in by_file}, key=order.get):
             files = sorted(path for path in by_file if path.relative_to(ROOT).parts[1] == crate)
-            yield f"- **`crates/{crate}/src`**: " + ", ".join(f"`{it.name}`" for path in files for it in sorted(by_file[path], key=lambda it: it.line))
+            yield f"- **`crates/{crate}/src`**: " + ", ".join(
+                f"`{it.name}`"
+                for path in files
+                for it in sorted(by_file[path], key=lambda it: it.line)
+            )
 
     def ghosts(self):
         yield "| Ghost | Promises | Values |"
         yield "|---|---|---|"
-        for it in sorted((it for it in self.every.values() if it.kind == "ghost"), key=lambda it: (it.path, it.line)):
+        for it in sorted(
+            (it for it in self.every.values() if it.kind == "ghost"),
+            key=lambda it: (it.path, it.line),
+        ):
             stands = []
             for of, file, value, below in self.book.standing_for(it):
                 below = [it for it in below if it.kind in OF_SPECS]
                 computing = sum(it.is_computed for it in below)
-                counts = f" ({len(below)}" + (f", {computing} computing)" if computing else ")") if below else ""
-                stands.append(f"`{of}`, `{file.path.relative_to(ROOT)}`: `{' '.join(value.split())}`{counts}")
+                counts = (
+                    f" ({len(below)}" + (f", {computing} computing)" if computing else ")")
+                    if below
+                    else ""
+                )
+                stands.append(
+                    f"`{of}`, `{file.path.relative_to(ROOT)}`: `{' '.join(value.split())}`{counts}"
+                )
             yield f"| `{it.name}`, `{it.file}` | {self.numbers(it)} | {'; '.join(stands)} |"
 
     # ---- other trusted parts
@@ -305,7 +392,11 @@ class Audit:
 
     def calls(self):
         """Returns the names of the functions that our crates call in each library, and the promises that depend on these calls."""
-        page = subprocess.run(["rt", "doc"], capture_output=True, text=True, check=False).stdout if shutil.which("rt") else ""
+        page = (
+            subprocess.run(["rt", "doc"], capture_output=True, text=True, check=False).stdout
+            if shutil.which("rt")
+            else ""
+        )
         kit = Path(page.strip() or "/none").parent / "rattle"
         if not kit.is_dir():
             raise Fault("no toolchain: the page lists calls of its libraries")
@@ -315,18 +406,34 @@ class Audit:
             numbers = {number for number, crates in below.items() if file.crate in crates}
             if not numbers:
                 continue
-            for library in {crate for crate, _ in file.uses.values() if crate not in self.book.crates and (kit / crate / "src").is_dir()}:
+            for library in {
+                crate
+                for crate, _ in file.uses.values()
+                if crate not in self.book.crates and (kit / crate / "src").is_dir()
+            }:
                 if library in ("std", "core"):
                     continue
-                declared = {name for path in (kit / library / "src").rglob("*.rt")
-                            for name in re.findall(r"\bfn (\w+)", path.read_text(encoding="utf-8"))}
+                declared = {
+                    name
+                    for path in (kit / library / "src").rglob("*.rt")
+                    for name in re.findall(r"\bfn (\w+)", path.read_text(encoding="utf-8"))
+                }
                 calls = set()
                 for here, (crate, name) in file.uses.items():
                     if crate == library:
-                        calls |= {f"{name}::{it}" for it in re.findall(rf"\b{here}(?:::<[^>]*>)?::([a-z]\w*)\(", file.text)}
+                        calls |= {
+                            f"{name}::{it}"
+                            for it in re.findall(
+                                rf"\b{here}(?:::<[^>]*>)?::([a-z]\w*)\(", file.text
+                            )
+                        }
                         if here[0].islower() and re.search(rf"(?<![:.\w]){here}\(", file.text):
                             calls.add(name)
-                calls |= {it for it in re.findall(r"\.(\w+)(?:::<[^>]*>)?\(", file.text) if it in declared - OF_STD}
+                calls |= {
+                    it
+                    for it in re.findall(r"\.(\w+)(?:::<[^>]*>)?\(", file.text)
+                    if it in declared - OF_STD
+                }
                 if calls:
                     found[library] |= calls
                     promises[library] |= numbers
@@ -345,7 +452,11 @@ class Audit:
     def trusted(self):
         calls, below = self.calls()
         words, citing = self.words_of()
-        ours = {name for file in self.book.code.values() for name in re.findall(r"\bfn (\w+)\([&m]*self", file.text)}
+        ours = {
+            name
+            for file in self.book.code.values()
+            for name in re.findall(r"\bfn (\w+)\([&m]*self", file.text)
+        }
         yield "| Library | Calls | Definitions cited | Promises |"
         yield "|---|---|---|---|"
         for library in sorted(set(calls) | set(words)):
@@ -356,16 +467,26 @@ class Audit:
             yield f"| `{library}` | {names} | {cited} | {self.spelled(below[library] | citing[library])} |"
 
     def externs(self):
-        found = [f"`{file.path.relative_to(ROOT)}`" for file in self.book.code.values() if re.search(r'\bextern (?:"C" )?\{', file.text)]
-        return f"These files declare C functions: {', '.join(found)}." if found else "No file declares a C function (`extern`)."
+        found = [
+            f"`{file.path.relative_to(ROOT)}`"
+            for file in self.book.code.values()
+            if re.search(r'\bextern (?:"C" )?\{', file.text)
+        ]
+        return (
+            f"These files declare C functions: {', '.join(found)}."
+            if found
+            else "No file declares a C function (`extern`)."
+        )
 
     # ---- the page
 
     def section_of_faults(self):
         computed = self.computed()
         if not computed:
-            return ["No clause of these promises rests on a computing definition. The same is true for the other clauses of the promises' functions, for the "
-                    "values of [ghosts](#ghosts-of-traits), and for the other contracts that [PROMISES](PROMISES.md) cites."]
+            return [
+                "No clause of these promises rests on a computing definition. The same is true for the other clauses of the promises' functions, for the "
+                "values of [ghosts](#ghosts-of-traits), and for the other contracts that [PROMISES](PROMISES.md) cites."
+            ]
         sections = [
             f"A computing definition computes what another definition states. [COMPUTED](COMPUTED.md) has the laws that both agree. These promises rest on "
             f"{len(computed)} computing definitions, which the crates' lists omit. Other definitions cite {len(self.first_computed())} of these:",
@@ -378,8 +499,13 @@ class Audit:
     def page(self):
         specs = [it for it in self.every.values() if it.kind in OF_SPECS]
         plain = [it for it in specs if not it.is_computed]
-        counts = {mark: sum(1 for it in plain if self.mark(it) == mark) for mark in ("all", "part", "none", "row", "")}
-        handles = (ROOT / "HANDLES").read_text(encoding="utf-8").strip().rpartition(": ")[2].rstrip(".")
+        counts = {
+            mark: sum(1 for it in plain if self.mark(it) == mark)
+            for mark in ("all", "part", "none", "row", "")
+        }
+        handles = (
+            (ROOT / "HANDLES").read_text(encoding="utf-8").strip().rpartition(": ")[2].rstrip(".")
+        )
         sections = [
             "# What a reader must trust",
             "This page lists each definition that the eight laws of [README](../README.md#what-is-proved) depend on, beginning with the standards, and what "
@@ -426,17 +552,24 @@ class Audit:
     def named(self):
         """Returns the names of the computing definitions that docs/PROMISES.md names, and of the computing definitions that they depend on."""
         first = named_as_computing()
-        return first | {it.name for it in closure([it for it in self.computed() if it.name in first]) if it.is_computed and it.kind in OF_SPECS}
+        return first | {
+            it.name
+            for it in closure([it for it in self.computed() if it.name in first])
+            if it.is_computed and it.kind in OF_SPECS
+        }
 
     def citing(self):
         """Yields the faults in the tables of docs/PROMISES.md and docs/COMPUTED.md. A citation that can't be read is a fault. In PROMISES, no
-        contract may depend on a computing definition that the page doesn't name. In COMPUTED, each contract must depend on a computing definition."""
+        contract may depend on a computing definition that the page doesn't name. In COMPUTED, each contract must depend on a computing definition.
+        """
         contracts, named = Contracts(self.book), self.named()
         for page in (PROMISES, COMPUTED):
             for citation in citations(page.read_text(encoding="utf-8")):
                 place = f"docs/{page.name}:{citation.line}"
                 for name, cited in contracts.below(citation):
-                    computing = sorted({it.name for it in cited if it.is_computed and it.kind in OF_SPECS})
+                    computing = sorted(
+                        {it.name for it in cited if it.is_computed and it.kind in OF_SPECS}
+                    )
                     if page == PROMISES and set(computing) - named:
                         yield f"{place}: {name} reaches computing definitions: {' '.join(sorted(set(computing) - named))}"
                     if page == COMPUTED and not computing:
@@ -466,7 +599,9 @@ class Audit:
                 cited = it.cited if it else None
 
     def cited_by_clause(self, path, label):
-        file = self.book.code.get("/".join((Path(path).parts[1], ".".join(Path(path).with_suffix("").parts[3:]))))
+        file = self.book.code.get(
+            "/".join((Path(path).parts[1], ".".join(Path(path).with_suffix("").parts[3:])))
+        )
         if file is None:
             return None
         found = None
@@ -475,21 +610,30 @@ class Audit:
             while depth:
                 depth += (file.text[end] == "{") - (file.text[end] == "}")
                 end += 1
-            start = max(it.start() for it in re.finditer(r"\bfn \w+", file.text[:clause.start()]))
-            found = (found or []) + file.cited_by(start, file.text[clause.end():end - 1])[0]
+            start = max(it.start() for it in re.finditer(r"\bfn \w+", file.text[: clause.start()]))
+            found = (found or []) + file.cited_by(start, file.text[clause.end() : end - 1])[0]
         return found
 
     def below(self, name):
         if "::" in name:
             listed = [it for it in below_all(self.book, name) if it.kind in OF_SPECS]
         else:
-            found = [it for file in self.book.specs.values() for it in file.definitions.values() if it.name == name and it.kind in OF_SPECS]
+            found = [
+                it
+                for file in self.book.specs.values()
+                for it in file.definitions.values()
+                if it.name == name and it.kind in OF_SPECS
+            ]
             if len(found) != 1:
                 raise Fault(f"{len(found)} definitions are named {name}")
             listed = [it for it in closure(found) if it.kind in OF_SPECS]
-        files = in_reading_order(self.book, [self.book.specs[module] for module in {it.module for it in listed}])
+        files = in_reading_order(
+            self.book, [self.book.specs[module] for module in {it.module for it in listed}]
+        )
         for file in files:
-            for it in sorted((it for it in listed if it.module == file.module), key=lambda it: it.line):
+            for it in sorted(
+                (it for it in listed if it.module == file.module), key=lambda it: it.line
+            ):
                 yield f"{it.file}:{it.line}: {it.name}"
         yield f"{len(listed)} definitions, {sum(it.lines for it in listed)} lines, {sum(it.is_computed for it in listed)} computing"
 
@@ -504,7 +648,11 @@ def run(arguments):
         old = PAGE.read_text(encoding="utf-8") if PAGE.exists() else ""
         if old != page:
             faults.append("docs/AUDIT.md isn't current: run tests/audit.py")
-            faults += list(difflib.unified_diff(old.splitlines(), page.splitlines(), "the page", "the sources", lineterm="", n=0))[:20]
+            faults += list(
+                difflib.unified_diff(
+                    old.splitlines(), page.splitlines(), "the page", "the sources", lineterm="", n=0
+                )
+            )[:20]
         faults += audit.paths()
     else:
         PAGE.write_text(page, encoding="utf-8")
@@ -513,17 +661,26 @@ def run(arguments):
         computed = [it for it in audit.computed() + audit.beside() if it.name not in named]
         faults += [f"{it.file}:{it.line}: reaches a computed name: {it.name}" for it in computed]
         faults += [f"{len(computed)} computed names"] if computed else []
-        faults += [f"docs/PROMISES.md: no promise rests on {name}" for name in sorted(named_as_computing() - {it.name for it in audit.computed()})]
+        faults += [
+            f"docs/PROMISES.md: no promise rests on {name}"
+            for name in sorted(named_as_computing() - {it.name for it in audit.computed()})
+        ]
         faults += audit.citing()
     for it in faults:
         print(it, file=sys.stderr)
     if not faults:
-        print("docs/AUDIT.md is current" if arguments.check or arguments.strict else f"docs/AUDIT.md: {page.count(chr(10))} lines")
+        print(
+            "docs/AUDIT.md is current"
+            if arguments.check or arguments.strict
+            else f"docs/AUDIT.md: {page.count(chr(10))} lines"
+        )
     return 1 if faults else 0
 
 
 def main():
-    parser = argparse.ArgumentParser(description="Writes docs/AUDIT.md, or says whether it is current.")
+    parser = argparse.ArgumentParser(
+        description="Writes docs/AUDIT.md, or says whether it is current."
+    )
     parser.add_argument("--check", action="store_true")
     parser.add_argument("--strict", action="store_true")
     parser.add_argument("--below", metavar="NAME")

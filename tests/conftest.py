@@ -16,10 +16,28 @@ from desk import Reply
 
 
 def pytest_addoption(parser):
-    parser.addoption("--no-commands", action="store_const", const="not built", dest="markexpr", help="runs only the checks that need no built program")
-    parser.addoption("--scripts", metavar="NAME,..", help="runs these programs of tests/, each as one test; 'all' for all")
-    parser.addoption("--planted", action="store_true", help="plants a fault for each program of --scripts, which must then fail")
-    parser.addoption("--built", action="store_true", help="skips a program if a program that it needs isn't built")
+    parser.addoption(
+        "--no-commands",
+        action="store_const",
+        const="not built",
+        dest="markexpr",
+        help="runs only the checks that need no built program",
+    )
+    parser.addoption(
+        "--scripts",
+        metavar="NAME,..",
+        help="runs these programs of tests/, each as one test; 'all' for all",
+    )
+    parser.addoption(
+        "--planted",
+        action="store_true",
+        help="plants a fault for each program of --scripts, which must then fail",
+    )
+    parser.addoption(
+        "--built",
+        action="store_true",
+        help="skips a program if a program that it needs isn't built",
+    )
 
 
 def pytest_configure(config):
@@ -50,9 +68,16 @@ class Script(pytest.Item):
     def runtest(self):
         options = self.config.option
         try:
-            found = scripts.run(self.test, options.built, self.config.pluginmanager.hasplugin("timeout"))
+            found = scripts.run(
+                self.test, options.built, self.config.pluginmanager.hasplugin("timeout")
+            )
         except pytest.fail.Exception:
-            found = {"result": "failed", "status": scripts.TOOK_TOO_LONG, "seconds": self.test.seconds, "last": "killed by pytest-timeout"}
+            found = {
+                "result": "failed",
+                "status": scripts.TOOK_TOO_LONG,
+                "seconds": self.test.seconds,
+                "last": "killed by pytest-timeout",
+            }
         self.user_properties.append(("found", found))
         if found["result"] != "passed":
             {"failed": pytest.fail, "skipped": pytest.skip}[found["result"]](found["last"])
@@ -66,12 +91,22 @@ class ScriptFile(pytest.File):
 
     def collect(self):
         asked = self.config.option.scripts.split(",")
-        every = scripts.planted_tests() if self.config.option.planted else scripts.tests_of(self.path)
-        yield from (Script.from_parent(self, name=it.name, test=it) for it in every if it.path == self.path and (asked == ["all"] or it.name in asked))
+        every = (
+            scripts.planted_tests() if self.config.option.planted else scripts.tests_of(self.path)
+        )
+        yield from (
+            Script.from_parent(self, name=it.name, test=it)
+            for it in every
+            if it.path == self.path and (asked == ["all"] or it.name in asked)
+        )
 
 
 def pytest_collect_file(file_path, parent):
-    if parent.config.option.scripts and file_path.suffix in (".bats", ".py", ".sh") and scripts.head_of(file_path)[1]:
+    if (
+        parent.config.option.scripts
+        and file_path.suffix in (".bats", ".py", ".sh")
+        and scripts.head_of(file_path)[1]
+    ):
         return ScriptFile.from_parent(parent, path=file_path)
     return None
 
@@ -82,7 +117,10 @@ def pytest_runtest_logreport(report):
     found = dict(report.user_properties).get("found")
     if config and (found and report.when == "call" or not found and report.failed):
         name = report.nodeid.rpartition("::")[2]
-        config.results.add(name, found or {"result": "failed", "status": 1, "seconds": 0, "last": str(report.longrepr)})
+        config.results.add(
+            name,
+            found or {"result": "failed", "status": 1, "seconds": 0, "last": str(report.longrepr)},
+        )
 
 
 report_to = {}
@@ -100,7 +138,9 @@ def pytest_collectreport(report):
 
 def pytest_sessionfinish(session):
     if report_to:
-        (scripts.OUT / "session.json").write_text(json.dumps(session.config.results.all), encoding="utf-8")
+        (scripts.OUT / "session.json").write_text(
+            json.dumps(session.config.results.all), encoding="utf-8"
+        )
 
 
 # ---- clubs and servers
@@ -127,7 +167,12 @@ class Club:
 
     def balance(self, key):
         """Returns the balance of the key's member, which the command show-account prints."""
-        return int(dict(line.split(" ", 1) for line in self.does(f"show-account {key} --at {kinds.NOON}").splitlines())["balance"])
+        return int(
+            dict(
+                line.split(" ", 1)
+                for line in self.does(f"show-account {key} --at {kinds.NOON}").splitlines()
+            )["balance"]
+        )
 
     def sql(self, statement):
         with desk.opened(self.file) as database:
@@ -149,7 +194,11 @@ class Club:
             if isinstance(step, kinds.Sql):
                 self.sql(step.statement)
             elif isinstance(step, kinds.Command):
-                wanted = (int(bool(step.refusal)), step.printed, step.refusal and step.refusal + "\n")
+                wanted = (
+                    int(bool(step.refusal)),
+                    step.printed,
+                    step.refusal and step.refusal + "\n",
+                )
                 assert self.command(*step.words) == wanted, step
             else:
                 replies.append(self.ask(step.data, step.moment, file_limit=step.file_limit))

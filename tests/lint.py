@@ -52,8 +52,11 @@ TWINS = {
     "is_key_of": "whether a member's key has a name, in a club and in the reference's lists",
     "EndsWith exit_status fault_line fault_output fault_status": "the faults of both programs, their lines and statuses",
 }
-UNITS = re.compile("byte|bit|character|letter|digit|column|line|caveat|pass|place|person|guest|booking|point|day|hour|minute|second|moment|year|name|fault"
-                   "|status|connection|port|version|row|request|key|field|case|number|memory|count|length", re.IGNORECASE)
+UNITS = re.compile(
+    "byte|bit|character|letter|digit|column|line|caveat|pass|place|person|guest|booking|point|day|hour|minute|second|moment|year|name|fault"
+    "|status|connection|port|version|row|request|key|field|case|number|memory|count|length",
+    re.IGNORECASE,
+)
 # A line that begins with a string literal, or with a field and its string literal, may be longer. Then a search for a long text, such as a pass,
 # finds the line. An attribute may be longer because it can't be broken.
 LITERAL = r' *([a-z_]+: )?b?"'
@@ -61,7 +64,11 @@ FN = re.compile(r"( *)(?:pub(?:\([a-z]+\))? )?(?:const )?(?:extern \"C\" )?fn (\
 
 
 def texts_below(folder, *endings):
-    return {it: it.read_text(encoding="utf-8") for it in sorted(Path(folder).rglob("*")) if it.suffix in endings and "out" not in it.parts}
+    return {
+        it: it.read_text(encoding="utf-8")
+        for it in sorted(Path(folder).rglob("*"))
+        if it.suffix in endings and "out" not in it.parts
+    }
 
 
 FILES = texts_below("crates", ".rt", ".antt")
@@ -69,7 +76,11 @@ FILES = texts_below("crates", ".rt", ".antt")
 
 def of_crate(crate, part, ending):
     """Returns the texts of the files with this ending below a folder of a crate."""
-    return {it: text for it, text in FILES.items() if it.parts[1:3] == (crate, part) and it.suffix == ending}
+    return {
+        it: text
+        for it, text in FILES.items()
+        if it.parts[1:3] == (crate, part) and it.suffix == ending
+    }
 
 
 def twice_defined(crates):
@@ -78,7 +89,14 @@ def twice_defined(crates):
     homes = defaultdict(list)
     for file, text in FILES.items():
         if file.parts[2] == "specs":
-            for name in {a or b for a, b in re.findall(r"^(?:(?:pub )?(?:record|data) (\S+)|(?:(?:abbrev|unfoldable|opaque) )?(?:pub )?(\S+) :(?: |$))", text, re.MULTILINE)}:
+            for name in {
+                a or b
+                for a, b in re.findall(
+                    r"^(?:(?:pub )?(?:record|data) (\S+)|(?:(?:abbrev|unfoldable|opaque) )?(?:pub )?(\S+) :(?: |$))",
+                    text,
+                    re.MULTILINE,
+                )
+            }:
                 homes[name].append(file)
     twins = " ".join(TWINS).split()
     for name, files in sorted(homes.items()):
@@ -90,8 +108,16 @@ def twice_defined(crates):
 def too_long(crate):
     for file, text in FILES.items():
         is_code = file.parts[2] == "src" and file.suffix == ".rt"
-        for most, but in [(100, rf" *ghost use|{LITERAL}| *#\["), (160, LITERAL)] if is_code else [(160, LITERAL)]:
-            found = [n for n, line in enumerate(text.splitlines(), 1) if len(line) > most and not re.match(but, line)]
+        for most, but in (
+            [(100, rf" *ghost use|{LITERAL}| *#\["), (160, LITERAL)]
+            if is_code
+            else [(160, LITERAL)]
+        ):
+            found = [
+                n
+                for n, line in enumerate(text.splitlines(), 1)
+                if len(line) > most and not re.match(but, line)
+            ]
             if found and file.parts[1] == crate:
                 yield f"longer than {most} columns: {file}:{found[0]}: {len(found)} lines"
 
@@ -104,14 +130,26 @@ def too_large(crate):
         for number, line in enumerate(text.splitlines(), 1):
             if found := FN.match(line):
                 (indent, name), start = found.groups(), 0
-            if name and not start and (line == indent + "{" or line.startswith(indent) and re.match(r" *(\)|(pub|const|fn) ).*\{$", line)):
+            if (
+                name
+                and not start
+                and (
+                    line == indent + "{"
+                    or line.startswith(indent)
+                    and re.match(r" *(\)|(pub|const|fn) ).*\{$", line)
+                )
+            ):
                 start = number
             elif start and line == indent + "}":
                 if number - start > 40:
                     yield f"a function of {number - start - 1} lines: {file}:{start}: {name}"
                 name, start = "", 0
     for most, files in ((800, code), (400, of_crate(crate, "proofs", ".antt"))):
-        yield from (f"a file of {text.count(chr(10))} lines: {file}" for file, text in files.items() if text.count("\n") >= most)
+        yield from (
+            f"a file of {text.count(chr(10))} lines: {file}"
+            for file, text in files.items()
+            if text.count("\n") >= most
+        )
     functions = sum(bool(FN.match(line)) for text in code.values() for line in text.splitlines())
     if functions > 100 and not crate.endswith(("_tests", "scenarios")):
         yield f"more than 100 functions: {crate} has {functions}"
@@ -123,8 +161,17 @@ def without_unit(crate):
         for found in re.finditer(r"^((?: */// .*\n)+)(?: *#\[.*\n)* *pub ", whole, re.MULTILINE):
             text = " ".join(re.findall(r"/// (.*)", found[1]))
             plain = re.sub("`[^`]*`", "", text)
-            plain = re.sub(r"below 0|RFC [0-9]+|FIPS [0-9-]+|SHA-256|[0-9]+-[0-9]+-[0-9]+(T[0-9:]+)?|[A-Za-z-]+[0-9]+", "", plain)
-            if re.search("[0-9]", plain) and not re.search("[0-9] [a-z-]*(bytes|hexa|decimal)", plain) and not UNITS.search(plain) and "test" not in file.name:
+            plain = re.sub(
+                r"below 0|RFC [0-9]+|FIPS [0-9-]+|SHA-256|[0-9]+-[0-9]+-[0-9]+(T[0-9:]+)?|[A-Za-z-]+[0-9]+",
+                "",
+                plain,
+            )
+            if (
+                re.search("[0-9]", plain)
+                and not re.search("[0-9] [a-z-]*(bytes|hexa|decimal)", plain)
+                and not UNITS.search(plain)
+                and "test" not in file.name
+            ):
                 yield f"number without a unit: {file}:{whole.count(chr(10), 0, found.start()) + 1}: {text}"
 
 
@@ -144,23 +191,41 @@ def unused_modules(crate, part):
             yield f"not listed in {above}: {file}"
         path = r"(\.|::)".join([part, *file.relative_to(top).with_suffix("").parts])
         cited = re.compile(rf"({crate}\.|crate::){path}([^A-Za-z0-9_]|$)", re.MULTILINE)
-        if not MOD.search(text) and not any(cited.search(spelled_out(it)) for other, it in FILES.items() if file.stem in it and other != file):
+        if not MOD.search(text) and not any(
+            cited.search(spelled_out(it))
+            for other, it in FILES.items()
+            if file.stem in it and other != file
+        ):
             yield f"never imported: {file}"
 
 
 def unused_names(crate):
     """Yields a slip for each name that proofs/Common.antt re-exports and no proof imports."""
     common = Path("crates", crate, "proofs", "Common.antt")
-    taken = "".join(names + ", " for text in of_crate(crate, "proofs", ".antt").values()
-                    for names in re.findall(rf"^use Rattle\.{crate}\.proofs\.Common\.\{{(.*)\}}$", spelled_out(text), re.MULTILINE))
-    for names in re.findall(r"^(?:unfoldable )?pub use .*\.\{(.*)\}$", spelled_out(FILES.get(common, "")), re.MULTILINE):
-        yield from (f"no proof imports {name} from {common}" for name in names.split(", ") if name not in taken.split(", "))
+    taken = "".join(
+        names + ", "
+        for text in of_crate(crate, "proofs", ".antt").values()
+        for names in re.findall(
+            rf"^use Rattle\.{crate}\.proofs\.Common\.\{{(.*)\}}$", spelled_out(text), re.MULTILINE
+        )
+    )
+    for names in re.findall(
+        r"^(?:unfoldable )?pub use .*\.\{(.*)\}$", spelled_out(FILES.get(common, "")), re.MULTILINE
+    ):
+        yield from (
+            f"no proof imports {name} from {common}"
+            for name in names.split(", ")
+            if name not in taken.split(", ")
+        )
 
 
 def unused_code(crate):
     for file in of_crate(crate, "src", ".rt"):
         above = [file.parent.with_suffix(".rt"), file.parent / "lib.rt", file.parent / "main.rt"]
-        if file.stem not in ("lib", "main") and not any(re.search(rf"^ *(pub(\([a-z]+\))? )?mod {file.stem};", FILES.get(it, ""), re.MULTILINE) for it in above):
+        if file.stem not in ("lib", "main") and not any(
+            re.search(rf"^ *(pub(\([a-z]+\))? )?mod {file.stem};", FILES.get(it, ""), re.MULTILINE)
+            for it in above
+        ):
             yield f"no mod line for: {file}"
 
 
@@ -185,15 +250,24 @@ def stale_plants():
 
 
 def other_versions():
-    version = subprocess.run(["bin/version"], capture_output=True, text=True, check=True).stdout.strip()
-    found = re.search("^## ([^ ,]*), 20[0-9-]*$", Path("CHANGELOG.md").read_text(encoding="utf-8"), re.MULTILINE)
+    version = subprocess.run(
+        ["bin/version"], capture_output=True, text=True, check=True
+    ).stdout.strip()
+    found = re.search(
+        "^## ([^ ,]*), 20[0-9-]*$", Path("CHANGELOG.md").read_text(encoding="utf-8"), re.MULTILINE
+    )
     if not found or found[1] != version:
         yield f"differs from version {version}: CHANGELOG.md: {found and found[1]}"
 
 
 def unnamed_scripts():
-    pages = "".join(it.read_text(encoding="utf-8") for it in (Path("README.md"), Path("CONTRIBUTING.md"), *Path("docs").glob("*.md")))
-    for script in sorted([*Path("tests").rglob("*.sh"), *Path("bin").iterdir(), *Path("deploy").iterdir()]):
+    pages = "".join(
+        it.read_text(encoding="utf-8")
+        for it in (Path("README.md"), Path("CONTRIBUTING.md"), *Path("docs").glob("*.md"))
+    )
+    for script in sorted(
+        [*Path("tests").rglob("*.sh"), *Path("bin").iterdir(), *Path("deploy").iterdir()]
+    ):
         if str(script) not in pages:
             yield f"no page mentions: {script}"
 
@@ -201,8 +275,16 @@ def unnamed_scripts():
 def install_aspell():
     """Installs aspell if it is missing, the caller is root, and the system has apt-get."""
     if not shutil.which("aspell") and os.geteuid() == 0 and shutil.which("apt-get"):
-        for words in (["update"], ["install", "-y", "--no-install-recommends", "aspell", "aspell-en", "aspell-de"]):
-            subprocess.run(["apt-get", "-o", "DPkg::Lock::Timeout=300", *words], stdin=subprocess.DEVNULL, stdout=subprocess.DEVNULL, check=False)
+        for words in (
+            ["update"],
+            ["install", "-y", "--no-install-recommends", "aspell", "aspell-en", "aspell-de"],
+        ):
+            subprocess.run(
+                ["apt-get", "-o", "DPkg::Lock::Timeout=300", *words],
+                stdin=subprocess.DEVNULL,
+                stdout=subprocess.DEVNULL,
+                check=False,
+            )
 
 
 def worded(named, since):
@@ -223,16 +305,31 @@ def worded(named, since):
 def main():
     parser = argparse.ArgumentParser(usage="tests/lint.py [--since COMMIT] [CRATE ..]")
     parser.add_argument("named", nargs="*", metavar="CRATE")
-    parser.add_argument("--since", metavar="COMMIT", help="checks the prose of the lines and commits since this commit")
+    parser.add_argument(
+        "--since",
+        metavar="COMMIT",
+        help="checks the prose of the lines and commits since this commit",
+    )
     given = parser.parse_args()
-    if given.since and prose.git(ROOT, "rev-parse", "--verify", "--quiet", given.since + "^{commit}") is None:
+    if (
+        given.since
+        and prose.git(ROOT, "rev-parse", "--verify", "--quiet", given.since + "^{commit}") is None
+    ):
         parser.error(f"no commit {given.since}")
     named = given.named
     crates = named or sorted(it.name for it in Path("crates").iterdir() if it.is_dir())
     slips = list(twice_defined(crates))
     for crate in crates:
-        slips += [*too_long(crate), *too_large(crate), *without_unit(crate), *unused_modules(crate, "specs"), *unused_modules(crate, "proofs"),
-                  *unused_names(crate), *unused_code(crate), *stale_edits(crate)]
+        slips += [
+            *too_long(crate),
+            *too_large(crate),
+            *without_unit(crate),
+            *unused_modules(crate, "specs"),
+            *unused_modules(crate, "proofs"),
+            *unused_names(crate),
+            *unused_code(crate),
+            *stale_edits(crate),
+        ]
     slips += [] if named else [*other_versions(), *unnamed_scripts(), *stale_plants()]
     slips += worded(named, given.since)
     print(*slips, f"{len(slips)} slips", sep="\n")

@@ -28,21 +28,33 @@ TICKS = os.sysconf("SC_CLK_TCK")
 
 def process(pid):
     """Returns a process's parent, its start time, and its own processor time in ticks."""
-    fields = Path(f"/proc/{pid}/stat").read_text(encoding="utf-8", errors="replace").rpartition(")")[2].split()
+    fields = (
+        Path(f"/proc/{pid}/stat")
+        .read_text(encoding="utf-8", errors="replace")
+        .rpartition(")")[2]
+        .split()
+    )
     return int(fields[1]), fields[19], sum(map(int, fields[11:13]))
 
 
 def task(pid, work):
     """If a process compiles a crate in a folder below `work`, returns the crate and the kind of the work, otherwise None."""
     words = Path(f"/proc/{pid}/cmdline").read_text(encoding="utf-8", errors="replace").split("\0")
-    if os.path.basename(words[0]) != "rattle" or words[1:2] not in (["build"], ["check"]) or "--crate-name" not in words:
+    if (
+        os.path.basename(words[0]) != "rattle"
+        or words[1:2] not in (["build"], ["check"])
+        or "--crate-name" not in words
+    ):
         return None
     folder = os.readlink(f"/proc/{pid}/cwd")
     if not folder.startswith(f"{work}/"):
         return None
     # the gate checks each mutant's edit in a separate folder
     is_edit = re.search(r"/rt-edit-[^/]*(/|$)", folder)
-    return words[words.index("--crate-name") + 1], "edits" if is_edit else "tests" if "--test" in words else "proof"
+    return (
+        words[words.index("--crate-name") + 1],
+        "edits" if is_edit else "tests" if "--test" in words else "proof",
+    )
 
 
 def sample(spent, work):
@@ -66,8 +78,15 @@ def run_gate(work, names):
     spent = Counter()
     # TMPDIR puts the folders of the mutants below the scratch folder. So the measured times include the mutants of this run, but no other run on the
     # machine.
-    with open(work / "log", "wb") as log, subprocess.Popen(["rt", "ci", *names], cwd=work / "clone", stdin=subprocess.DEVNULL, stdout=log, stderr=log,
-                                                          env={**os.environ, "TMPDIR": str(work / "rooms")}, start_new_session=True) as gate:
+    with open(work / "log", "wb") as log, subprocess.Popen(
+        ["rt", "ci", *names],
+        cwd=work / "clone",
+        stdin=subprocess.DEVNULL,
+        stdout=log,
+        stderr=log,
+        env={**os.environ, "TMPDIR": str(work / "rooms")},
+        start_new_session=True,
+    ) as gate:
         try:
             while gate.poll() is None:
                 sample(spent, work)
@@ -82,9 +101,16 @@ def show(crates, spent):
     costs = Counter()
     for (_, _, task_of), ticks in spent.items():
         costs[task_of] += ticks / TICKS
-    rows = [(crate, [f"{costs[crate, it]:.0f}" if (crate, it) in costs else "-" for it in KINDS]) for crate in crates]
+    rows = [
+        (crate, [f"{costs[crate, it]:.0f}" if (crate, it) in costs else "-" for it in KINDS])
+        for crate in crates
+    ]
     sums = [f"{sum(cost for (_, kind), cost in costs.items() if kind == it):.0f}" for it in KINDS]
-    for name, cells in [("crate", KINDS), *(row for row in rows if set(row[1]) != {"-"}), ("all", sums)]:
+    for name, cells in [
+        ("crate", KINDS),
+        *(row for row in rows if set(row[1]) != {"-"}),
+        ("all", sums),
+    ]:
         print(f"{name:{max(map(len, crates))}}" + "".join(f"{it:>8}" for it in cells))
     return costs.total() / 60
 
@@ -92,14 +118,30 @@ def show(crates, spent):
 def main(names):
     with TemporaryDirectory() as folder:
         work, begun = Path(folder).resolve(), time.monotonic()
-        work.chmod(0o755)  # If root calls rt, rt runs programs and tests as the user nobody, who must be able to enter the folder.
+        work.chmod(
+            0o755
+        )  # If root calls rt, rt runs programs and tests as the user nobody, who must be able to enter the folder.
         subprocess.run(["git", "clone", "-q", ROOT, work / "clone"], check=True)
         (work / "rooms").mkdir()
         status, spent = run_gate(work, names)
         wall = (time.monotonic() - begun) / 60
-        minutes = show(re.findall(r"^(\w+)[ :]", (work / "clone" / "crates.txt").read_text(encoding="utf-8"), re.MULTILINE), spent)
-        print(f"{minutes:.1f} minutes of processor time, {wall:.1f} minutes of elapsed time, {os.cpu_count()} processors")
-        print(*(work / "log").read_text(encoding="utf-8", errors="replace").splitlines()[-20 if status else -1:], sep="\n")
+        minutes = show(
+            re.findall(
+                r"^(\w+)[ :]",
+                (work / "clone" / "crates.txt").read_text(encoding="utf-8"),
+                re.MULTILINE,
+            ),
+            spent,
+        )
+        print(
+            f"{minutes:.1f} minutes of processor time, {wall:.1f} minutes of elapsed time, {os.cpu_count()} processors"
+        )
+        print(
+            *(work / "log")
+            .read_text(encoding="utf-8", errors="replace")
+            .splitlines()[-20 if status else -1 :],
+            sep="\n",
+        )
     return status if status >= 0 else 1
 
 

@@ -24,7 +24,9 @@ def show_lines(lines):
     """Prints lines, wrapped at 80 columns on a terminal."""
     for line in lines:
         if sys.stdout.isatty():
-            line = textwrap.fill(line, 80, subsequent_indent="    ", break_long_words=False, break_on_hyphens=False)
+            line = textwrap.fill(
+                line, 80, subsequent_indent="    ", break_long_words=False, break_on_hyphens=False
+            )
         print(line, flush=True)
 
 
@@ -116,7 +118,11 @@ def ask_hours(prompt):
 def ask_number(prompt, least, most):
     def read(typed):
         digits = typed.replace(".", "").replace("'", "")
-        return int(digits) if digits.isascii() and digits.isdigit() and least <= int(digits) <= most else None
+        return (
+            int(digits)
+            if digits.isascii() and digits.isdigit() and least <= int(digits) <= most
+            else None
+        )
 
     return until_read(prompt, read, say("no number", least=least, most=most))
 
@@ -126,7 +132,9 @@ def ask_facilities(prompt, facilities):
         lists = read_facilities(typed, facilities)
         if not lists or not all(lists):
             return None
-        return list(dict.fromkeys(fits[0] if len(fits) == 1 else chosen(typed, fits) for fits in lists))
+        return list(
+            dict.fromkeys(fits[0] if len(fits) == 1 else chosen(typed, fits) for fits in lists)
+        )
 
     names = until_read(prompt, read, say("nobody"))
     print(f"   -> {', '.join(names)}")

@@ -29,7 +29,11 @@ HELD_BACK = (signal.SIGTSTP, signal.SIGHUP, signal.SIGTTIN, signal.SIGTTOU)
 
 def clerk():
     """Returns the name of the user who gives the command: sudo's caller, the clerk in OFFICE_CLERK, or the user of this process."""
-    return os.environ.get("SUDO_USER") or os.environ.get("OFFICE_CLERK") or pwd.getpwuid(os.getuid()).pw_name
+    return (
+        os.environ.get("SUDO_USER")
+        or os.environ.get("OFFICE_CLERK")
+        or pwd.getpwuid(os.getuid()).pw_name
+    )
 
 
 # ---- Lines of the book. A line goes to a file if the configuration names a file, if there is no journal, or if the journal doesn't accept the line.
@@ -37,7 +41,10 @@ def clerk():
 
 def printable(text):
     """Returns the text with a number in place of each unprintable character, such as a line separator."""
-    return "".join(it if it.isprintable() else f"\\x{ord(it):02x}" if ord(it) < 256 else f"\\u{ord(it):04x}" for it in text)
+    return "".join(
+        it if it.isprintable() else f"\\x{ord(it):02x}" if ord(it) < 256 else f"\\u{ord(it):04x}"
+        for it in text
+    )
 
 
 def line_of(moment, status, words):
@@ -65,11 +72,18 @@ def write_line(club, line):
 
 def is_taken(club, line):
     """Sends a line to the journal, and returns whether the journal accepted it before the timeout."""
-    fields = {"MESSAGE": line, "PRIORITY": "6", "SYSLOG_IDENTIFIER": "clubdesk-office", "CLUBDESK_CLUB": club.name}
+    fields = {
+        "MESSAGE": line,
+        "PRIORITY": "6",
+        "SYSLOG_IDENTIFIER": "clubdesk-office",
+        "CLUBDESK_CLUB": club.name,
+    }
     with socket.socket(socket.AF_UNIX, socket.SOCK_DGRAM) as journal:
         journal.settimeout(WAITS_FOR_JOURNAL)
         try:
-            journal.sendto("".join(f"{field}={value}\n" for field, value in fields.items()).encode(), JOURNAL)
+            journal.sendto(
+                "".join(f"{field}={value}\n" for field, value in fields.items()).encode(), JOURNAL
+            )
         except OSError:
             return False
     return True
@@ -97,7 +111,8 @@ class Turn:
 
     While a command runs, FILE-orders has the command's line for the book, with a question mark as status. When a command gets the lock, FILE-orders
     may still have the line of an interrupted command. This line goes into the book unchanged. Lines for standard error wait until the command
-    releases the lock. So a terminal that accepts no output, as after Ctrl-S, doesn't block other commands."""
+    releases the lock. So a terminal that accepts no output, as after Ctrl-S, doesn't block other commands.
+    """
 
     def __init__(self, club):
         self.club = club

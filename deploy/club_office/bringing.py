@@ -47,17 +47,33 @@ class Bringing:
         self.said = said
         self.desk = pwd.getpwnam("clubdesk")
         self.there = kept_in(self.place, True)
-        copies = [it.name for it in self.there if NAME.fullmatch(it.name) and (it.name == called or not called and it.tested != "no")]
+        copies = [
+            it.name
+            for it in self.there
+            if NAME.fullmatch(it.name) and (it.name == called or not called and it.tested != "no")
+        ]
         if not copies:
-            raise refusal("place without copy" if called else "place without tested", place=text, called=called)
+            raise refusal(
+                "place without copy" if called else "place without tested",
+                place=text,
+                called=called,
+            )
         self.copy = copies[-1]
         beside = sorted(it.name for it in self.there if BESIDE.fullmatch(it.name))
         if not beside:
             raise refusal("place without conf", place=text)
         # An older copy usually has no archive of its own, because the place keeps only the newest archive. For such a copy, the restore uses the
         # newest archive.
-        self.files = read_beside(given_by(self.place, f"{self.copy}.tar" if f"{self.copy}.tar" in beside else beside[0], True))
-        names = sorted(name.removeprefix("conf/").removesuffix(".conf") for name in self.files if re.fullmatch(r"conf/[a-z0-9][a-z0-9-]{0,23}\.conf", name))
+        self.files = read_beside(
+            given_by(
+                self.place, f"{self.copy}.tar" if f"{self.copy}.tar" in beside else beside[0], True
+            )
+        )
+        names = sorted(
+            name.removeprefix("conf/").removesuffix(".conf")
+            for name in self.files
+            if re.fullmatch(r"conf/[a-z0-9][a-z0-9-]{0,23}\.conf", name)
+        )
         if len(names) != 1:
             raise refusal("place of several", place=text)
         self.club = names[0]
@@ -85,7 +101,12 @@ class Bringing:
             part, _, called = name.partition("/")
             if part == "conf" and called.startswith(f"{self.club}."):
                 is_secret = called.endswith(".health")
-                self.put(os.path.join(self.configurations, called), data, 0o640 if is_secret else 0o644, (0, grp.getgrnam("clubdesk").gr_gid if is_secret else 0))
+                self.put(
+                    os.path.join(self.configurations, called),
+                    data,
+                    0o640 if is_secret else 0o644,
+                    (0, grp.getgrnam("clubdesk").gr_gid if is_secret else 0),
+                )
         found = settings(os.path.join(self.configurations, f"{self.club}.conf"))
         for what in ("titles", "logo"):
             path = found.get(what, "")
@@ -103,7 +124,12 @@ class Bringing:
         for it in self.there:
             if OLD_YEAR.fullmatch(it.name):
                 path = f"{file}-{it.name}"
-                self.put(path, b"" if os.path.lexists(path) else given_by(self.place, it.name, True), 0o600, owner)
+                self.put(
+                    path,
+                    b"" if os.path.lexists(path) else given_by(self.place, it.name, True),
+                    0o600,
+                    owner,
+                )
 
     def bring_club(self, file):
         """Fetches the newest tested copy, or the copy with the given name. Tests that clubdesk can open the copy, and then gives the copy the name of
@@ -115,10 +141,28 @@ class Bringing:
         os.chmod(made, 0o600)
         os.chown(made, self.desk.pw_uid, self.desk.pw_gid)
         opened = f"{made}-opened"
-        line = ["sh", "-c", 'cp -- "$1" "$2" && "$3" sheet -- "$2" 2000-01-01; status=$?; rm -f "$2" "$2"-*; exit $status', "sh", made, opened, program("CLUBDESK", "clubdesk")]
-        done = subprocess.run(["runuser", "-u", "clubdesk", "--", *line], capture_output=True, text=True, errors="replace", check=False, cwd="/", umask=0o077)
+        line = [
+            "sh",
+            "-c",
+            'cp -- "$1" "$2" && "$3" sheet -- "$2" 2000-01-01; status=$?; rm -f "$2" "$2"-*; exit $status',
+            "sh",
+            made,
+            opened,
+            program("CLUBDESK", "clubdesk"),
+        ]
+        done = subprocess.run(
+            ["runuser", "-u", "clubdesk", "--", *line],
+            capture_output=True,
+            text=True,
+            errors="replace",
+            check=False,
+            cwd="/",
+            umask=0o077,
+        )
         if done.returncode:
-            raise refusal("other copy", why=say("copy unopened", called=self.copy, said=done.stderr.strip()))
+            raise refusal(
+                "other copy", why=say("copy unopened", called=self.copy, said=done.stderr.strip())
+            )
         if not is_named(made, file):
             raise refusal("file by now", path=file)
         synced(os.path.dirname(file))

@@ -17,7 +17,16 @@ from club_office.texts import in_language, say
 from club_office.undoing import Record, broken_off, forget_undo, rows_edited, rows_of_member
 from club_office.values import date_of
 
-CORRECTIONS = ("set-quota", "debit", "set-facility", "reopen-slot", "cancel", "close", "rain", "leave")
+CORRECTIONS = (
+    "set-quota",
+    "debit",
+    "set-facility",
+    "reopen-slot",
+    "cancel",
+    "close",
+    "rain",
+    "leave",
+)
 # These corrections give the desk only commands that the clerk has seen and that the desk hasn't carried out yet. Every other
 # correction fails if its plan has changed since the clerk saw it.
 LISTED = ("cancel", "close", "rain", "leave")
@@ -199,7 +208,12 @@ class Correction:
             raise Fault(REFUSED, f"{in_language(said)}: {' '.join(words)}")
         # Another program may have killed the command.
         status = done.returncode if 0 < done.returncode < 128 else NO_ANSWER
-        raise fault(status, "command undone", order=" ".join(words), said=in_language(said) or f"status {done.returncode}")
+        raise fault(
+            status,
+            "command undone",
+            order=" ".join(words),
+            said=in_language(said) or f"status {done.returncode}",
+        )
 
     def look_again(self):
         """Prints each booking outside the new hours that a member made after the correction copied the club. The new hours stay in force."""
@@ -216,11 +230,15 @@ class Correction:
             with contextlib.closing(file_taken(self.club)) as db:
                 plan = self.plan(db, None)
                 if plan.orders:
-                    return [slot_text(it.facility, it.day, it.hour) for it in plan.cancelled] or [self.words.member]
+                    return [slot_text(it.facility, it.day, it.hour) for it in plan.cancelled] or [
+                        self.words.member
+                    ]
                 before = rows_of_member(db, self.words.member)
                 change(db, plan, lambda: self.keep_names(before, rows_of_member(db, plan.new_name)))
         except (Fault, sqlite3.Error, OSError) as failure:
-            raise storage_failed("names undone", member=self.words.member, why=getattr(failure, "why", failure)) from None
+            raise storage_failed(
+                "names undone", member=self.words.member, why=getattr(failure, "why", failure)
+            ) from None
         return []
 
     def keep_names(self, before, after):
@@ -239,6 +257,20 @@ def refuse_unsound(rows):
     """Refuses to make a total negative. A total can be too small if somebody changed the file by hand."""
     for table, _, was, is_now in rows:
         if table == "slots" and is_now[TAKEN] < 0:
-            raise refusal("nothing changed", why=say("taken off", facility=is_now[0], day=date_of(is_now[1]), hour=is_now[2], persons=-is_now[TAKEN]))
+            raise refusal(
+                "nothing changed",
+                why=say(
+                    "taken off",
+                    facility=is_now[0],
+                    day=date_of(is_now[1]),
+                    hour=is_now[2],
+                    persons=-is_now[TAKEN],
+                ),
+            )
         if table == "members" and is_now[USED] < 0:
-            raise refusal("nothing changed", why=say("used off", member=is_now[0], used=was[USED], spent=was[USED] - is_now[USED]))
+            raise refusal(
+                "nothing changed",
+                why=say(
+                    "used off", member=is_now[0], used=was[USED], spent=was[USED] - is_now[USED]
+                ),
+            )

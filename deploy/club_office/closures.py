@@ -33,7 +33,9 @@ def add_reasons(club, words, today):
     """Adds reasons for closed slots, and removes the reasons for past slots."""
     begin, end = words.hours
     more = [
-        {"facility": facility, "day": day, "from": begin, "until": end, "why": words.why} for day in days_of(words) for facility in unique(words.facilities)
+        {"facility": facility, "day": day, "from": begin, "until": end, "why": words.why}
+        for day in days_of(words)
+        for facility in unique(words.facilities)
     ]
     kept = [it for it in reasons_of(club) if it["day"] >= today and it not in more] + more
     made = club.file + "-reasons.new"
@@ -48,13 +50,33 @@ def add_reasons(club, words, today):
 def closures_of(db, reasons, today):
     """Returns the closed hours from today on that have a reason, in the form that the page reads. If an hour has several reasons, the newest reason
     applies."""
-    why = {(it["facility"], it["day"], hour): it["why"] for it in reasons for hour in range(it["from"], it["until"])}
+    why = {
+        (it["facility"], it["day"], hour): it["why"]
+        for it in reasons
+        for hour in range(it["from"], it["until"])
+    }
     found = []
-    for facility, day, hour in db.execute("SELECT facility, day, hour FROM slots WHERE closed = 1 AND day >= ? ORDER BY facility, day, hour", [today]):
+    for facility, day, hour in db.execute(
+        "SELECT facility, day, hour FROM slots WHERE closed = 1 AND day >= ? ORDER BY facility, day, hour",
+        [today],
+    ):
         text = why.get((facility, day, hour))
         last = found[-1] if found else None
-        if text and last and (last["facility"], last["day"], last["until"], last["why"]) == (facility, date_of(day), hour, text):
+        if (
+            text
+            and last
+            and (last["facility"], last["day"], last["until"], last["why"])
+            == (facility, date_of(day), hour, text)
+        ):
             last["until"] = hour + 1
         elif text:
-            found.append({"facility": facility, "day": date_of(day), "from": hour, "until": hour + 1, "why": text})
+            found.append(
+                {
+                    "facility": facility,
+                    "day": date_of(day),
+                    "from": hour,
+                    "until": hour + 1,
+                    "why": text,
+                }
+            )
     return found

@@ -18,6 +18,8 @@ from club_office.values import NAME, moment, moment_text
 
 # The program that the clerk started.
 SELF = os.path.realpath(sys.modules["__main__"].__file__ or "")
+
+
 class Club(collections.namedtuple("Club", "name file zone stop book back_ups settings")):
     """A club on the machine. `settings` has the lines of the configuration, with their names in lower case."""
 
@@ -28,7 +30,9 @@ class Club(collections.namedtuple("Club", "name file zone stop book back_ups set
 
     @property
     def port(self):
-        return int(self.settings.get("port", "0")) if self.settings.get("port", "0").isdigit() else 0
+        return (
+            int(self.settings.get("port", "0")) if self.settings.get("port", "0").isdigit() else 0
+        )
 
     @property
     def title(self):
@@ -39,8 +43,6 @@ class Club(collections.namedtuple("Club", "name file zone stop book back_ups set
     def site(self):
         """The address of the club's pages, without a final slash."""
         return self.settings.get("site", "").rstrip("/")
-
-
 
 
 def settings(path):
@@ -56,7 +58,20 @@ def settings(path):
 
 # The files that clubdesk or the office makes next to a club's file. The name of each such file is the name of the club's file with one of these
 # endings, or with `-until-` and a day.
-ENDINGS = ("-before", "-book", "-metrics", "-new", "-office", "-offsite", "-orders", "-people.csv", "-reasons", "-seasons", "-undo", "-wal")
+ENDINGS = (
+    "-before",
+    "-book",
+    "-metrics",
+    "-new",
+    "-office",
+    "-offsite",
+    "-orders",
+    "-people.csv",
+    "-reasons",
+    "-seasons",
+    "-undo",
+    "-wal",
+)
 
 
 def is_beside(file, other):
@@ -91,7 +106,9 @@ def club_named(called, is_at_desk=False):
     except FileNotFoundError:
         raise refusal("no such club", word=word, path=f"{folder}/{word}.conf") from None
     except (OSError, UnicodeDecodeError) as failure:
-        raise fault(STORAGE, "cannot be read", path=f"{folder}/{word}.conf", fault=failure) from None
+        raise fault(
+            STORAGE, "cannot be read", path=f"{folder}/{word}.conf", fault=failure
+        ) from None
     if not os.path.isabs(found.get("file", "")):
         raise fault(STORAGE, "no file line", path=f"{folder}/{word}.conf")
     refuse_files_of_others(found["file"], folder)
@@ -99,14 +116,24 @@ def club_named(called, is_at_desk=False):
     time.tzset()
     stop = found.get("stop") or f"sudo -n /usr/bin/systemctl kill clubdesk@{word}.service"
     back_ups = found.get("back_ups") or f"/var/backups/clubdesk/{word}"
-    return Club(called, old_file(found["file"], year) if is_at_desk and year else found["file"], os.environ["TZ"], shlex.split(stop), found.get("book"), back_ups, found)
+    return Club(
+        called,
+        old_file(found["file"], year) if is_at_desk and year else found["file"],
+        os.environ["TZ"],
+        shlex.split(stop),
+        found.get("book"),
+        back_ups,
+        found,
+    )
 
 
 def old_files(file):
     """Returns the files of old years next to a club, oldest first, each with its last day. Of two files with the same day, returns only the file that
     was changed later."""
     found = {}
-    for path in sorted(glob.glob(glob.escape(file) + "-until-*"), key=lambda it: (os.stat(it).st_mtime_ns, it)):
+    for path in sorted(
+        glob.glob(glob.escape(file) + "-until-*"), key=lambda it: (os.stat(it).st_mtime_ns, it)
+    ):
         day = re.fullmatch(r".*-until-([0-9]{4}-[0-9]{2}-[0-9]{2})(-[0-9]+)?", path)
         if day:
             found[day[1]] = path
@@ -125,7 +152,17 @@ def old_file(file, year):
 
 # The desk's side is the process that runs as the desk's user. It has this PATH, and keeps these environment variables.
 PATH = "/usr/local/sbin:/usr/local/bin:/usr/sbin:/usr/bin:/sbin:/bin"
-KEPT = ("LANG", "LC_ALL", "LC_CTYPE", "LOGNAME", "OFFICE_CLERK", "SUDO_USER", "TERM", "COLUMNS", "USER")
+KEPT = (
+    "LANG",
+    "LC_ALL",
+    "LC_CTYPE",
+    "LOGNAME",
+    "OFFICE_CLERK",
+    "SUDO_USER",
+    "TERM",
+    "COLUMNS",
+    "USER",
+)
 
 
 def forget_environment():
@@ -133,12 +170,16 @@ def forget_environment():
     for each in set(os.environ) - set(KEPT):
         del os.environ[each]
     os.environ["PATH"] = PATH
-    os.environ["HOME"] = pwd.getpwuid(os.geteuid()).pw_dir  # programs such as a mailer read their configuration there
+    os.environ["HOME"] = pwd.getpwuid(
+        os.geteuid()
+    ).pw_dir  # programs such as a mailer read their configuration there
 
 
 def program(variable, called):
     """Returns the path of a program from an environment variable. If the variable isn't set, searches the PATH."""
-    found = os.environ.get(variable) or shutil.which(called, path=os.environ.get("PATH", "") + ":/usr/local/bin:/usr/bin")
+    found = os.environ.get(variable) or shutil.which(
+        called, path=os.environ.get("PATH", "") + ":/usr/local/bin:/usr/bin"
+    )
     if not found:
         raise fault(STORAGE, "no program", path=called)
     return found
@@ -170,7 +211,14 @@ def refuse_to_come(words):
 def run_clubdesk(club, command, words, options=(), root=None, held=()):
     """Runs a command of clubdesk on the club's file, and returns the completed process. The command keeps the descriptors `held` open."""
     line = [program("CLUBDESK", "clubdesk"), command, *options, "--", club.file, *words]
-    return subprocess.run(line, input=root, capture_output=True, check=False, stdin=None if root is not None else subprocess.DEVNULL, pass_fds=held)
+    return subprocess.run(
+        line,
+        input=root,
+        capture_output=True,
+        check=False,
+        stdin=None if root is not None else subprocess.DEVNULL,
+        pass_fds=held,
+    )
 
 
 def clubdesk(club, command, words, options=(), root=None):
@@ -184,7 +232,8 @@ def clubdesk(club, command, words, options=(), root=None):
 def ended_by_itself(line, given=None, **how):
     """Runs a command, and waits until it ends, even after Ctrl-C. Returns the command's status, and the output that the command wrote into a pipe.
     The command may run under sudo. A clerk's process can't end sudo's process, so the command itself must handle Ctrl-C. After Ctrl-C, raises
-    KeyboardInterrupt for a command that only reads. For any other command, the status shows whether the command succeeded."""
+    KeyboardInterrupt for a command that only reads. For any other command, the status shows whether the command succeeded.
+    """
     command = subprocess.Popen(line, **how)
     text, is_interrupted = given, False
     while True:

@@ -13,13 +13,29 @@ import sys
 from club_office import by_commands, lists, outputs, people, phoning, plans
 from club_office.book import Turn, give_order
 from club_office.closures import reason
-from club_office.clubs import club_named, clubdesk, desk_user, ended_by_itself, forget_environment, now_of, program, show, wants_file
+from club_office.clubs import (
+    club_named,
+    clubdesk,
+    desk_user,
+    ended_by_itself,
+    forget_environment,
+    now_of,
+    program,
+    show,
+    wants_file,
+)
 from club_office.copies import clear_left, scratch, snapshot
 from club_office.corrections import correct
 from club_office.counter import ask_person, desk_line, make_pass, read_book, show_book, write_report
 from club_office.faults import OUTPUT, STORAGE, USAGE, Fault, bad_value, fault, refusal
 from club_office.asking import is_terminal
-from club_office.importing import import_members, import_row, import_state, make_spares, refuse_spare_files
+from club_office.importing import (
+    import_members,
+    import_row,
+    import_state,
+    make_spares,
+    refuse_spare_files,
+)
 from club_office.letters import letters
 from club_office.menu import menu
 from club_office.passes import list_old_passes
@@ -29,7 +45,20 @@ from club_office.season import credit_all
 from club_office.texts import say, usage
 from club_office.typed import Reader, confirms_odd, names_of, print_names, read_words
 from club_office.undoing import is_by_command, plan_undo, plan_undo_by_command
-from club_office.values import MOST_CREDIT, MOST_NUMBER, copy_name, day, days, hour_or_hours, hours, moment, name, names, number, weekday
+from club_office.values import (
+    MOST_CREDIT,
+    MOST_NUMBER,
+    copy_name,
+    day,
+    days,
+    hour_or_hours,
+    hours,
+    moment,
+    name,
+    names,
+    number,
+    weekday,
+)
 
 
 def make_new(club):
@@ -62,7 +91,12 @@ class ShowVersion(argparse.Action):
     """Prints the version of clubdesk, which is also the office's version."""
 
     def __call__(self, parser, *_):
-        done = subprocess.run([program("CLUBDESK", "clubdesk"), "--version"], stdout=subprocess.PIPE, text=True, check=False)
+        done = subprocess.run(
+            [program("CLUBDESK", "clubdesk"), "--version"],
+            stdout=subprocess.PIPE,
+            text=True,
+            check=False,
+        )
         print(done.stdout.strip().replace("clubdesk", "office", 1))
         parser.exit(done.returncode)
 
@@ -71,17 +105,40 @@ Command = collections.namedtuple("Command", "kind words help does")
 # The kinds of commands. clubdesk carries out a command of the kind ORDER, LOOK or PASS. A CORRECTION changes the club after a preview. The office's
 # own functions carry out the other kinds: LIST on a copy of the club, DESK on the club itself, and COUNTER on the clerk's side. A command without a
 # help text is internal: only the clerk's side calls it.
-ORDER, LOOK, PASS, LIST, CORRECTION, DESK, COUNTER = "order look pass list correction desk counter".split()
+(
+    ORDER,
+    LOOK,
+    PASS,
+    LIST,
+    CORRECTION,
+    DESK,
+    COUNTER,
+) = "order look pass list correction desk counter".split()
 
 # The greatest number of words of a command, including its name, and the greatest number of bytes of a word.
 MOST_WORDS = 200
 MOST_BYTES = 1_000
-AT = ("--at", {"metavar": "MOMENT", "type": moment, "help": "use this moment instead of the clock's"})
+AT = (
+    "--at",
+    {"metavar": "MOMENT", "type": moment, "help": "use this moment instead of the clock's"},
+)
 YES = ("--yes", {"action": "store_true", "help": "don't ask"})
-MAIL = ("--mail", {"action": "store_true", "help": "send mail about the cancelled bookings to members whose addresses are known"})
+MAIL = (
+    "--mail",
+    {
+        "action": "store_true",
+        "help": "send mail about the cancelled bookings to members whose addresses are known",
+    },
+)
 CSV = ("--csv", {"action": "store_true", "help": "print comma-separated values"})
 FORM = ("--form", {"metavar": "FORM", "help": "v1, v2 or json; the default is v2"})
-TO = ("--to", {"metavar": "FILE", "help": "write the pass to a file, which gets its name once it is complete"})
+TO = (
+    "--to",
+    {
+        "metavar": "FILE",
+        "help": "write the pass to a file, which gets its name once it is complete",
+    },
+)
 ROOT_STDIN = ("--root-stdin", {"action": "store_true", "help": "read the root from standard input"})
 
 
@@ -90,20 +147,36 @@ def word(called, **how):
 
 
 SEVERAL = word("FACILITIES", type=names, nargs="+", help="such as court-1 court-2, courts, or all")
-FACILITY, MEMBER, DAY = word("FACILITY", type=name), word("MEMBER", type=name), word("DAY", type=day)
+FACILITY, MEMBER, DAY = (
+    word("FACILITY", type=name),
+    word("MEMBER", type=name),
+    word("DAY", type=day),
+)
 HOUR = word("HOUR", help="such as 15, or 15-17 for several hours")
 
 COMMANDS = {
-    "add-member": Command(ORDER, [word("NAME"), word("QUOTA")], "add a member, with spare keys if the configuration has them", None),
+    "add-member": Command(
+        ORDER,
+        [word("NAME"), word("QUOTA")],
+        "add a member, with spare keys if the configuration has them",
+        None,
+    ),
     "credit": Command(ORDER, [word("MEMBER"), word("POINTS")], "credit a member with points", None),
     "add-facility": Command(
         ORDER,
-        [word("NAME"), word("KIND", help="court, boat or room"), *(word(w) for w in "PLACES PRICE OPENS SHUTS".split())],
+        [
+            word("NAME"),
+            word("KIND", help="court, boat or room"),
+            *(word(w) for w in "PLACES PRICE OPENS SHUTS".split()),
+        ],
         "add a facility",
         None,
     ),
     "add-key": Command(
-        PASS, [word("KEY"), word("MEMBER"), word("ROOT", nargs="?"), ROOT_STDIN, FORM, TO], "add a key for a member, and print the key's pass", None
+        PASS,
+        [word("KEY"), word("MEMBER"), word("ROOT", nargs="?"), ROOT_STDIN, FORM, TO],
+        "add a key for a member, and print the key's pass",
+        None,
     ),
     "rotate-key": Command(
         PASS,
@@ -112,48 +185,103 @@ COMMANDS = {
         None,
     ),
     "revoke-key": Command(ORDER, [word("KEY")], "revoke a key", None),
-    "close-slot": Command(ORDER, [word("FACILITY"), word("DAY"), HOUR], "close the slot of an hour, or of several hours, if nobody has booked it", None),
+    "close-slot": Command(
+        ORDER,
+        [word("FACILITY"), word("DAY"), HOUR],
+        "close the slot of an hour, or of several hours, if nobody has booked it",
+        None,
+    ),
     "sheet": Command(LOOK, [word("DAY")], "print the day sheet", None),
     "show-account": Command(
-        LOOK, [word("KEY"), ("--zone", {"metavar": "RULE"}), ("--at", {"metavar": "MOMENT"})], "print the account that the desk shows to the key", None
+        LOOK,
+        [word("KEY"), ("--zone", {"metavar": "RULE"}), ("--at", {"metavar": "MOMENT"})],
+        "print the account that the desk shows to the key",
+        None,
     ),
-    "show-slot": Command(LOOK, [word("FACILITY"), word("DAY"), HOUR], "print the slot of an hour, or of several hours, as the desk shows it", None),
-    "members": Command(LIST, [CSV, AT], "list the members: balance, quota, open bookings, keys", lists.list_members),
+    "show-slot": Command(
+        LOOK,
+        [word("FACILITY"), word("DAY"), HOUR],
+        "print the slot of an hour, or of several hours, as the desk shows it",
+        None,
+    ),
+    "members": Command(
+        LIST, [CSV, AT], "list the members: balance, quota, open bookings, keys", lists.list_members
+    ),
     "facilities": Command(LIST, [CSV], "list the facilities", lists.list_facilities),
     "keys": Command(LIST, [MEMBER, CSV], "list the keys of a member", lists.list_keys),
     "bookings": Command(
         LIST,
-        [("what", {"metavar": "MEMBER|DAY|FACILITY"}), ("--all", {"action": "store_true", "help": "list past and cancelled bookings too"}), CSV, AT],
+        [
+            ("what", {"metavar": "MEMBER|DAY|FACILITY"}),
+            ("--all", {"action": "store_true", "help": "list past and cancelled bookings too"}),
+            CSV,
+            AT,
+        ],
         "list the bookings of a day, or the bookings of a member or facility from today on",
         lists.list_bookings,
     ),
     "closed": Command(LIST, [CSV, AT], "list the closed slots from today on", lists.list_closed),
     "money": Command(
-        LIST, [word("MEMBER", nargs="?", type=name), CSV], "list the credits, charges and refunds of a member, or of all members", lists.list_money
+        LIST,
+        [word("MEMBER", nargs="?", type=name), CSV],
+        "list the credits, charges and refunds of a member, or of all members",
+        lists.list_money,
     ),
-    "check": Command(LIST, [], "check that the stored totals match the sums of the bookings", lists.list_faults),
+    "check": Command(
+        LIST, [], "check that the stored totals match the sums of the bookings", lists.list_faults
+    ),
     "set-facility": Command(
         CORRECTION,
         [
             FACILITY,
-            ("--price", {"metavar": "PRICE", "type": number(0, 9999), "help": "points for one place and one hour, 0 to 9999"}),
+            (
+                "--price",
+                {
+                    "metavar": "PRICE",
+                    "type": number(0, 9999),
+                    "help": "points for one place and one hour, 0 to 9999",
+                },
+            ),
             ("--places", {"metavar": "PLACES", "type": number(1, 50), "help": "1 to 50"}),
             ("--hours", {"metavar": "OPENS-SHUTS", "type": hours, "help": "such as 8-22"}),
         ],
         "change the price, the places or the hours of a facility",
         plans.plan_facility,
     ),
-    "set-quota": Command(CORRECTION, [MEMBER, word("QUOTA", type=number(0, 99))], "change the quota of a member", plans.plan_quota),
-    "debit": Command(
-        CORRECTION, [MEMBER, word("POINTS", type=number(1, 999_999_999))], "take points back, but no more than the balance", plans.plan_debit
+    "set-quota": Command(
+        CORRECTION,
+        [MEMBER, word("QUOTA", type=number(0, 99))],
+        "change the quota of a member",
+        plans.plan_quota,
     ),
-    "reopen-slot": Command(CORRECTION, [FACILITY, DAY, ("hours", {"metavar": "HOURS", "type": hour_or_hours, "help": "such as 15 or 15-17"})], "reopen closed slots", plans.plan_reopen),
+    "debit": Command(
+        CORRECTION,
+        [MEMBER, word("POINTS", type=number(1, 999_999_999))],
+        "take points back, but no more than the balance",
+        plans.plan_debit,
+    ),
+    "reopen-slot": Command(
+        CORRECTION,
+        [
+            FACILITY,
+            DAY,
+            ("hours", {"metavar": "HOURS", "type": hour_or_hours, "help": "such as 15 or 15-17"}),
+        ],
+        "reopen closed slots",
+        plans.plan_reopen,
+    ),
     "cancel": Command(
         CORRECTION,
         [
             word("KEY", type=name),
             word("NUMBER", nargs="?", type=number(1, MOST_NUMBER)),
-            ("--all", {"action": "store_true", "help": "cancel all future bookings of the key, instead of one NUMBER"}),
+            (
+                "--all",
+                {
+                    "action": "store_true",
+                    "help": "cancel all future bookings of the key, instead of one NUMBER",
+                },
+            ),
         ],
         "cancel a booking of any key, with a full refund",
         plans.plan_cancel,
@@ -164,8 +292,22 @@ COMMANDS = {
             ("day", {"metavar": "DAYS", "type": days, "help": "a day, or the days FIRST..LAST"}),
             ("hours", {"metavar": "HOURS", "type": hour_or_hours, "help": "such as 10-18"}),
             SEVERAL,
-            ("--weekday", {"metavar": "WEEKDAY", "type": weekday, "help": "close only the days on this weekday, such as tue"}),
-            ("--why", {"metavar": "TEXT", "type": reason, "help": "the reason, which the booking page shows"}),
+            (
+                "--weekday",
+                {
+                    "metavar": "WEEKDAY",
+                    "type": weekday,
+                    "help": "close only the days on this weekday, such as tue",
+                },
+            ),
+            (
+                "--why",
+                {
+                    "metavar": "TEXT",
+                    "type": reason,
+                    "help": "the reason, which the booking page shows",
+                },
+            ),
             MAIL,
         ],
         "close slots, for example for a tournament; list their bookings, cancel and refund them",
@@ -173,35 +315,76 @@ COMMANDS = {
     ),
     "rain": Command(
         CORRECTION,
-        [DAY, word("FACILITIES", type=names, help="such as court-1,court-2 or courts"), word("HOURS", type=hour_or_hours, nargs="+", help="such as 15 or 15-17"), MAIL],
+        [
+            DAY,
+            word("FACILITIES", type=names, help="such as court-1,court-2 or courts"),
+            word("HOURS", type=hour_or_hours, nargs="+", help="such as 15 or 15-17"),
+            MAIL,
+        ],
         "cancel all bookings in these hours with a full refund, even if the hours are over",
         plans.plan_rain,
     ),
-    "undo": Command(CORRECTION, [], "restore what the last correction changed, if nothing has changed it since", None),
+    "undo": Command(
+        CORRECTION,
+        [],
+        "restore what the last correction changed, if nothing has changed it since",
+        None,
+    ),
     "credit-all": Command(
         DESK,
         [
             word("POINTS", type=number(1, MOST_CREDIT)),
-            ("--as", {"metavar": "NAME", "type": name, "dest": "label", "required": True, "help": "a name for the credit, such as season-2027, so that no member gets it twice"}),
+            (
+                "--as",
+                {
+                    "metavar": "NAME",
+                    "type": name,
+                    "dest": "label",
+                    "required": True,
+                    "help": "a name for the credit, such as season-2027, so that no member gets it twice",
+                },
+            ),
             YES,
         ],
         "credit each member whose quota isn't 0 with the season's points, once",
         credit_all,
     ),
-    "lost-pass": Command(PASS, [word("KEY"), FORM, TO], "give a key a new pass, and refuse its earlier passes", None),
+    "lost-pass": Command(
+        PASS, [word("KEY"), FORM, TO], "give a key a new pass, and refuse its earlier passes", None
+    ),
     "leave": Command(
-        CORRECTION, [MEMBER], "revoke a leaving member's keys, cancel the future bookings, set the quota to 0, and replace the name with a number", plans.plan_leave
+        CORRECTION,
+        [MEMBER],
+        "revoke a leaving member's keys, cancel the future bookings, set the quota to 0, and replace the name with a number",
+        plans.plan_leave,
     ),
     "new-year": Command(
         CORRECTION,
-        [("--before", {"metavar": "DAY", "type": day, "help": "the first day that stays in the file; the default is today"})],
+        [
+            (
+                "--before",
+                {
+                    "metavar": "DAY",
+                    "type": day,
+                    "help": "the first day that stays in the file; the default is today",
+                },
+            )
+        ],
         "keep a copy of the file, and remove past bookings and slots from the file; balances, keys and future bookings stay",
         plans.plan_new_year,
     ),
     "person": Command(
-        COUNTER, [MEMBER], "ask for a member's full name, mail address and telephone number; an empty answer keeps the old value, and - removes it", ask_person
+        COUNTER,
+        [MEMBER],
+        "ask for a member's full name, mail address and telephone number; an empty answer keeps the old value, and - removes it",
+        ask_person,
     ),
-    "record": Command(LIST, [word("KEY", type=name)], "print a key's bookings in the form that the member's page can import", outputs.print_record),
+    "record": Command(
+        LIST,
+        [word("KEY", type=name)],
+        "print a key's bookings in the form that the member's page can import",
+        outputs.print_record,
+    ),
     "book": Command(
         DESK,
         [
@@ -209,8 +392,19 @@ COMMANDS = {
             FACILITY,
             DAY,
             word("HOUR", type=hour_or_hours, help="such as 15, or 15-17 for several hours"),
-            word("GUESTS", nargs="?", type=number(0, 49), help="the number of guests; the default is 0"),
-            ("--again", {"action": "store_true", "help": "book even if the office has already booked the slot for the member"}),
+            word(
+                "GUESTS",
+                nargs="?",
+                type=number(0, 49),
+                help="the number of guests; the default is 0",
+            ),
+            (
+                "--again",
+                {
+                    "action": "store_true",
+                    "help": "book even if the office has already booked the slot for the member",
+                },
+            ),
         ],
         "book one hour or several for a member who calls, under a key of the office",
         phoning.book,
@@ -222,18 +416,45 @@ COMMANDS = {
             FACILITY,
             DAY,
             word("HOUR", type=hour_or_hours, help="such as 15, or 15-17 for several hours"),
-            ("--number", {"metavar": "NUMBER", "type": number(1, MOST_NUMBER), "help": "the number of the booking, if the member has several in the slot"}),
+            (
+                "--number",
+                {
+                    "metavar": "NUMBER",
+                    "type": number(1, MOST_NUMBER),
+                    "help": "the number of the booking, if the member has several in the slot",
+                },
+            ),
         ],
         "cancel one hour or several for a member who calls, with the refund that the rules give",
         phoning.cancel_for,
     ),
-    "page": Command(DESK, [], "rebuild the list of facilities that the booking page reads", outputs.make_page),
+    "page": Command(
+        DESK, [], "rebuild the list of facilities that the booking page reads", outputs.make_page
+    ),
     "letters": Command(
         COUNTER,
         [
-            word("KEY", nargs="*", help="the keys whose passes to print; the default is all passes in the folder"),
-            ("--passes", {"metavar": "FOLDER", "default": "passes", "help": "the folder with the passes; the default is passes"}),
-            ("--to", {"metavar": "FILE", "default": "letters.html", "help": "the file to write; the default is letters.html"}),
+            word(
+                "KEY",
+                nargs="*",
+                help="the keys whose passes to print; the default is all passes in the folder",
+            ),
+            (
+                "--passes",
+                {
+                    "metavar": "FOLDER",
+                    "default": "passes",
+                    "help": "the folder with the passes; the default is passes",
+                },
+            ),
+            (
+                "--to",
+                {
+                    "metavar": "FILE",
+                    "default": "letters.html",
+                    "help": "the file to write; the default is letters.html",
+                },
+            ),
         ],
         "write a file to print, with a sheet for each pass: link, QR code, instructions, and a half with spare passes to cut off",
         lambda club, words: letters(club, words, names_of),
@@ -242,8 +463,14 @@ COMMANDS = {
         COUNTER,
         [
             word("YEAR", nargs="?", type=number(2000, 2099), help="the default is this year"),
-            ("--no-names", {"action": "store_true", "help": "leave the members' names out of the report"}),
-            ("--to", {"metavar": "FILE", "help": "the file to write; the default is report-YEAR.html"}),
+            (
+                "--no-names",
+                {"action": "store_true", "help": "leave the members' names out of the report"},
+            ),
+            (
+                "--to",
+                {"metavar": "FILE", "help": "the file to write; the default is report-YEAR.html"},
+            ),
         ],
         "write the board's page, which compares use, points and members of a year with the year before",
         write_report,
@@ -252,16 +479,48 @@ COMMANDS = {
         COUNTER,
         [
             word("FILE"),
-            ("--passes", {"metavar": "FOLDER", "default": "passes", "help": "the folder for the passes; the default is passes"}),
-            ("--columns", {"metavar": "MAP", "help": "the column of each value, such as name=Player,points=Balance"}),
-            ("--quota", {"metavar": "QUOTA", "type": number(0, 99), "help": "the quota of each member, if no column has it"}),
-            ("--points", {"metavar": "POINTS", "type": number(0, MOST_CREDIT), "help": "the points of each member, if no column has them"}),
+            (
+                "--passes",
+                {
+                    "metavar": "FOLDER",
+                    "default": "passes",
+                    "help": "the folder for the passes; the default is passes",
+                },
+            ),
+            (
+                "--columns",
+                {
+                    "metavar": "MAP",
+                    "help": "the column of each value, such as name=Player,points=Balance",
+                },
+            ),
+            (
+                "--quota",
+                {
+                    "metavar": "QUOTA",
+                    "type": number(0, 99),
+                    "help": "the quota of each member, if no column has it",
+                },
+            ),
+            (
+                "--points",
+                {
+                    "metavar": "POINTS",
+                    "type": number(0, MOST_CREDIT),
+                    "help": "the points of each member, if no column has them",
+                },
+            ),
             YES,
         ],
         "add members with points and keys from a list of comma-separated values",
         import_members,
     ),
-    "copies": Command(DESK, [CSV], "list the copies of the club: one of each night, and one from before each correction", list_copies),
+    "copies": Command(
+        DESK,
+        [CSV],
+        "list the copies of the club: one of each night, and one from before each correction",
+        list_copies,
+    ),
     "restore": Command(
         DESK,
         [word("COPY", type=copy_name), YES, AT],
@@ -269,14 +528,22 @@ COMMANDS = {
         restore,
     ),
     "new": Command(DESK, [], "create the club's file", lambda club, _words: make_new(club)),
-    "log": Command(COUNTER, [word("WORD", nargs="?")], "print the book of commands, or only the lines that contain WORD", read_book),
+    "log": Command(
+        COUNTER,
+        [word("WORD", nargs="?")],
+        "print the book of commands, or only the lines that contain WORD",
+        read_book,
+    ),
     # Internal commands, which the clerk's side calls on the desk's side.
     "names": Command(LIST, [], "", print_names),
     "import-state": Command(LIST, [], "", import_state),
     "old-passes": Command(DESK, [], "", list_old_passes),
     "print-report": Command(
         DESK,
-        [word("YEAR", nargs="?", type=number(2000, 2099)), ("--no-names", {"action": "store_true"})],
+        [
+            word("YEAR", nargs="?", type=number(2000, 2099)),
+            ("--no-names", {"action": "store_true"}),
+        ],
         "",
         outputs.print_report,
     ),
@@ -284,7 +551,12 @@ COMMANDS = {
     "set-person": Command(DESK, [MEMBER], "", people.set_person),
     "import-row": Command(
         DESK,
-        [MEMBER, word("QUOTA", type=number(0, 99)), word("POINTS", type=number(0, MOST_CREDIT)), word("KEY", type=name)],
+        [
+            MEMBER,
+            word("QUOTA", type=number(0, 99)),
+            word("POINTS", type=number(0, MOST_CREDIT)),
+            word("KEY", type=name),
+        ],
         "",
         import_row,
     ),
@@ -294,10 +566,18 @@ COMMANDS = {
 
 def words_of(given, is_desk):
     """Parses a command line according to COMMANDS."""
-    top = Words(prog="office", description="The office of a club, for clerks who are not root: office CLUB COMMAND [WORD ..].", epilog="office CLUB COMMAND --help shows the arguments of a command.")
-    top.add_argument("--version", action=ShowVersion, nargs=0, help="print the program's name and version")
+    top = Words(
+        prog="office",
+        description="The office of a club, for clerks who are not root: office CLUB COMMAND [WORD ..].",
+        epilog="office CLUB COMMAND --help shows the arguments of a command.",
+    )
+    top.add_argument(
+        "--version", action=ShowVersion, nargs=0, help="print the program's name and version"
+    )
     top.add_argument("club", metavar="CLUB", help="a club that /etc/clubdesk/CLUB.conf describes")
-    commands = top.add_subparsers(dest="command", metavar="COMMAND", required=True, title="commands", parser_class=Words)
+    commands = top.add_subparsers(
+        dest="command", metavar="COMMAND", required=True, title="commands", parser_class=Words
+    )
     for called, command in COMMANDS.items():
         if not command.help and not is_desk:
             continue
@@ -339,13 +619,22 @@ def at_desk(given):
             command.does(db, words, now_of(words))
         return 0
     if words.command == "new-year":
-        return correct(club, words, lambda db, found, now: plans.plan_new_year(db, found, now, club))
+        return correct(
+            club, words, lambda db, found, now: plans.plan_new_year(db, found, now, club)
+        )
     if words.command in by_commands.CORRECTIONS:
         return by_commands.correct(club, words, command.does, lambda: keep_outputs(club, words))
     if words.command == "undo" and is_by_command(club):
-        return by_commands.correct(club, words, lambda db, _words, _now: plan_undo_by_command(db, club), lambda: keep_outputs(club, words))
+        return by_commands.correct(
+            club,
+            words,
+            lambda db, _words, _now: plan_undo_by_command(db, club),
+            lambda: keep_outputs(club, words),
+        )
     if command.kind == CORRECTION:
-        status = correct(club, words, command.does or (lambda db, _words, _now: plan_undo(db, club)))
+        status = correct(
+            club, words, command.does or (lambda db, _words, _now: plan_undo(db, club))
+        )
         if status == 0:
             keep_outputs(club, words)
         return status
@@ -404,8 +693,14 @@ def show_names(club, sheet):
         return
     with snapshot(club) as db:
         members = dict(db.execute("SELECT name, member FROM keys"))
-    keys = dict.fromkeys(word for line in sheet.splitlines() for word in line.split()[2:3] if word in members)
-    lines = [f"{key}: {people.concerned_text(known[members[key]])}" for key in keys if members[key] in known]
+    keys = dict.fromkeys(
+        word for line in sheet.splitlines() for word in line.split()[2:3] if word in members
+    )
+    lines = [
+        f"{key}: {people.concerned_text(known[members[key]])}"
+        for key in keys
+        if members[key] in known
+    ]
     print(*([""] if lines else []), *lines, sep="\n", end="\n" if lines else "")
 
 
@@ -445,8 +740,16 @@ def at_counter(given):
 def each_hour(given, words):
     """Returns the commands to run for a typed command. The commands close-slot and show-slot accept only one hour, so several hours become several
     commands."""
-    read = read_hours(words.hour) if words.command in ("close-slot", "show-slot") and not words.hour.isdigit() else None
-    return [[*given[:2], words.facility, words.day, f"{hour:02d}"] for hour in range(*read)] if read else [given]
+    read = (
+        read_hours(words.hour)
+        if words.command in ("close-slot", "show-slot") and not words.hour.isdigit()
+        else None
+    )
+    return (
+        [[*given[:2], words.facility, words.day, f"{hour:02d}"] for hour in range(*read)]
+        if read
+        else [given]
+    )
 
 
 def carry_out_each(club, commands):

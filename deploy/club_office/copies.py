@@ -43,7 +43,9 @@ def clear_killed(home):
     for stale in glob.glob(os.path.join(glob.escape(home), ".office-*")):
         owner = re.match(r"\.office-([0-9]+)-([0-9]+)-", os.path.basename(stale))
         with contextlib.suppress(OSError):
-            if os.stat(stale, follow_symlinks=False).st_uid == os.geteuid() and not (owner and begun_at(owner[1]) == owner[2]):
+            if os.stat(stale, follow_symlinks=False).st_uid == os.geteuid() and not (
+                owner and begun_at(owner[1]) == owner[2]
+            ):
                 shutil.rmtree(stale)
 
 
@@ -58,13 +60,17 @@ def homes(club, size=None):
     memory. The last folder is the folder of the club's file."""
     beside = os.path.dirname(club.file)
     if size is None:
-        size = sum(os.path.getsize(club.file + it) for it in ("", "-wal") if os.path.exists(club.file + it))
+        size = sum(
+            os.path.getsize(club.file + it) for it in ("", "-wal") if os.path.exists(club.file + it)
+        )
     found = [beside]
     if os.access(MEMORY, os.W_OK | os.X_OK):
         room = os.statvfs(MEMORY)
         # The memory needs room for the copy, its log, and the pages that SQLite copies from the log. A file system without a fixed number of inodes
         # reports 0 inodes.
-        if room.f_bavail * room.f_frsize > 3 * size + 1_000_000 and (room.f_files == 0 or room.f_favail > FILES_FREE):
+        if room.f_bavail * room.f_frsize > 3 * size + 1_000_000 and (
+            room.f_files == 0 or room.f_favail > FILES_FREE
+        ):
             found.insert(0, MEMORY)
     return found
 
@@ -74,7 +80,9 @@ def scratch(club, home=None):
     """Yields a folder, and removes it at the end. First removes the folders that killed commands left behind."""
     clear_left(club)
     prefix = f".office-{os.getpid()}-{begun_at('self')}-"
-    with tempfile.TemporaryDirectory(prefix=prefix, dir=home or homes(club)[0], ignore_cleanup_errors=True) as folder:
+    with tempfile.TemporaryDirectory(
+        prefix=prefix, dir=home or homes(club)[0], ignore_cleanup_errors=True
+    ) as folder:
         yield folder
 
 
@@ -87,7 +95,13 @@ def snapshot(club):
     for home in homes(club):
         with scratch(club, home) as folder:
             copy = os.path.join(folder, "copy")
-            done = subprocess.run([back_up_program(), club.file, copy], capture_output=True, text=True, errors="replace", check=False)
+            done = subprocess.run(
+                [back_up_program(), club.file, copy],
+                capture_output=True,
+                text=True,
+                errors="replace",
+                check=False,
+            )
             if done.returncode == 0:
                 with contextlib.closing(sqlite3.connect(address(copy, "ro"), uri=True)) as disk:
                     disk.backup(memory)
@@ -123,7 +137,10 @@ def keep_before(club, db, command):
         with contextlib.suppress(FileNotFoundError):
             os.unlink(made)
     synced(folder)
-    found = sorted((os.stat(path).st_mtime_ns, path) for path in glob.glob(os.path.join(glob.escape(folder), "2*")))
+    found = sorted(
+        (os.stat(path).st_mtime_ns, path)
+        for path in glob.glob(os.path.join(glob.escape(folder), "2*"))
+    )
     for _, old in found[:-BACK_UPS_KEPT]:
         os.unlink(old)
     return named
@@ -175,7 +192,15 @@ def synced(path):
 def is_run(words):
     """Runs another program, and returns whether it succeeded. The program's error messages appear on this process's standard error when the turn
     ends."""
-    done = subprocess.run(words, check=False, stdin=subprocess.DEVNULL, stdout=subprocess.DEVNULL, stderr=subprocess.PIPE, text=True, errors="replace")
+    done = subprocess.run(
+        words,
+        check=False,
+        stdin=subprocess.DEVNULL,
+        stdout=subprocess.DEVNULL,
+        stderr=subprocess.PIPE,
+        text=True,
+        errors="replace",
+    )
     print(done.stderr, end="", file=sys.stderr)
     return done.returncode == 0
 
@@ -185,8 +210,16 @@ def copy_file(club, db, to):
     opened and closed the file."""
     if db.execute("PRAGMA wal_checkpoint(TRUNCATE)").fetchone()[0]:
         raise storage_failed("log uncopied")
-    place = next(path for path in [to, *(f"{to}-{more}" for more in range(2, 1000))] if not os.path.exists(path))
-    for words in (["cp", "--", club.file, place + ".new"], ["sync", "--", place + ".new"], ["mv", "-nT", "--", place + ".new", place]):
+    place = next(
+        path
+        for path in [to, *(f"{to}-{more}" for more in range(2, 1000))]
+        if not os.path.exists(path)
+    )
+    for words in (
+        ["cp", "--", club.file, place + ".new"],
+        ["sync", "--", place + ".new"],
+        ["mv", "-nT", "--", place + ".new", place],
+    ):
         if not is_run(words):
             raise storage_failed("uncopied", path=club.file, to=place)
     synced(os.path.dirname(place))

@@ -29,7 +29,10 @@ def correct(club, words, planned):
     plans = []
     with Turn(club) as turn:
         wants_file(club)
-        status = turn.order(words.given, lambda: carry_out(club, words, planned, plans, None if words.yes else shown))
+        status = turn.order(
+            words.given,
+            lambda: carry_out(club, words, planned, plans, None if words.yes else shown),
+        )
     if words.yes:
         show_lines(plans[0].all_lines())
     print(say("done"))
@@ -110,7 +113,15 @@ def take(club, db):
 def ended(club):
     """Stops the club's server. Returns the error message, for example if the service doesn't exist. Returns an empty text if there was no error."""
     try:
-        done = subprocess.run(club.stop, stdin=subprocess.DEVNULL, capture_output=True, text=True, errors="replace", check=False, timeout=WAITS_FOR_FILE)
+        done = subprocess.run(
+            club.stop,
+            stdin=subprocess.DEVNULL,
+            capture_output=True,
+            text=True,
+            errors="replace",
+            check=False,
+            timeout=WAITS_FOR_FILE,
+        )
     except (OSError, subprocess.TimeoutExpired) as fault:
         return str(fault)
     return done.stderr.strip()

@@ -36,14 +36,26 @@ def desk_line(club, words):
     if os.geteuid() == 0:
         env = {**os.environ, "OFFICE_CLERK": clerk()}
         env.pop("SUDO_USER", None)
-        return [sys.executable, "-I", *line], {"user": user.pw_uid, "group": user.pw_gid, "extra_groups": [], "env": env, "cwd": "/"}
+        return [sys.executable, "-I", *line], {
+            "user": user.pw_uid,
+            "group": user.pw_gid,
+            "extra_groups": [],
+            "env": env,
+            "cwd": "/",
+        }
     return [program("SUDO", "sudo"), "-n", "-u", user.pw_name, "--", *line], {}
 
 
 def as_desk(club, words, given=None):
     """Runs a command as the desk's user. Returns the command's status and output."""
     line, how = desk_line(club, words)
-    return ended_by_itself(line, given, stdin=subprocess.DEVNULL if given is None else subprocess.PIPE, stdout=subprocess.PIPE, **how)
+    return ended_by_itself(
+        line,
+        given,
+        stdin=subprocess.DEVNULL if given is None else subprocess.PIPE,
+        stdout=subprocess.PIPE,
+        **how,
+    )
 
 
 def make_pass(club, words):
@@ -58,8 +70,17 @@ def make_pass(club, words):
         raise refusal("file there", path=words.to)
     if words.to and not os.access(os.path.dirname(words.to) or ".", os.W_OK):
         raise fault(OUTPUT, "no leave", path=os.path.dirname(words.to) or ".")
-    root = sys.stdin.buffer.read(200) if words.root_stdin else (words.root or secrets.token_hex(32)).encode()
-    line = [words.command.replace("lost-pass", "rotate-key"), *([f"--form={words.form}"] if words.form is not None else []), "--root-stdin", "--"]
+    root = (
+        sys.stdin.buffer.read(200)
+        if words.root_stdin
+        else (words.root or secrets.token_hex(32)).encode()
+    )
+    line = [
+        words.command.replace("lost-pass", "rotate-key"),
+        *([f"--form={words.form}"] if words.form is not None else []),
+        "--root-stdin",
+        "--",
+    ]
     line += [words.key, words.member if words.command == "add-key" else words.moment]
     status, text = as_desk(club, line, root)
     if status == 0:
@@ -82,7 +103,9 @@ def lost_files(words):
     pass. For other commands, returns no files."""
     found = []
     for path in (words.to, os.path.join(PASSES, words.key)) if words.command == "lost-pass" else ():
-        with contextlib.suppress(OSError, ValueError, TypeError), open(path, encoding="ascii") as file:
+        with contextlib.suppress(OSError, ValueError, TypeError), open(
+            path, encoding="ascii"
+        ) as file:
             found += [path] if key_of(file.read(9_000).strip()) == words.key else []
     return found
 
@@ -102,7 +125,11 @@ def read_book(club, words):
     status, text = as_desk(club, ["show-book"])
     found = [text]
     if status == 0 and is_in_journal(club):
-        fields = ["SYSLOG_IDENTIFIER=clubdesk-office", f"CLUBDESK_CLUB={club.name}", f"_UID={desk_user(club).pw_uid}"]
+        fields = [
+            "SYSLOG_IDENTIFIER=clubdesk-office",
+            f"CLUBDESK_CLUB={club.name}",
+            f"_UID={desk_user(club).pw_uid}",
+        ]
         line = ["/usr/bin/journalctl", "--quiet", "--no-pager", "--output=cat", *fields]
         if os.geteuid() != 0:
             line = [program("SUDO", "sudo"), "-n", *line]
@@ -112,7 +139,9 @@ def read_book(club, words):
     if status:
         return status
     # Only line feeds end lines, because a command may contain characters that other line readers treat as line ends.
-    lines = [each.split("\n")[:-1] for each in (text.decode(errors="backslashreplace") for text in found)]
+    lines = [
+        each.split("\n")[:-1] for each in (text.decode(errors="backslashreplace") for text in found)
+    ]
     for line in heapq.merge(*lines, key=lambda line: line[:19]):
         if not words.word or words.word in line.split(" "):
             print(printable(line))
@@ -147,7 +176,14 @@ def write_report(club, words):
     place = words.to or f"report-{words.year or time.strftime('%Y')}.html"
     if os.path.lexists(place):
         raise refusal("file there", path=place)
-    status, text = as_desk(club, ["print-report", *([str(words.year)] if words.year else []), *(["--no-names"] if words.no_names else [])])
+    status, text = as_desk(
+        club,
+        [
+            "print-report",
+            *([str(words.year)] if words.year else []),
+            *(["--no-names"] if words.no_names else []),
+        ],
+    )
     if status:
         return status
     try:
@@ -166,12 +202,25 @@ def print_to_pdf(place):
     made = os.path.splitext(place)[0] + ".pdf"
     if not browser or os.path.lexists(made):
         return None
-    with tempfile.TemporaryDirectory() as folder, tempfile.TemporaryDirectory(prefix="pdf-", dir=os.path.dirname(made) or ".") as beside:
+    with tempfile.TemporaryDirectory() as folder, tempfile.TemporaryDirectory(
+        prefix="pdf-", dir=os.path.dirname(made) or "."
+    ) as beside:
         printed = os.path.join(os.path.abspath(beside), "printed.pdf")
-        line = [browser, "--headless", "--no-pdf-header-footer", f"--user-data-dir={folder}", f"--print-to-pdf={printed}"]
+        line = [
+            browser,
+            "--headless",
+            "--no-pdf-header-footer",
+            f"--user-data-dir={folder}",
+            f"--print-to-pdf={printed}",
+        ]
         line += ["--no-sandbox"] if os.geteuid() == 0 else []
         with contextlib.suppress(OSError, subprocess.TimeoutExpired):
-            subprocess.run([*line, f"file://{urllib.parse.quote(os.path.abspath(place))}"], capture_output=True, check=False, timeout=90)
+            subprocess.run(
+                [*line, f"file://{urllib.parse.quote(os.path.abspath(place))}"],
+                capture_output=True,
+                check=False,
+                timeout=90,
+            )
         return made if os.path.exists(printed) and is_named(printed, made) else None
 
 

@@ -32,7 +32,11 @@ def read_given():
         roots, person = given["roots"], given["person"]
     except (ValueError, TypeError, KeyError):
         roots = []
-    if not isinstance(roots, list) or not roots or not all(isinstance(root, str) and ROOT.fullmatch(root) for root in roots):
+    if (
+        not isinstance(roots, list)
+        or not roots
+        or not all(isinstance(root, str) and ROOT.fullmatch(root) for root in roots)
+    ):
         raise bad_value("roots")
     return roots, person_of(person if isinstance(person, dict) else {})
 
@@ -49,9 +53,12 @@ def import_row(club, words):
     with Turn(club) as turn:
         with snapshot(club) as db:
             member = db.execute(
-                "SELECT credited + (SELECT count(*) FROM keys WHERE member = members.name) FROM members WHERE name = ?", [words.member]
+                "SELECT credited + (SELECT count(*) FROM keys WHERE member = members.name) FROM members WHERE name = ?",
+                [words.member],
             ).fetchone()
-            key = db.execute("SELECT member, lower(hex(root)) FROM keys WHERE name = ?", [words.key]).fetchone()
+            key = db.execute(
+                "SELECT member, lower(hex(root)) FROM keys WHERE name = ?", [words.key]
+            ).fetchone()
         if key and key[0] != words.member:
             raise refusal("key of another", key=words.key, member=key[0])
 
@@ -65,7 +72,9 @@ def import_row(club, words):
 
             status = turn.order([command, *line], act)
             if status:
-                raise fault(status, "order failed", order=f"{command} {' '.join(line)}", status=status)
+                raise fault(
+                    status, "order failed", order=f"{command} {' '.join(line)}", status=status
+                )
             return found[0]
 
         if not member:
@@ -73,9 +82,18 @@ def import_row(club, words):
         if words.points and not key and (not member or member[0] == 0):
             order("credit", [words.member, str(words.points)])
         if not key:
-            passes.append(order("add-key", [words.key, words.member], ["--root-stdin"], roots[-1].encode()))
+            passes.append(
+                order("add-key", [words.key, words.member], ["--root-stdin"], roots[-1].encode())
+            )
         elif key[1] in roots:
-            passes.append(order("rotate-key", [words.key, "2000-01-01T00:00"], ["--root-stdin"], roots[-1].encode()))
+            passes.append(
+                order(
+                    "rotate-key",
+                    [words.key, "2000-01-01T00:00"],
+                    ["--root-stdin"],
+                    roots[-1].encode(),
+                )
+            )
         if person != NOBODY and words.member not in read_people(club):
             keep_person(club, words.member, person)
     for each in passes:
@@ -90,12 +108,21 @@ def refuse_twins(path, rows, columns=("member", "key")):
             lines[getattr(row, column)].append(str(row.line))
         for value, at in lines.items():
             if len(at) > 1:
-                raise fault(BAD_VALUE, "twins", path=path, lines=say("and").join(at), column=column, value=value)
+                raise fault(
+                    BAD_VALUE,
+                    "twins",
+                    path=path,
+                    lines=say("and").join(at),
+                    column=column,
+                    value=value,
+                )
 
 
 def spare_rows(club, path, rows):
     """Returns a row for each spare key of the members. These rows have no points, so no member gets a credit twice."""
-    spares = [row._replace(points=0, key=key) for row in rows for key in spare_keys(club, row.member)]
+    spares = [
+        row._replace(points=0, key=key) for row in rows for key in spare_keys(club, row.member)
+    ]
     refuse_twins(path, [*rows, *spares], ["key"])
     return spares
 
@@ -107,26 +134,62 @@ def import_members(club, words):
     refuse_twins(words.file, rows)
     spares = spare_rows(club, words.file, rows)
     members, keys = already(club)
-    shown = [[row.line, row.written, row.member, row.quota, row.points, row.key, state(row, members, keys, words.passes)] for row in rows]
+    shown = [
+        [
+            row.line,
+            row.written,
+            row.member,
+            row.quota,
+            row.points,
+            row.key,
+            state(row, members, keys, words.passes),
+        ]
+        for row in rows
+    ]
     show_lines(aligned(["line", "as written", "member", "quota", "points", "key", "is"], shown))
     done = [row for row, line in zip(rows, shown) if line[-1] == say("there")]
-    wanted = [row for row in [*rows, *spares] if row not in done and state(row, members, keys, words.passes) != say("there")]
+    wanted = [
+        row
+        for row in [*rows, *spares]
+        if row not in done and state(row, members, keys, words.passes) != say("there")
+    ]
     if not wanted:
         print(say("nothing to do"))
         return 0
     for row in wanted:
-        if os.path.lexists(os.path.join(words.passes, row.key)) and not os.path.exists(mark_of(words.passes, row.key)):
-            raise refusal("at line", line=row.line, why=say("file there", path=os.path.join(words.passes, row.key)))
+        if os.path.lexists(os.path.join(words.passes, row.key)) and not os.path.exists(
+            mark_of(words.passes, row.key)
+        ):
+            raise refusal(
+                "at line",
+                line=row.line,
+                why=say("file there", path=os.path.join(words.passes, row.key)),
+            )
     asked = [row for row in wanted if row not in spares]
-    points = sum(row.points for row in asked if row.key not in keys and not members.get(row.member) and row.member not in keys.values())
+    points = sum(
+        row.points
+        for row in asked
+        if row.key not in keys and not members.get(row.member) and row.member not in keys.values()
+    )
     print(say("import in all", count=len(asked), rows=len(rows), points=points))
     if not words.yes and not confirms():
         raise refusal("not confirmed")
     os.makedirs(words.passes, 0o700, exist_ok=True)
     for row in wanted:
         import_one(club, row, words.passes)
-        print(f"{row.member}: {say('spare pass', key=row.key) if row in spares else say('done')}", flush=True)
-    print(say("imported", done=len(rows) - len(done), rows=len(rows), there=len(done), folder=words.passes))
+        print(
+            f"{row.member}: {say('spare pass', key=row.key) if row in spares else say('done')}",
+            flush=True,
+        )
+    print(
+        say(
+            "imported",
+            done=len(rows) - len(done),
+            rows=len(rows),
+            there=len(done),
+            folder=words.passes,
+        )
+    )
     return 0
 
 
@@ -145,7 +208,14 @@ def make_spares(club, member, quota):
             os.makedirs(PASSES, 0o700, exist_ok=True)
             import_one(club, Row(None, member, member, quota, 0, key, NOBODY), PASSES)
         except (Fault, OSError) as failure:
-            raise fault(OUTPUT, "spare undone", key=key, member=member, path=os.path.join(PASSES, key), fault=failure) from None
+            raise fault(
+                OUTPUT,
+                "spare undone",
+                key=key,
+                member=member,
+                path=os.path.join(PASSES, key),
+                fault=failure,
+            ) from None
         print(f"{member}: {say('spare pass', key=key)}", flush=True)
 
 
@@ -167,10 +237,18 @@ def import_state(db, _words, _now):
 def state(row, members, keys, folder):
     if row.key in keys:
         if keys[row.key] != row.member:
-            raise refusal("at line", line=row.line, why=say("key of another", key=row.key, member=keys[row.key]))
+            raise refusal(
+                "at line",
+                line=row.line,
+                why=say("key of another", key=row.key, member=keys[row.key]),
+            )
         return say("begun" if os.path.exists(mark_of(folder, row.key)) else "there")
     if row.member in members:
-        return say("begun credited", points=members[row.member]) if members[row.member] else say("begun")
+        return (
+            say("begun credited", points=members[row.member])
+            if members[row.member]
+            else say("begun")
+        )
     return say("new")
 
 
@@ -185,7 +263,9 @@ def read_mark(mark):
     words = []
     with contextlib.suppress(FileNotFoundError), open(mark, encoding="ascii") as file:
         words = file.read().split()
-    return [it for it in words if ROOT.fullmatch(it)], "".join(it.removeprefix("pass:") for it in words if it.startswith("pass:"))
+    return [it for it in words if ROOT.fullmatch(it)], "".join(
+        it.removeprefix("pass:") for it in words if it.startswith("pass:")
+    )
 
 
 def write_mark(mark, roots, digest=None):
@@ -196,7 +276,11 @@ def row_fault(status, row, text, **values):
     """Returns a row's fault, with the line number if the row is from a list."""
     if row.line is None:
         return fault(status, text, **values)
-    return refusal("at line", line=row.line, why=say(text, **values)) if status == REFUSED else fault(status, "at line", line=row.line, why=say(text, **values))
+    return (
+        refusal("at line", line=row.line, why=say(text, **values))
+        if status == REFUSED
+        else fault(status, "at line", line=row.line, why=say(text, **values))
+    )
 
 
 def import_one(club, row, folder):
@@ -214,7 +298,9 @@ def import_one(club, row, folder):
     roots.append(secrets.token_hex(32))
     write_mark(mark, roots)
     given = json.dumps({"roots": roots, "person": row.person._asdict()}).encode()
-    status, text = as_desk(club, ["import-row", row.member, str(row.quota), str(row.points), row.key], given)
+    status, text = as_desk(
+        club, ["import-row", row.member, str(row.quota), str(row.points), row.key], given
+    )
     if status:
         raise row_fault(status, row, "row undone", member=row.member)
     if text:

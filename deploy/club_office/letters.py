@@ -28,12 +28,24 @@ svg { display: block; width: 60mm; height: 60mm; margin: 1rem 0; }
 
 def code_of(link):
     """Returns the link's QR code as SVG."""
-    line = [program("QRENCODE", "qrencode"), "-8", "-l", "M", "-t", "SVG", "--svg-path", "-m", "4", "-o", "-"]
+    line = [
+        program("QRENCODE", "qrencode"),
+        "-8",
+        "-l",
+        "M",
+        "-t",
+        "SVG",
+        "--svg-path",
+        "-m",
+        "4",
+        "-o",
+        "-",
+    ]
     done = subprocess.run(line, input=link.encode(), capture_output=True, check=False)
     if done.returncode:
         raise fault(OUTPUT, "no code", said=done.stderr.decode(errors="replace").strip())
     text = done.stdout.decode()
-    return text[text.index("<svg"):]
+    return text[text.index("<svg") :]
 
 
 def half(club, spares):
@@ -124,7 +136,9 @@ def letters(club, words, names_of):
         members[member] = name
     for member, spares in lent.items():
         members[member] = names.written.get(member) or member
-        sheets.append(f'<section><p class="to">{html.escape(members[member])}</p>{half(club, spares)}</section>')
+        sheets.append(
+            f'<section><p class="to">{html.escape(members[member])}</p>{half(club, spares)}</section>'
+        )
     page = f"""<!DOCTYPE html>
 <html lang="{language()}"><head><meta charset="utf-8"><meta name="referrer" content="no-referrer">
 <meta http-equiv="Content-Security-Policy" content="default-src 'none'; style-src 'unsafe-inline'">

@@ -12,7 +12,9 @@ from club_office.values import date_of, day, name
 def table(heads, rows, as_csv):
     """Prints rows below their column heads, in aligned columns or as CSV."""
     if as_csv:
-        csv.writer(sys.stdout, lineterminator="\n").writerows([heads, *(map(unformed, row) for row in rows)])
+        csv.writer(sys.stdout, lineterminator="\n").writerows(
+            [heads, *(map(unformed, row) for row in rows)]
+        )
     else:
         print(*aligned(heads, rows), sep="\n")
 
@@ -20,26 +22,44 @@ def table(heads, rows, as_csv):
 def aligned(heads, rows):
     """Formats rows and column heads as lines. Numbers are right-aligned."""
     words = {"no", "yes", "none", "court", "boat", "room"}
-    cells = [[head(it) for it in heads], *([head(cell) if cell in words else str(cell) for cell in row] for row in rows)]
+    cells = [
+        [head(it) for it in heads],
+        *([head(cell) if cell in words else str(cell) for cell in row] for row in rows),
+    ]
     widths = [max(len(row[column]) for row in cells) for column in range(len(heads))]
-    right = [bool(rows) and all(isinstance(row[column], int) for row in rows) for column in range(len(heads))]
-    return ["  ".join(c.rjust(w) if r else c.ljust(w) for c, w, r in zip(row, widths, right)).rstrip() for row in cells]
+    right = [
+        bool(rows) and all(isinstance(row[column], int) for row in rows)
+        for column in range(len(heads))
+    ]
+    return [
+        "  ".join(c.rjust(w) if r else c.ljust(w) for c, w, r in zip(row, widths, right)).rstrip()
+        for row in cells
+    ]
 
 
 def unformed(cell):
     """Returns a cell in a form that no spreadsheet takes for a formula."""
-    return f"'{cell}" if isinstance(cell, str) and cell[:1] in ("=", "+", "-", "@", "\t", "\r") else cell
+    return (
+        f"'{cell}"
+        if isinstance(cell, str) and cell[:1] in ("=", "+", "-", "@", "\t", "\r")
+        else cell
+    )
 
 
 def with_names(heads, rows, people, column):
     """Appends the members' full names to the rows, if any full name is known."""
     if not people:
         return heads, rows
-    return [*heads, "name"], [[*row, people[row[column]].name if row[column] in people else ""] for row in rows]
+    return [*heads, "name"], [
+        [*row, people[row[column]].name if row[column] in people else ""] for row in rows
+    ]
 
 
 def is_row(db, table_name, row_name):
-    return db.execute(f"SELECT count(*) FROM {table_name} WHERE name = ?", [row_name]).fetchone()[0] == 1
+    return (
+        db.execute(f"SELECT count(*) FROM {table_name} WHERE name = ?", [row_name]).fetchone()[0]
+        == 1
+    )
 
 
 def wants_row(db, table_name, row_name):
@@ -56,11 +76,16 @@ def list_members(db, words, now):
            FROM members ORDER BY members.name""",
         [now],
     ).fetchall()
-    table(*with_names(["member", "balance", "quota", "open", "keys"], rows, words.people, 0), words.csv)
+    table(
+        *with_names(["member", "balance", "quota", "open", "keys"], rows, words.people, 0),
+        words.csv,
+    )
 
 
 def list_facilities(db, words, _now):
-    rows = db.execute("SELECT name, kind, places, price, opens, shuts FROM facilities ORDER BY name").fetchall()
+    rows = db.execute(
+        "SELECT name, kind, places, price, opens, shuts FROM facilities ORDER BY name"
+    ).fetchall()
     table(["facility", "kind", "places", "price", "opens", "shuts"], rows, words.csv)
 
 
@@ -94,7 +119,18 @@ def list_bookings(db, words, now):
             ORDER BY day, hour, facility, pass_key, number""",
         [value, since, words.all],
     ).fetchall()
-    heads = ["day", "hour", "facility", "member", "key", "number", "persons", "charge", "cancelled", "refund"]
+    heads = [
+        "day",
+        "hour",
+        "facility",
+        "member",
+        "key",
+        "number",
+        "persons",
+        "charge",
+        "cancelled",
+        "refund",
+    ]
     shown = len(heads) if words.all else 8
     table(*with_names(heads[:shown], [row[:shown] for row in rows], words.people, 3), words.csv)
 
@@ -104,7 +140,11 @@ def asked_of_bookings(db, what):
     if re.fullmatch(r"[0-9]{4}-[0-9]{2}-[0-9]{2}", what):
         return "day", day(what)
     name(what)
-    found = [column for column, rows in (("member", "members"), ("facility", "facilities")) if is_row(db, rows, what)]
+    found = [
+        column
+        for column, rows in (("member", "members"), ("facility", "facilities"))
+        if is_row(db, rows, what)
+    ]
     if len(found) != 1:
         raise refusal("both" if found else "neither", name=what)
     return found[0], what
@@ -119,7 +159,12 @@ def list_money(db, words, _now):
            WHERE members.name = ? OR ? IS NULL GROUP BY members.name ORDER BY members.name""",
         [words.member, words.member],
     ).fetchall()
-    table(*with_names(["member", "credited", "charged", "refunded", "balance"], rows, words.people, 0), words.csv)
+    table(
+        *with_names(
+            ["member", "credited", "charged", "refunded", "balance"], rows, words.people, 0
+        ),
+        words.csv,
+    )
 
 
 def list_faults(db, _words, _now):
@@ -162,5 +207,5 @@ LIMITS = [
         " WHERE taken NOT BETWEEN 0 AND places",
     ),
     ("refund", "SELECT pass_key || '/' || number FROM bookings WHERE refund > charge * cancelled"),
-    ("reference", 'SELECT "table" || \' \' || rowid FROM pragma_foreign_key_check'),
+    ("reference", "SELECT \"table\" || ' ' || rowid FROM pragma_foreign_key_check"),
 ]

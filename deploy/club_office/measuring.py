@@ -23,7 +23,14 @@ MOST_SECONDS = 60
 
 def counts_of(club):
     """Returns the updated counts."""
-    found = {"requests": {}, "buckets": [0] * len(BUCKETS), "seconds": 0.0, "orders": {}, "cursors": {}, "book": None}
+    found = {
+        "requests": {},
+        "buckets": [0] * len(BUCKETS),
+        "seconds": 0.0,
+        "orders": {},
+        "cursors": {},
+        "book": None,
+    }
     try:
         with open(club.settings["file"] + "-metrics", encoding="utf-8") as file:
             found.update(json.load(file))
@@ -34,7 +41,9 @@ def counts_of(club):
 
 def keep_counts(club, counts):
     made = club.settings["file"] + "-metrics.new"
-    with open(os.open(made, os.O_WRONLY | os.O_CREAT | os.O_TRUNC, 0o600), "w", encoding="utf-8") as file:
+    with open(
+        os.open(made, os.O_WRONLY | os.O_CREAT | os.O_TRUNC, 0o600), "w", encoding="utf-8"
+    ) as file:
         json.dump(counts, file)
     os.rename(made, club.settings["file"] + "-metrics")
 
@@ -42,10 +51,24 @@ def keep_counts(club, counts):
 def journal_lines(counts, called, *match):
     """Returns the journal's new lines. Returns no lines on the first run, or if the journal no longer has the last line that was read."""
     cursor = counts["cursors"].get(called)
-    line = [program("JOURNALCTL", "journalctl"), "--quiet", "--no-pager", "--output=cat", "--show-cursor", *match]
-    done = subprocess.run([*line, f"--after-cursor={cursor}" if cursor else "--lines=0"], capture_output=True, check=False, timeout=MOST_SECONDS)
+    line = [
+        program("JOURNALCTL", "journalctl"),
+        "--quiet",
+        "--no-pager",
+        "--output=cat",
+        "--show-cursor",
+        *match,
+    ]
+    done = subprocess.run(
+        [*line, f"--after-cursor={cursor}" if cursor else "--lines=0"],
+        capture_output=True,
+        check=False,
+        timeout=MOST_SECONDS,
+    )
     if done.returncode and cursor:
-        done = subprocess.run([*line, "--lines=0"], capture_output=True, check=False, timeout=MOST_SECONDS)
+        done = subprocess.run(
+            [*line, "--lines=0"], capture_output=True, check=False, timeout=MOST_SECONDS
+        )
     if done.returncode:
         raise fault(STORAGE, "journal unread", fault=done.stderr.decode(errors="replace").strip())
     lines = done.stdout.decode(errors="replace").split("\n")
@@ -59,7 +82,13 @@ def book_lines(club, counts):
     """Returns the book's new lines, from the journal and from the file."""
     found = []
     if is_in_journal(club):
-        found += journal_lines(counts, "orders", "SYSLOG_IDENTIFIER=clubdesk-office", f"CLUBDESK_CLUB={club.name}", f"_UID={os.geteuid()}")
+        found += journal_lines(
+            counts,
+            "orders",
+            "SYSLOG_IDENTIFIER=clubdesk-office",
+            f"CLUBDESK_CLUB={club.name}",
+            f"_UID={os.geteuid()}",
+        )
     try:
         with open(book_of(club), "rb") as book:
             size = os.fstat(book.fileno()).st_size
@@ -111,7 +140,9 @@ def failing_seconds(club):
 
 
 def version():
-    done = subprocess.run([program("CLUBDESK", "clubdesk"), "--version"], capture_output=True, text=True, check=False)
+    done = subprocess.run(
+        [program("CLUBDESK", "clubdesk"), "--version"], capture_output=True, text=True, check=False
+    )
     return re.sub("[^0-9A-Za-z.+~-]", "", done.stdout.strip().removeprefix("clubdesk "))
 
 
@@ -136,18 +167,54 @@ class Text:
 def text_of(club, counts):
     made = Text(club)
     made.add("info", "gauge", "The version of clubdesk.", ("", {"version": version()}, 1))
-    made.add("requests_total", "counter", "Connections, by the status of the reply; - means no complete reply.",
-             *(("", {"status": status}, number) for status, number in sorted(counts["requests"].items())))
+    made.add(
+        "requests_total",
+        "counter",
+        "Connections, by the status of the reply; - means no complete reply.",
+        *(
+            ("", {"status": status}, number)
+            for status, number in sorted(counts["requests"].items())
+        ),
+    )
     total = sum(counts["requests"].values())
-    buckets = [("_bucket", {"le": f"{most:g}"}, number) for most, number in zip(BUCKETS, counts["buckets"])]
-    made.add("request_seconds", "histogram", "Time from the beginning of a connection to its end.", *buckets, ("_bucket", {"le": "+Inf"}, total), ("_sum", {}, float(counts["seconds"])), ("_count", {}, total))
-    made.add("orders_total", "counter", "Commands of the office, by their status; ? means interrupted.",
-             *(("", {"status": status}, number) for status, number in sorted(counts["orders"].items())))
-    made.add("copy_age_seconds", "gauge", "Age of the newest copy.", *(("", {"place": place}, int(age)) for place, age in ages(club).items()))
+    buckets = [
+        ("_bucket", {"le": f"{most:g}"}, number) for most, number in zip(BUCKETS, counts["buckets"])
+    ]
+    made.add(
+        "request_seconds",
+        "histogram",
+        "Time from the beginning of a connection to its end.",
+        *buckets,
+        ("_bucket", {"le": "+Inf"}, total),
+        ("_sum", {}, float(counts["seconds"])),
+        ("_count", {}, total),
+    )
+    made.add(
+        "orders_total",
+        "counter",
+        "Commands of the office, by their status; ? means interrupted.",
+        *(("", {"status": status}, number) for status, number in sorted(counts["orders"].items())),
+    )
+    made.add(
+        "copy_age_seconds",
+        "gauge",
+        "Age of the newest copy.",
+        *(("", {"place": place}, int(age)) for place, age in ages(club).items()),
+    )
     if club.settings.get("offsite"):
-        made.add("offsite_failing_seconds", "gauge", "Time since copying to the place OFFSITE began to fail; 0 if it works.", ("", {}, int(failing_seconds(club))))
+        made.add(
+            "offsite_failing_seconds",
+            "gauge",
+            "Time since copying to the place OFFSITE began to fail; 0 if it works.",
+            ("", {}, int(failing_seconds(club))),
+        )
     sizes = [(it, club.file + end) for it, end in (("club", ""), ("log", "-wal"))]
-    made.add("file_bytes", "gauge", "Size of the club's file, and of its write-ahead log.", *(("", {"file": it}, os.path.getsize(path)) for it, path in sizes if os.path.exists(path)))
+    made.add(
+        "file_bytes",
+        "gauge",
+        "Size of the club's file, and of its write-ahead log.",
+        *(("", {"file": it}, os.path.getsize(path)) for it, path in sizes if os.path.exists(path)),
+    )
     return made.text()
 
 
@@ -158,7 +225,9 @@ def measure(club, folder):
     place = os.path.join(folder, f"clubdesk_{club.name}.prom")
     made = f"{place}.{os.getpid()}"
     try:
-        with open(os.open(made, os.O_WRONLY | os.O_CREAT | os.O_TRUNC, 0o644), "w", encoding="utf-8") as file:
+        with open(
+            os.open(made, os.O_WRONLY | os.O_CREAT | os.O_TRUNC, 0o644), "w", encoding="utf-8"
+        ) as file:
             os.fchmod(file.fileno(), 0o644)
             file.write(text_of(club, counts))
         keep_counts(club, counts)

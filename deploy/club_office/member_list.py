@@ -24,7 +24,17 @@ HEADS = {
     "points": ("points", "punkte", "guthaben", "credit"),
     "key": ("key", "schluessel"),
     "mail": ("mail", "e-mail", "email", "mail address", "e-mail-adresse"),
-    "telephone": ("telephone", "phone", "tel", "tel.", "telefon", "telefonnummer", "mobile", "mobil", "handy"),
+    "telephone": (
+        "telephone",
+        "phone",
+        "tel",
+        "tel.",
+        "telefon",
+        "telefonnummer",
+        "mobile",
+        "mobil",
+        "handy",
+    ),
 }
 
 
@@ -37,7 +47,11 @@ def text_of(path):
         raise fault(OUTPUT, "cannot be read", path=path, fault=failure) from None
     if len(data) > MOST_BYTES:
         raise fault(BAD_VALUE, "too large", path=path, most=MOST_BYTES // 1_000_000)
-    for mark, called in ((codecs.BOM_UTF8, "utf-8-sig"), (codecs.BOM_UTF16_LE, "utf-16"), (codecs.BOM_UTF16_BE, "utf-16")):
+    for mark, called in (
+        (codecs.BOM_UTF8, "utf-8-sig"),
+        (codecs.BOM_UTF16_LE, "utf-16"),
+        (codecs.BOM_UTF16_BE, "utf-16"),
+    ):
         if data.startswith(mark):
             return decoded(path, data, called), called.upper().removesuffix("-SIG")
     try:
@@ -64,7 +78,9 @@ def columns_of(path, heads, given):
     for each in filter(None, (given or "").split(",")):
         what, sign, head = each.partition("=")
         if not sign or what.strip() not in HEADS or plain(head) not in called:
-            raise bad_value("no such column", each=each, whats=", ".join(HEADS), heads=", ".join(heads))
+            raise bad_value(
+                "no such column", each=each, whats=", ".join(HEADS), heads=", ".join(heads)
+            )
         found[what.strip()] = called.index(plain(head))
     if "name" not in found and not {"surname", "first name"} <= set(found):
         raise fault(BAD_VALUE, "no heads", path=path, heads=", ".join(heads))
@@ -110,7 +126,9 @@ def rows_of(words):
     understood = ", ".join(f"{what} = {heads[place]}" for what, place in columns.items())
     over = [it for place, it in enumerate(heads) if place not in columns.values() and it]
     signs = {",": ",", ";": ";", "\t": "tab"}[delimiter]
-    return rows, say("list read", letters=letters, sign=signs, columns=understood) + (say("list over", columns=", ".join(over)) if over else "")
+    return rows, say("list read", letters=letters, sign=signs, columns=understood) + (
+        say("list over", columns=", ".join(over)) if over else ""
+    )
 
 
 def row_of(path, line, heads, cells, columns, words):
@@ -122,11 +140,15 @@ def row_of(path, line, heads, cells, columns, words):
             values["name"] = ", ".join(filter(None, (values["surname"], values["first name"])))
         member = name(fitted(values["name"], 24))
         key = name(fitted(values.get("key") or fitted(values["name"], 22) + "-1", 24))
-        written = "".join(letter if letter.isprintable() else " " for letter in values["name"]).strip()
+        written = "".join(
+            letter if letter.isprintable() else " " for letter in values["name"]
+        ).strip()
         quota = number(0, 99)(values["quota"]) if values.get("quota") else words.quota
         points = number(0, MOST_CREDIT)(values["points"]) if values.get("points") else words.points
         if quota is None or points is None:
             raise bad_value("no quota" if quota is None else "no points")
-        return Row(line, written, member, quota, points, key, person_of({**values, "name": written}))
+        return Row(
+            line, written, member, quota, points, key, person_of({**values, "name": written})
+        )
     except Fault as failure:
         raise fault(failure.status, "in line", path=path, line=line, why=failure) from None

@@ -17,7 +17,17 @@ import shutil
 import signal
 import sys
 
-from club_office.asking import Back, ask, ask_day, ask_facilities, ask_hours, ask_name, ask_number, chosen, until_read
+from club_office.asking import (
+    Back,
+    ask,
+    ask_day,
+    ask_facilities,
+    ask_hours,
+    ask_name,
+    ask_number,
+    chosen,
+    until_read,
+)
 from club_office.clubs import SELF, ended_by_itself
 from club_office.counter import as_desk
 from club_office.member_list import lacking
@@ -53,10 +63,17 @@ class Office:
 
     def about(self, name):
         it, written = self.names.members[name], self.names.written.get(name)
-        return (f"{written}: " if written else "") + say("member has", balance=it.balance, quota=it.quota)
+        return (f"{written}: " if written else "") + say(
+            "member has", balance=it.balance, quota=it.quota
+        )
 
     def member(self):
-        return ask_name(say("ask member"), self.names.members, self.about, lambda typed, _: found_members(typed, self.names))
+        return ask_name(
+            say("ask member"),
+            self.names.members,
+            self.about,
+            lambda typed, _: found_members(typed, self.names),
+        )
 
     def facility(self):
         return ask_name(say("ask facility"), self.names.facilities)
@@ -87,7 +104,11 @@ def key_of(office):
 def free_key(office, member):
     """Returns the next unused name for a member's key, such as amy-1 or amy-2."""
     stem = member[:20].strip("-")
-    return next(it for it in (f"{stem}-{number}" for number in range(1, 1000)) if it not in office.names.keys)
+    return next(
+        it
+        for it in (f"{stem}-{number}" for number in range(1, 1000))
+        if it not in office.names.keys
+    )
 
 
 def member_words(office):
@@ -108,21 +129,31 @@ def new_member_words(office):
     quota = ask_number(say("ask quota"), 0, 99)
     points = office.points(1_000_000)
     person = [["person", name]] if office.written else []
-    return [["add-member", name, str(quota)], *person, ["credit", name, points], *key_words(office, name, spare_keys(office.club, name))]
+    return [
+        ["add-member", name, str(quota)],
+        *person,
+        ["credit", name, points],
+        *key_words(office, name, spare_keys(office.club, name)),
+    ]
 
 
 def key_words(office, member, spares=()):
     """Returns the commands for a member's new key. The first command writes the key's pass to the file where the command `letters` looks for it. If
     letters are possible, a second command writes a letter that also has the spare passes."""
     key = free_key(office, member)
-    return [["add-key", key, member, "--to", f"{PASSES}/{key}"], *letter_words(office, [key, *spares], f"letter-{key}")]
+    return [
+        ["add-key", key, member, "--to", f"{PASSES}/{key}"],
+        *letter_words(office, [key, *spares], f"letter-{key}"),
+    ]
 
 
 def letter_words(office, keys, stem):
     """Returns the command for a letter in a new file. Returns no command if the club has no site or the machine has no qrencode."""
     if not office.club.site or not shutil.which("qrencode"):
         return []
-    names = itertools.chain([f"{stem}.html"], (f"{stem}-{number}.html" for number in itertools.count(2)))
+    names = itertools.chain(
+        [f"{stem}.html"], (f"{stem}-{number}.html" for number in itertools.count(2))
+    )
     return [["letters", *keys, "--to", next(it for it in names if not os.path.lexists(it))]]
 
 
@@ -133,7 +164,10 @@ def new_key_words(office):
 def lost_words(office):
     """Returns the commands that make a new pass and a letter with this pass. The pass goes to the file where the command `letters` looks for it."""
     key = key_of(office)
-    return [["lost-pass", key, "--to", f"{PASSES}/{key}"], *letter_words(office, [key], f"letter-{key}-{office.today}")]
+    return [
+        ["lost-pass", key, "--to", f"{PASSES}/{key}"],
+        *letter_words(office, [key], f"letter-{key}-{office.today}"),
+    ]
 
 
 def letters_words(_office):
@@ -144,7 +178,16 @@ def book_words(office):
     member, facility, day = office.member(), office.facility(), office.day()
     begin, end = until_read(say("ask hour"), read_hours, say("no hours"))
     guests = str(ask_number(say("ask guests"), 0, 49))
-    return [["book", member, facility, day, str(begin) if end == begin + 1 else f"{begin}-{end}", guests]]
+    return [
+        [
+            "book",
+            member,
+            facility,
+            day,
+            str(begin) if end == begin + 1 else f"{begin}-{end}",
+            guests,
+        ]
+    ]
 
 
 def booking_of(office, member):
@@ -153,28 +196,50 @@ def booking_of(office, member):
     if not rows:
         print("   " + say("none yet"))
         raise Back
-    texts = {f"{day_text(datetime.date.fromisoformat(it['day']))} {int(it['hour']):02d}:00 {it['facility']} {it['key']} {it['number']}": it for it in rows}
+    texts = {
+        f"{day_text(datetime.date.fromisoformat(it['day']))} {int(it['hour']):02d}:00 {it['facility']} {it['key']} {it['number']}": it
+        for it in rows
+    }
     return texts[chosen(say("ask booking"), list(texts))]
 
 
 def call_off_words(office):
     member = office.member()
     row = booking_of(office, member)
-    return [["cancel-for", member, row["facility"], row["day"], row["hour"], "--number", row["number"]]]
+    return [
+        ["cancel-for", member, row["facility"], row["day"], row["hour"], "--number", row["number"]]
+    ]
 
 
 def credit_all_words(office):
     points, year = office.points(1_000_000), office.today.year
-    label = until_read(say("ask label", example=f"season-{year}"), lambda typed: fitted(typed, 24) or None, say("no name"))
+    label = until_read(
+        say("ask label", example=f"season-{year}"),
+        lambda typed: fitted(typed, 24) or None,
+        say("no name"),
+    )
     return [["credit-all", points, "--as", label]]
 
 
 def training_words(office):
     first, last = office.day("ask first day"), office.day("ask last day")
     hours = ask_hours(say("ask hours"))
-    why = until_read(say("ask why"), lambda typed: typed if len(typed) <= 60 else None, say("no name"))
+    why = until_read(
+        say("ask why"), lambda typed: typed if len(typed) <= 60 else None, say("no name")
+    )
     weekday = WEEKDAYS[language()][datetime.date.fromisoformat(first).weekday()].lower()
-    return [["close", f"{first}..{last}", hours, *office.facilities(), "--weekday", weekday, "--why", why]]
+    return [
+        [
+            "close",
+            f"{first}..{last}",
+            hours,
+            *office.facilities(),
+            "--weekday",
+            weekday,
+            "--why",
+            why,
+        ]
+    ]
 
 
 def cancel_words(office):
@@ -188,7 +253,11 @@ def new_facility_words(office):
         return name if NAME.fullmatch(name) and name not in office.names.facilities else None
 
     name = until_read(say("ask facility name"), read, say("no name"))
-    kind = until_read(say("ask kind"), lambda typed: found_names(plain(typed), ["court", "boat", "room"])[:1] or None, say("no name"))[0]
+    kind = until_read(
+        say("ask kind"),
+        lambda typed: found_names(plain(typed), ["court", "boat", "room"])[:1] or None,
+        say("no name"),
+    )[0]
     places, price = ask_number(say("ask places"), 1, 50), ask_number(say("ask price"), 0, 9999)
     begin, end = until_read(say("ask opening"), read_hours, say("no hours"))
     return [["add-facility", name, kind, str(places), str(price), str(begin), str(end)]]
@@ -196,16 +265,27 @@ def new_facility_words(office):
 
 def import_words(_office):
     """Asks for a list of members, and for values that the list's columns don't give, such as the quota."""
-    file = until_read(say("ask file"), lambda typed: typed if os.path.isfile(typed) else None, say("no such file"))
+    file = until_read(
+        say("ask file"), lambda typed: typed if os.path.isfile(typed) else None, say("no such file")
+    )
     most = {"quota": 99, "points": 1_000_000}
-    return [["import", file, *(f"--{it}={ask_number(say(f'ask {it}'), 0, most[it])}" for it in lacking(file))]]
+    return [
+        [
+            "import",
+            file,
+            *(f"--{it}={ask_number(say(f'ask {it}'), 0, most[it])}" for it in lacking(file)),
+        ]
+    ]
 
 
 def set_facility_words(office):
     name = office.facility()
     it = office.names.facilities[name]
     words = []
-    for option, text, now in (("--price", "ask new price", it.price), ("--places", "ask new places", it.places)):
+    for option, text, now in (
+        ("--price", "ask new price", it.price),
+        ("--places", "ask new places", it.places),
+    ):
         answer = ask(say(text, now=now) + ": ")
         words += [f"{option}={answer}"] if answer else []
     answer = ask(say("ask new opening", now=f"{it.opens}-{it.shuts}") + ": ")
@@ -235,8 +315,17 @@ def reopen_words(office):
         raise Back
     days = sorted({it["day"] for it in rows})
     day = chosen(say("ask day"), days, lambda it: day_text(datetime.date.fromisoformat(it)))
-    facility = chosen(say("ask facility"), sorted({it["facility"] for it in rows if it["day"] == day}))
-    print("   " + ", ".join(f"{int(it['hour']):02d}:00" for it in rows if (it["day"], it["facility"]) == (day, facility)))
+    facility = chosen(
+        say("ask facility"), sorted({it["facility"] for it in rows if it["day"] == day})
+    )
+    print(
+        "   "
+        + ", ".join(
+            f"{int(it['hour']):02d}:00"
+            for it in rows
+            if (it["day"], it["facility"]) == (day, facility)
+        )
+    )
     return [["reopen-slot", facility, day, ask_hours(say("ask hours"))]]
 
 
@@ -283,7 +372,12 @@ TASKS = [
     Task("group member", "task key", new_key_words, True),
     Task("group member", "task lost", lost_words, True),
     Task("group member", "task letters", letters_words, False),
-    Task("group member", "task quota", lambda office: [["set-quota", office.member(), str(ask_number(say("ask quota"), 0, 99))]], False),
+    Task(
+        "group member",
+        "task quota",
+        lambda office: [["set-quota", office.member(), str(ask_number(say("ask quota"), 0, 99))]],
+        False,
+    ),
     Task("group member", "task leave", of_member("leave"), False),
     Task("group bookings", "task bookings", of_member("bookings"), False),
     Task("group bookings", "task book", book_words, True),
@@ -291,7 +385,12 @@ TASKS = [
     Task("group bookings", "task cancel", cancel_words, False),
     Task("group bookings", "task record", lambda office: [["record", key_of(office)]], False),
     Task("group points", "task credit", with_points("credit", 1_000_000), True),
-    Task("group points", "task debit", lambda office: [["debit", office.member(), office.points(999_999_999)]], False),
+    Task(
+        "group points",
+        "task debit",
+        lambda office: [["debit", office.member(), office.points(999_999_999)]],
+        False,
+    ),
     Task("group points", "task balances", one("members"), False),
     Task("group points", "task money", of_member("money"), False),
     Task("group courts", "task facilities", one("facilities"), False),
@@ -341,7 +440,12 @@ def tasks_named(answer):
         return [TASKS[int(answer) - 1]] if 0 < int(answer) <= len(TASKS) else []
     typed = plain(answer)
     called = {task: plain(say(task.called)) for task in TASKS}
-    for fits in (typed.__eq__, lambda text: text.startswith(typed), lambda text: typed in re.findall("[a-z0-9]+", text), lambda text: typed in text):
+    for fits in (
+        typed.__eq__,
+        lambda text: text.startswith(typed),
+        lambda text: typed in re.findall("[a-z0-9]+", text),
+        lambda text: typed in text,
+    ):
         found = [task for task, text in called.items() if fits(text)]
         if found:
             return found
@@ -370,7 +474,11 @@ def carry_out(office, task):
         if os.path.dirname(file):
             os.makedirs(os.path.dirname(file), 0o700, exist_ok=True)
         if words[0] == "person" and words[1] in office.written:  # the name is in no argument
-            status, _ = as_desk(office.club, ["set-person", words[1]], json.dumps({"name": office.written[words[1]]}).encode())
+            status, _ = as_desk(
+                office.club,
+                ["set-person", words[1]],
+                json.dumps({"name": office.written[words[1]]}).encode(),
+            )
         else:
             status, _ = ended_by_itself([sys.executable, "-I", SELF, office.club.name, *words])
         if status:
@@ -388,7 +496,12 @@ def menu(club, names):
         importlib.import_module("readline")  # so that a line can be edited
     office = Office(club, names)
     while True:
-        print("\n" + say("menu", club=club.name, day=day_text(datetime.date.today())), *menu_lines(), say("menu ends"), sep="\n")
+        print(
+            "\n" + say("menu", club=club.name, day=day_text(datetime.date.today())),
+            *menu_lines(),
+            say("menu ends"),
+            sep="\n",
+        )
         try:
             answer = ask(say("task"))
             if not answer:

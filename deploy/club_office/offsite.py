@@ -17,7 +17,16 @@ import time
 from club_office.clubs import back_up_program, program
 from club_office.copies import homes, scratch
 from club_office.faults import STORAGE, Fault, fault
-from club_office.places import BESIDE, NAME, OLD_YEAR, kept_in, place_of, refuse_own_disk, remove, take
+from club_office.places import (
+    BESIDE,
+    NAME,
+    OLD_YEAR,
+    kept_in,
+    place_of,
+    refuse_own_disk,
+    remove,
+    take,
+)
 
 # The number of seconds until the next check of the file: normally, after a copy, and after a failure.
 LOOKS, RESTS, RETRIES = 3, 15, 20
@@ -37,14 +46,18 @@ def read_state(club):
     """Returns the lines of FILE-offsite. Maps the first word of each line to the rest of the line."""
     try:
         with open(state_of(club), encoding="utf-8") as file:
-            return {word: rest for word, _, rest in (line.rstrip("\n").partition(" ") for line in file)}
+            return {
+                word: rest for word, _, rest in (line.rstrip("\n").partition(" ") for line in file)
+            }
     except FileNotFoundError:
         return {}
 
 
 def write_state(club, state):
     made = state_of(club) + ".new"
-    with open(os.open(made, os.O_WRONLY | os.O_CREAT | os.O_TRUNC, 0o600), "w", encoding="utf-8") as file:
+    with open(
+        os.open(made, os.O_WRONLY | os.O_CREAT | os.O_TRUNC, 0o600), "w", encoding="utf-8"
+    ) as file:
         file.writelines(f"{word} {rest}\n" for word, rest in state.items())
     os.rename(made, state_of(club))
 
@@ -67,8 +80,16 @@ def signature(paths):
 def beside_paths(club):
     """Returns the path of each file for the archive, by the file's name in the archive."""
     folder = os.environ.get("OFFICE_CONF", "/etc/clubdesk")
-    found = {f"conf/{os.path.basename(path)}": path for path in sorted(glob.glob(os.path.join(glob.escape(folder), f"{club.name}.*"))) if os.path.isfile(path) and os.access(path, os.R_OK)}
-    found |= {f"beside/{end[1:]}": club.file + end for end in BESIDE_FILES if os.path.isfile(club.file + end)}
+    found = {
+        f"conf/{os.path.basename(path)}": path
+        for path in sorted(glob.glob(os.path.join(glob.escape(folder), f"{club.name}.*")))
+        if os.path.isfile(path) and os.access(path, os.R_OK)
+    }
+    found |= {
+        f"beside/{end[1:]}": club.file + end
+        for end in BESIDE_FILES
+        if os.path.isfile(club.file + end)
+    }
     for what in ("titles", "logo"):
         path = club.settings.get(what, "")
         if os.path.isfile(path) and os.access(path, os.R_OK) and path not in found.values():
@@ -88,7 +109,10 @@ def beside_of(club):
     made = io.BytesIO()
     with tarfile.open(fileobj=made, mode="w", format=tarfile.USTAR_FORMAT) as archive:
         files = {name: open(path, "rb").read() for name, path in beside_paths(club).items()}
-        for name, data in {**files, "clerks": "".join(f"{it}\n" for it in clerks()).encode()}.items():
+        for name, data in {
+            **files,
+            "clerks": "".join(f"{it}\n" for it in clerks()).encode(),
+        }.items():
             about = tarfile.TarInfo(name)
             about.size, about.mode = len(data), 0o600
             archive.addfile(about, io.BytesIO(data))
@@ -101,8 +125,19 @@ def beside_of(club):
 def made_copy(club, folder):
     """Makes a copy of the current club, and opens the copy with clubdesk as a test."""
     copy, opened = os.path.join(folder, "copy"), os.path.join(folder, "opened")
-    for line in ([back_up_program(), club.file, copy], ["cp", "--", copy, opened], [program("CLUBDESK", "clubdesk"), "sheet", "--", opened, "2000-01-01"]):
-        done = subprocess.run(line, capture_output=True, text=True, errors="replace", check=False, stdin=subprocess.DEVNULL)
+    for line in (
+        [back_up_program(), club.file, copy],
+        ["cp", "--", copy, opened],
+        [program("CLUBDESK", "clubdesk"), "sheet", "--", opened, "2000-01-01"],
+    ):
+        done = subprocess.run(
+            line,
+            capture_output=True,
+            text=True,
+            errors="replace",
+            check=False,
+            stdin=subprocess.DEVNULL,
+        )
         if done.returncode:
             raise fault(STORAGE, "no copy made", said=done.stderr.strip())
     with open(copy, "rb") as file:
@@ -112,7 +147,13 @@ def made_copy(club, folder):
 def too_old(names, day):
     """Returns the names of copies to remove, according to the rules of deploy/old_copies for copies that may be a minute apart."""
     rules = os.path.join(os.path.dirname(back_up_program()), "old_copies")
-    done = subprocess.run([rules, "-", day], input="".join(f"{it}\n" for it in names), capture_output=True, text=True, check=True)
+    done = subprocess.run(
+        [rules, "-", day],
+        input="".join(f"{it}\n" for it in names),
+        capture_output=True,
+        text=True,
+        check=True,
+    )
     return done.stdout.split()
 
 
@@ -137,7 +178,11 @@ def copy_now(club, place, state):
     is_new = digest != state.get("sum")
     if not is_new and beside_digest == state.get("beside"):
         return keep_in_order(club, place, None)
-    moment = time.strftime("%Y-%m-%dT%H%M%SZ", time.gmtime()) if is_new else state["copied"].split(" ")[1]
+    moment = (
+        time.strftime("%Y-%m-%dT%H%M%SZ", time.gmtime())
+        if is_new
+        else state["copied"].split(" ")[1]
+    )
     take(place, f"{moment}.tar", beside, beside_digest, "other")
     said = [f"{moment}: the files next to the club"]
     if is_new:
@@ -150,7 +195,9 @@ def copy_now(club, place, state):
 
 def keep_in_order(club, place, newest):
     """Sends the files of old years that the place doesn't have. Removes copies that are too old, and all archives except the newest."""
-    years = {path[len(club.file) + 1:]: path for path in glob.glob(glob.escape(club.file) + "-until-*")}
+    years = {
+        path[len(club.file) + 1 :]: path for path in glob.glob(glob.escape(club.file) + "-until-*")
+    }
     years = {name: path for name, path in sorted(years.items()) if OLD_YEAR.fullmatch(name)}
     if newest is None and not years:
         return []
@@ -161,9 +208,14 @@ def keep_in_order(club, place, newest):
                 data = file.read()
             take(place, name, data, hashlib.sha256(data).hexdigest(), "club")
             said.append(name)
-    old = too_old([it for it in names if NAME.fullmatch(it)], time.strftime("%Y-%m-%d", time.gmtime()))
+    old = too_old(
+        [it for it in names if NAME.fullmatch(it)], time.strftime("%Y-%m-%d", time.gmtime())
+    )
     said += [f"removed {it}" for it in old]
-    remove(place, [*old, *(it for it in names if newest and BESIDE.fullmatch(it) and it != f"{newest}.tar")])
+    remove(
+        place,
+        [*old, *(it for it in names if newest and BESIDE.fullmatch(it) and it != f"{newest}.tar")],
+    )
     return said
 
 
@@ -171,7 +223,11 @@ def look(club, state, is_first):
     """Checks the club once, and copies it if it has changed. Returns whether the place has the current club. Prints a fault at the first check, and
     later only if the fault differs from the last one."""
     where = club.settings["offsite"]
-    seen = f"{where} " + signature([club.file, club.file + "-wal", *beside_paths(club).values()]) + f" {','.join(clerks())}"
+    seen = (
+        f"{where} "
+        + signature([club.file, club.file + "-wal", *beside_paths(club).values()])
+        + f" {','.join(clerks())}"
+    )
     if state.get("of") == seen and "failing" not in state:
         return True
     if state.get("of", "").split(" ")[0] != where:

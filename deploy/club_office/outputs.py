@@ -41,7 +41,14 @@ def write_page(club):
     titles = club.settings.get("titles")
     with snapshot(club) as db:
         closures = closures_of(db, reasons_of(club), clock() // 1440)
-        text = page_of(db, club.title, zone, titles if titles and os.path.exists(titles) else None, closures, more_of(club.settings))
+        text = page_of(
+            db,
+            club.title,
+            zone,
+            titles if titles and os.path.exists(titles) else None,
+            closures,
+            more_of(club.settings),
+        )
     place = os.path.join(folder, "club.json")
     made = f"{place}.new"
     try:

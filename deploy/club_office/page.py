@@ -47,7 +47,12 @@ def titles_of(path, facilities):
         try:
             text = line.decode().strip()
             if text and not text.startswith("#"):
-                add_title(found, *(text.split(None, 1) if " " in text or "\t" in text else (text, "")), number, facilities)
+                add_title(
+                    found,
+                    *(text.split(None, 1) if " " in text or "\t" in text else (text, "")),
+                    number,
+                    facilities,
+                )
         except UnicodeDecodeError:
             raise refusal("in line", path=path, line=number, why=say("no UTF-8")) from None
         except ValueError as failure:
@@ -61,7 +66,9 @@ def add_title(found, name, written, line, facilities):
         raise ValueError(say("club without", name=name))
     if name in found:
         raise ValueError(say("titled already", name=name, line=found[name][0]))
-    if bar and (not about or not about.isprintable() or len(about.encode("utf-16-le")) > 2 * MOST_SENTENCE):
+    if bar and (
+        not about or not about.isprintable() or len(about.encode("utf-16-le")) > 2 * MOST_SENTENCE
+    ):
         raise ValueError(say("no sentence", most=MOST_SENTENCE))
     if not title or not title.isprintable():
         raise ValueError(say("title unprinted" if title else "no title", name=name))
@@ -109,7 +116,14 @@ def page_of(db, name, zone, titles_file, closures=(), more=()):
     if not name.isprintable():
         raise refusal("club name unprinted")
     facilities = [
-        {"name": each, **titles.get(each, {}), "kind": kind, "opens": opens, "shuts": shuts} for each, kind, opens, shuts in rows
+        {"name": each, **titles.get(each, {}), "kind": kind, "opens": opens, "shuts": shuts}
+        for each, kind, opens, shuts in rows
     ]
-    found = {"name": name, "zone": zone, "facilities": facilities, **({"closures": closures} if closures else {}), **dict(more)}
+    found = {
+        "name": name,
+        "zone": zone,
+        "facilities": facilities,
+        **({"closures": closures} if closures else {}),
+        **dict(more),
+    }
     return json.dumps(found, ensure_ascii=False, separators=(",", ":")) + "\n"

@@ -13,14 +13,23 @@ from club_office.texts import say
 MOST_BYTES = 50_000_000
 IDENTIFIER, VERIFIER, SIGNATURE = 2, 4, 6
 # The field names of V1, each with the number of the same field in V2.
-KINDS = {b"location": 1, b"cl": 1, b"identifier": IDENTIFIER, b"cid": IDENTIFIER, b"vid": VERIFIER, b"signature": SIGNATURE}
+KINDS = {
+    b"location": 1,
+    b"cl": 1,
+    b"identifier": IDENTIFIER,
+    b"cid": IDENTIFIER,
+    b"vid": VERIFIER,
+    b"signature": SIGNATURE,
+}
 
 
 def bytes_of(text):
     """Returns the decoded bytes of a one-line pass in V1 or V2."""
     if not re.fullmatch(r"[A-Za-z0-9_+/=-]{1,8192}", text) or re.fullmatch("[0-9a-f]+", text):
         raise ValueError(say("no one-line pass"))
-    return base64.urlsafe_b64decode(text.rstrip("=").replace("+", "-").replace("/", "_") + "=" * (-len(text.rstrip("=")) % 4))
+    return base64.urlsafe_b64decode(
+        text.rstrip("=").replace("+", "-").replace("/", "_") + "=" * (-len(text.rstrip("=")) % 4)
+    )
 
 
 def key_of(text):
@@ -43,7 +52,13 @@ def pass_of(name, root, *caveats):
     """Returns a key's pass in V2."""
     texts = [f"key:{name}".encode(), *map(str.encode, caveats)]
     packets = b"".join(packet(IDENTIFIER, text) + b"\0" for text in texts)
-    return base64.urlsafe_b64encode(bytes([2]) + packets + b"\0" + packet(SIGNATURE, signed(root, texts))).decode().rstrip("=")
+    return (
+        base64.urlsafe_b64encode(
+            bytes([2]) + packets + b"\0" + packet(SIGNATURE, signed(root, texts))
+        )
+        .decode()
+        .rstrip("=")
+    )
 
 
 def packet(kind, data):
@@ -64,7 +79,7 @@ def fields_of_v1(data):
         size = int(data[:4], 16)
         key, _, value = data[4:size].partition(b" ")
         yield KINDS[key], value[:-1]
-        data = data[max(size, 5):]
+        data = data[max(size, 5) :]
 
 
 def fields_of_v2(data):
@@ -76,7 +91,7 @@ def fields_of_v2(data):
             byte = data[place]
             size, shift, place = size | (byte & 127) << shift, shift + 7, place + 1
             if byte < 128:
-                yield kind, data[place:place + size]
+                yield kind, data[place : place + size]
                 break
         place += size
 
@@ -88,7 +103,9 @@ def is_signed(text, root):
     except (ValueError, KeyError, IndexError):
         return False
     texts = [value for kind, value in fields if kind == IDENTIFIER]
-    return not any(kind == VERIFIER for kind, _ in fields) and fields[-1:] == [(SIGNATURE, signed(root, texts))]
+    return not any(kind == VERIFIER for kind, _ in fields) and fields[-1:] == [
+        (SIGNATURE, signed(root, texts))
+    ]
 
 
 def list_old_passes(club, _words):
@@ -101,5 +118,8 @@ def list_old_passes(club, _words):
         raise bad_value("no passes given")
     with snapshot(club) as db:
         roots = dict(db.execute("SELECT name, root FROM keys"))
-    json.dump([key for key, text in texts.items() if key in roots and not is_signed(text, roots[key])], sys.stdout)
+    json.dump(
+        [key for key, text in texts.items() if key in roots and not is_signed(text, roots[key])],
+        sys.stdout,
+    )
     return 0

@@ -28,15 +28,26 @@ def people_of(club):
 
 def read_people(club):
     """Returns the persons by the names of the members. Returns no person if there is no file."""
-    with contextlib.suppress(FileNotFoundError), open(people_of(club), encoding="utf-8", newline="") as file:
+    with contextlib.suppress(FileNotFoundError), open(
+        people_of(club), encoding="utf-8", newline=""
+    ) as file:
         rows = csv.DictReader(file)
-        return {row["member"]: Person(*(row.get(it) or "" for it in Person._fields)) for row in rows if row.get("member")}
+        return {
+            row["member"]: Person(*(row.get(it) or "" for it in Person._fields))
+            for row in rows
+            if row.get("member")
+        }
     return {}
 
 
 def write_people(club, people):
     made = people_of(club) + ".new"
-    with open(os.open(made, os.O_WRONLY | os.O_CREAT | os.O_TRUNC, 0o600), "w", encoding="utf-8", newline="") as file:
+    with open(
+        os.open(made, os.O_WRONLY | os.O_CREAT | os.O_TRUNC, 0o600),
+        "w",
+        encoding="utf-8",
+        newline="",
+    ) as file:
         rows = csv.writer(file, lineterminator="\n")
         rows.writerow(["member", *Person._fields])
         rows.writerows([member, *person] for member, person in sorted(people.items()))
@@ -130,8 +141,20 @@ def mail_concerned(club, bookings, slot_text, record):
             print(say("no mail", name=person.name or member))
             continue
         lines = "\n".join(f"- {slot_text(it.facility, it.day, it.hour)}" for it in its)
-        text = say("mail text", name=person.name or member, lines=lines, points=sum(it.charge for it in its), club=club.title)
-        done = subprocess.run([mailer, person.mail, say("mail subject", club=club.title)], input=text, text=True, capture_output=True, check=False)
+        text = say(
+            "mail text",
+            name=person.name or member,
+            lines=lines,
+            points=sum(it.charge for it in its),
+            club=club.title,
+        )
+        done = subprocess.run(
+            [mailer, person.mail, say("mail subject", club=club.title)],
+            input=text,
+            text=True,
+            capture_output=True,
+            check=False,
+        )
         is_sent = done.returncode == 0 and not done.stderr
         if is_sent:
             record.note_mail(member)

@@ -71,7 +71,10 @@ def make_key(club, turn, member, facility):
         name, is_there = office_key(db, member)
     if not is_there:
         root = secrets.token_hex(32).encode()
-        status = turn.order(["add-key", name, member], lambda: clubdesk(club, "add-key", [name, member], ["--root-stdin"], root)[0])
+        status = turn.order(
+            ["add-key", name, member],
+            lambda: clubdesk(club, "add-key", [name, member], ["--root-stdin"], root)[0],
+        )
         if status:
             raise fault(status, "order failed", order=f"add-key {name} {member}", status=status)
     return name
@@ -91,9 +94,23 @@ def book(club, words):
         if len(there) == len(range(*words.hour)):
             refuse_booked(turn, words, key, there)
         for hour, number in there:
-            lines.append(say("booked before", slot=slot_text(words.facility, words.day, hour), member=words.member, booking=f"{key} {number}"))
+            lines.append(
+                say(
+                    "booked before",
+                    slot=slot_text(words.facility, words.day, hour),
+                    member=words.member,
+                    booking=f"{key} {number}",
+                )
+            )
         left = [hour for hour in range(*words.hour) if hour not in dict(there)]
-        return each_hour(turn, words, left, lines, lambda hour: put(club, words, hour, key, lines), "booked in all")
+        return each_hour(
+            turn,
+            words,
+            left,
+            lines,
+            lambda hour: put(club, words, hour, key, lines),
+            "booked in all",
+        )
 
 
 def booked_by(club, words, key):
@@ -110,7 +127,12 @@ def refuse_booked(turn, words, key, there):
     hour, number = there[0]
 
     def act():
-        raise refusal("booked already", slot=slot_text(words.facility, words.day, hour), member=words.member, booking=f"{key} {number}")
+        raise refusal(
+            "booked already",
+            slot=slot_text(words.facility, words.day, hour),
+            member=words.member,
+            booking=f"{key} {number}",
+        )
 
     turn.order(words.given, act)
 
@@ -136,7 +158,9 @@ def each_hour(turn, words, hours, lines, act, total):
         if len(range(*words.hour)) > 1:
             lines += [say(total, count=len(points), points=sum(points))] if points else []
             if len(points) < len(hours):
-                left = ", ".join(slot_text(words.facility, words.day, hour) for hour in hours[len(points):])
+                left = ", ".join(
+                    slot_text(words.facility, words.day, hour) for hour in hours[len(points) :]
+                )
                 print(say("not done", lines=left), file=sys.stderr)
     return 0
 
@@ -147,7 +171,11 @@ def order_of(words, hour):
         return words.given
     line = [words.command, words.member, words.facility, date_of(words.day), str(hour)]
     if words.command == "book":
-        return [*line, *([str(words.guests)] if words.guests is not None else []), *(["--again"] if words.again else [])]
+        return [
+            *line,
+            *([str(words.guests)] if words.guests is not None else []),
+            *(["--again"] if words.again else []),
+        ]
     return [*line, *([f"--number={words.number}"] if words.number else [])]
 
 
@@ -155,11 +183,31 @@ def put(club, words, hour, key, lines):
     """Books one hour, and returns its charge."""
     with snapshot(club) as db:
         (root,) = db.execute("SELECT root FROM keys WHERE name = ?", [key]).fetchone()
-        (number,) = db.execute("SELECT coalesce(max(number), 0) + 1 FROM bookings WHERE pass_key = ? AND number < 900000000", [key]).fetchone()
-    reply = answer(asked(club, "PUT", path_of(words, hour, number), pass_of(key, root, "actions = book"), json.dumps({"guests": words.guests or 0})))
+        (number,) = db.execute(
+            "SELECT coalesce(max(number), 0) + 1 FROM bookings WHERE pass_key = ? AND number < 900000000",
+            [key],
+        ).fetchone()
+    reply = answer(
+        asked(
+            club,
+            "PUT",
+            path_of(words, hour, number),
+            pass_of(key, root, "actions = book"),
+            json.dumps({"guests": words.guests or 0}),
+        )
+    )
     slot = slot_text(words.facility, words.day, hour)
     persons = say("persons", count=words.guests + 1) if words.guests else say("person")
-    lines.append(say("booked", slot=slot, member=words.member, persons=persons, points=reply["charge"], booking=f"{key} {number}"))
+    lines.append(
+        say(
+            "booked",
+            slot=slot,
+            member=words.member,
+            persons=persons,
+            points=reply["charge"],
+            booking=f"{key} {number}",
+        )
+    )
     return reply["charge"]
 
 
@@ -168,7 +216,14 @@ def cancel_for(club, words):
     cancelling on the page."""
     wants_file(club)
     with said_at_the_end() as lines, Turn(club) as turn:
-        return each_hour(turn, words, list(range(*words.hour)), lines, lambda hour: delete(club, words, hour, lines), "called off in all")
+        return each_hour(
+            turn,
+            words,
+            list(range(*words.hour)),
+            lines,
+            lambda hour: delete(club, words, hour, lines),
+            "called off in all",
+        )
 
 
 def delete(club, words, hour, lines):
@@ -187,12 +242,29 @@ def delete(club, words, hour, lines):
     if words.number:
         found = [it for it in found if it[1] == words.number]
         if not found:
-            raise refusal("no booking numbered", member=words.member, number=words.number, slot=slot)
+            raise refusal(
+                "no booking numbered", member=words.member, number=words.number, slot=slot
+            )
     if len(found) > 1:
-        raise refusal("several bookings", member=words.member, slot=slot, bookings=", ".join(f"{it[0]} {it[1]}" for it in found))
+        raise refusal(
+            "several bookings",
+            member=words.member,
+            slot=slot,
+            bookings=", ".join(f"{it[0]} {it[1]}" for it in found),
+        )
     key, number, root, revoked = found[0]
     if revoked:
         raise refusal("key revoked", key=key, club=club.name, number=number)
-    reply = answer(asked(club, "DELETE", path_of(words, hour, number), pass_of(key, root, "actions = cancel")))
-    lines.append(say("called off", slot=slot, member=words.member, points=reply["refund"], booking=f"{key} {number}"))
+    reply = answer(
+        asked(club, "DELETE", path_of(words, hour, number), pass_of(key, root, "actions = cancel"))
+    )
+    lines.append(
+        say(
+            "called off",
+            slot=slot,
+            member=words.member,
+            points=reply["refund"],
+            booking=f"{key} {number}",
+        )
+    )
     return reply["refund"]

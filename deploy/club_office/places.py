@@ -21,7 +21,12 @@ BESIDE = re.compile(NAME.pattern + r"[.]tar")
 OLD_YEAR = re.compile(r"until-[0-9]{4}-[0-9]{2}-[0-9]{2}(-[0-9]{1,3})?")
 # The greatest number of seconds to wait for a silent host, and for the transfer of a file.
 PATIENCE, MOST_SECONDS = 10, 300
-OPTIONS = (f"ConnectTimeout={PATIENCE}", "ServerAliveInterval=5", "ServerAliveCountMax=3", "LogLevel=ERROR")
+OPTIONS = (
+    f"ConnectTimeout={PATIENCE}",
+    "ServerAliveInterval=5",
+    "ServerAliveCountMax=3",
+    "LogLevel=ERROR",
+)
 # ssh asks for the password once, because later calls share the connection of the first call.
 ASKS = ("ControlMaster=auto", "ControlPersist=60", "ControlPath=~/.clubdesk-%C")
 
@@ -70,7 +75,13 @@ mv -f .new.tested tested
 def place_of(text):
     """Parses the text of a place: HOST:FOLDER, or an absolute path."""
     host, _, folder = ("", "", text) if text.startswith("/") else text.partition(":")
-    if not folder or not folder.isprintable() or folder.startswith("-") or not text.startswith("/") and not re.fullmatch(r"[A-Za-z0-9_][A-Za-z0-9_.@-]*", host):
+    if (
+        not folder
+        or not folder.isprintable()
+        or folder.startswith("-")
+        or not text.startswith("/")
+        and not re.fullmatch(r"[A-Za-z0-9_][A-Za-z0-9_.@-]*", host)
+    ):
         raise bad_value("no place", text=text)
     return Place(text, host or None, folder)
 
@@ -80,7 +91,10 @@ def refuse_own_disk(place, file):
     disk."""
     if place.host is None:
         try:
-            is_own = os.stat(place.folder).st_dev in (os.stat(os.path.dirname(file)).st_dev, os.stat("/").st_dev)
+            is_own = os.stat(place.folder).st_dev in (
+                os.stat(os.path.dirname(file)).st_dev,
+                os.stat("/").st_dev,
+            )
         except OSError as failure:
             raise fault(STORAGE, "not mounted", place=place.text, fault=failure.strerror) from None
         if is_own:
@@ -92,26 +106,52 @@ def run_there(place, script, *words, given=None, asks=False):
     ask for a password at the terminal."""
     line = ["sh", "-c", script, "sh", place.folder, *words]
     if place.host:
-        line = [program("SSH", "ssh"), *(it for option in (*OPTIONS, *(ASKS if asks else ("BatchMode=yes",))) for it in ("-o", option)), place.host, shlex.join(line)]
+        line = [
+            program("SSH", "ssh"),
+            *(
+                it
+                for option in (*OPTIONS, *(ASKS if asks else ("BatchMode=yes",)))
+                for it in ("-o", option)
+            ),
+            place.host,
+            shlex.join(line),
+        ]
     try:
-        done = subprocess.run(line, input=given, stdin=subprocess.DEVNULL if given is None else None, capture_output=True, check=False, timeout=MOST_SECONDS)
+        done = subprocess.run(
+            line,
+            input=given,
+            stdin=subprocess.DEVNULL if given is None else None,
+            capture_output=True,
+            check=False,
+            timeout=MOST_SECONDS,
+        )
     except subprocess.TimeoutExpired:
         raise fault(STORAGE, "no answer there", place=place.text, seconds=MOST_SECONDS) from None
     if done.returncode:
         said = " ".join(done.stderr.decode(errors="replace").split())
-        raise fault(STORAGE, "said there", place=place.text, said=said or f"status {done.returncode}")
+        raise fault(
+            STORAGE, "said there", place=place.text, said=said or f"status {done.returncode}"
+        )
     return done.stdout
 
 
 def take(place, name, data, digest, kind):
     """Stores a file at the place. The file gets its final name when it is complete. Returns how the place tested the file."""
-    return run_there(place, TAKE, name, digest, kind, "there" if place.host else "mounted", given=data).decode().strip()
+    return (
+        run_there(place, TAKE, name, digest, kind, "there" if place.host else "mounted", given=data)
+        .decode()
+        .strip()
+    )
 
 
 def kept_in(place, asks=False):
     """Returns the files of the place, the oldest file first."""
     files, _, tested = run_there(place, LIST, asks=asks).decode(errors="replace").partition("--\n")
-    sums = {words[0]: words[1:] for words in (line.split() for line in tested.splitlines()) if len(words) == 3}
+    sums = {
+        words[0]: words[1:]
+        for words in (line.split() for line in tested.splitlines())
+        if len(words) == 3
+    }
     found = []
     for line in files.splitlines():
         size, _, name = line.partition(" ")

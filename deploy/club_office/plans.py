@@ -50,7 +50,14 @@ class Plan:
             names = sorted({it.member for it in self.cancelled})
             members = names[0] if len(names) == 1 else say("members", count=len(names))
             text = "cancelled one" if len(self.cancelled) == 1 else "cancelled"
-            parts.append(say(text, count=len(self.cancelled), points=sum(it.charge for it in self.cancelled), members=members))
+            parts.append(
+                say(
+                    text,
+                    count=len(self.cancelled),
+                    points=sum(it.charge for it in self.cancelled),
+                    members=members,
+                )
+            )
         for text, count in (("slots closed", self.closed), ("slots opened", self.opened)):
             parts += [say(text if count > 1 else text + " one", count=count)] if count else []
         return [*self.lines, say("in all", what=", ".join(parts))]
@@ -64,7 +71,15 @@ class Plan:
     def cancel(self, bookings):
         """Plans to cancel bookings with a full refund. The cancellations free the booked places."""
         for it in bookings:
-            self.tell("cancels", slot=slot_text(it.facility, it.day, it.hour), persons=persons_text(it), points=it.charge, key=it.key, number=it.number, member=it.member)
+            self.tell(
+                "cancels",
+                slot=slot_text(it.facility, it.day, it.hour),
+                persons=persons_text(it),
+                points=it.charge,
+                key=it.key,
+                number=it.number,
+                member=it.member,
+            )
             self.cancelled.append(it)
             self.order(
                 cancel_words(it),
@@ -111,7 +126,10 @@ def plan_quota(db, words, _now):
     plan = Plan()
     (before,) = db.execute("SELECT quota FROM members WHERE name = ?", [words.member]).fetchone()
     plan.tell("quota of", member=words.member, before=before, then=words.quota)
-    plan.order(["set-quota", words.member, words.quota], Edit("members", (words.member,), {"quota": words.quota}))
+    plan.order(
+        ["set-quota", words.member, words.quota],
+        Edit("members", (words.member,), {"quota": words.quota}),
+    )
     return plan
 
 
@@ -124,8 +142,12 @@ def plan_rest_of_debit(db, words, left):
     """Plans the rest of an interrupted debit. The rest follows from the member's row in the debit's record, because only the office changes the
     credits of a member."""
     wants_row(db, "members", words.member)
-    (credited,) = db.execute("SELECT credited FROM members WHERE name = ?", [words.member]).fetchone()
-    (was, is_now), = [[row[1] for row in rows] for table, _, *rows in left["rows"] if table == "members"]
+    (credited,) = db.execute(
+        "SELECT credited FROM members WHERE name = ?", [words.member]
+    ).fetchone()
+    ((was, is_now),) = [
+        [row[1] for row in rows] for table, _, *rows in left["rows"] if table == "members"
+    ]
     if not is_now <= credited <= was or (was - credited) % MOST_CREDIT and credited != is_now:
         raise doubtful("debited otherwise", member=words.member, moment=left["moment"])
     return debit(db, words.member, credited - is_now)
@@ -134,7 +156,9 @@ def plan_rest_of_debit(db, words, left):
 def debit(db, member, points):
     """Plans to take points back from a member, with as many commands as necessary."""
     plan = Plan()
-    (balance,) = db.execute("SELECT max(credited - used, 0) FROM members WHERE name = ?", [member]).fetchone()
+    (balance,) = db.execute(
+        "SELECT max(credited - used, 0) FROM members WHERE name = ?", [member]
+    ).fetchone()
     if points > balance:
         raise refusal("balance is", member=member, balance=balance)
     plan.tell("balance of", member=member, before=balance, then=balance - points)
@@ -159,11 +183,19 @@ def plan_facility(db, words, now):
         plan.tell("places of", facility=words.facility, before=places, then=words.places)
         places = words.places
     if words.hours is not None:
-        plan.tell("hours of", facility=words.facility, before=f"{opens}-{shuts}", then=f"{words.hours[0]}-{words.hours[1]}")
+        plan.tell(
+            "hours of",
+            facility=words.facility,
+            before=f"{opens}-{shuts}",
+            then=f"{words.hours[0]}-{words.hours[1]}",
+        )
         opens, shuts = words.hours
     refuse_unfit(db, words.facility, places, opens, shuts, now)
     numbers = {"places": places, "price": price, "opens": opens, "shuts": shuts}
-    plan.order(["set-facility", words.facility, *numbers.values()], Edit("facilities", (words.facility,), numbers))
+    plan.order(
+        ["set-facility", words.facility, *numbers.values()],
+        Edit("facilities", (words.facility,), numbers),
+    )
     return plan
 
 
@@ -172,9 +204,12 @@ def refuse_unfit(db, facility, places, opens, shuts, now):
     sound club has more persons than places."""
     for it in bookings_of(db, "facility = ? AND day * 1440 + hour * 60 > ?", facility, now):
         if not opens <= it.hour < shuts:
-            raise refusal("is booked at", key=it.key, number=it.number, day=date_of(it.day), hour=it.hour)
+            raise refusal(
+                "is booked at", key=it.key, number=it.number, day=date_of(it.day), hour=it.hour
+            )
     for on, hour, taken in db.execute(
-        "SELECT day, hour, taken FROM slots WHERE facility = ? AND taken > ? ORDER BY day DESC, hour DESC LIMIT 1", [facility, places]
+        "SELECT day, hour, taken FROM slots WHERE facility = ? AND taken > ? ORDER BY day DESC, hour DESC LIMIT 1",
+        [facility, places],
     ):
         raise refusal("persons booked", count=taken, day=date_of(on), hour=hour)
 
@@ -185,13 +220,19 @@ def plan_reopen(db, words, _now):
     begin, end = words.hours
     for hour in range(begin, end):
         where = (words.facility, words.day, hour)
-        (closed,) = db.execute("SELECT coalesce(max(closed), 0) FROM slots WHERE facility = ? AND day = ? AND hour = ?", where).fetchone()
+        (closed,) = db.execute(
+            "SELECT coalesce(max(closed), 0) FROM slots WHERE facility = ? AND day = ? AND hour = ?",
+            where,
+        ).fetchone()
         if closed:
             plan.tell("opens", slot=slot_text(*where))
             plan.order(["open-slot", *slot_words(*where)], Edit("slots", where, {"closed": 0}))
             plan.opened += 1
     if not plan.orders:
-        raise nothing_left("not closed" if end == begin + 1 else "none closed", slot=slot_text(words.facility, words.day, begin))
+        raise nothing_left(
+            "not closed" if end == begin + 1 else "none closed",
+            slot=slot_text(words.facility, words.day, begin),
+        )
     return plan
 
 
@@ -207,8 +248,15 @@ def plan_cancel(db, words, now):
     else:
         found = bookings_of(db, "pass_key = ? AND number = ?", words.key, words.number)
         if not found:
-            known = db.execute("SELECT count(*) FROM bookings WHERE pass_key = ? AND number = ?", [words.key, words.number]).fetchone()[0]
-            raise (nothing_left if known else refusal)("cancelled already" if known else "booking unknown", number=words.number, key=words.key)
+            known = db.execute(
+                "SELECT count(*) FROM bookings WHERE pass_key = ? AND number = ?",
+                [words.key, words.number],
+            ).fetchone()[0]
+            raise (nothing_left if known else refusal)(
+                "cancelled already" if known else "booking unknown",
+                number=words.number,
+                key=words.key,
+            )
     plan.cancel(found)
     return plan
 
@@ -220,12 +268,23 @@ def plan_close(db, words, _now):
     facilities, days = unique(words.facilities), days_of(words)
     for facility in facilities:
         wants_row(db, "facilities", facility)
-        opens, shuts = db.execute("SELECT opens, shuts FROM facilities WHERE name = ?", [facility]).fetchone()
+        opens, shuts = db.execute(
+            "SELECT opens, shuts FROM facilities WHERE name = ?", [facility]
+        ).fetchone()
         if not opens <= begin < end <= shuts:
             raise refusal("opens then", facility=facility, opens=opens, shuts=shuts)
     for day in days:
         for facility in facilities:
-            plan.cancel(bookings_of(db, "facility = ? AND day = ? AND hour >= ? AND hour < ?", facility, day, begin, end))
+            plan.cancel(
+                bookings_of(
+                    db,
+                    "facility = ? AND day = ? AND hour >= ? AND hour < ?",
+                    facility,
+                    day,
+                    begin,
+                    end,
+                )
+            )
     for day in days:
         for facility in facilities:
             close_hours(db, plan, facility, day, begin, end)
@@ -239,19 +298,29 @@ def plan_close(db, words, _now):
 
 def days_of(words):
     """Returns the days to close: all days of a span, or only the span's days with the given weekday."""
-    found = [it for it in words.day if words.weekday is None or (it + THURSDAY) % 7 == words.weekday]
+    found = [
+        it for it in words.day if words.weekday is None or (it + THURSDAY) % 7 == words.weekday
+    ]
     if not found:
         raise refusal("no such weekday")
     return found
 
 
 def close_hours(db, plan, facility, day, begin, end):
-    closed = {row[0] for row in db.execute("SELECT hour FROM slots WHERE facility = ? AND day = ? AND closed = 1", [facility, day])}
+    closed = {
+        row[0]
+        for row in db.execute(
+            "SELECT hour FROM slots WHERE facility = ? AND day = ? AND closed = 1", [facility, day]
+        )
+    }
     for hour in range(begin, end):
         if hour not in closed:
             plan.tell("closes", slot=slot_text(facility, day, hour))
             plan.closed += 1
-            plan.order(["close-slot", *slot_words(facility, day, hour)], Edit("slots", (facility, day, hour), {"closed": 1}))
+            plan.order(
+                ["close-slot", *slot_words(facility, day, hour)],
+                Edit("slots", (facility, day, hour), {"closed": 1}),
+            )
 
 
 def plan_rain(db, words, _now):
@@ -259,7 +328,9 @@ def plan_rain(db, words, _now):
     for facility in unique([words.facilities]):
         wants_row(db, "facilities", facility)
         for hour in sorted({hour for begin, end in words.hours for hour in range(begin, end)}):
-            plan.cancel(bookings_of(db, "facility = ? AND day = ? AND hour = ?", facility, words.day, hour))
+            plan.cancel(
+                bookings_of(db, "facility = ? AND day = ? AND hour = ?", facility, words.day, hour)
+            )
     if not plan.orders:
         raise nothing_left("nobody booked")
     return plan
@@ -272,30 +343,52 @@ def plan_leave(db, words, now):
         raise nothing_left("no row members", name=words.member)
     plan = Plan()
     new = plan.new_name = free_number(db)
-    keys = db.execute("SELECT name, revoked FROM keys WHERE member = ? ORDER BY rowid", [words.member]).fetchall()
+    keys = db.execute(
+        "SELECT name, revoked FROM keys WHERE member = ? ORDER BY rowid", [words.member]
+    ).fetchall()
     for key, revoked in keys:
         if not revoked:
             plan.order(["revoke-key", key], Edit("keys", (key,), {"revoked": 1}))
     plan.cancel(bookings_of(db, "member = ? AND day * 1440 + hour * 60 > ?", words.member, now))
-    balance, quota = db.execute("SELECT max(credited - used, 0), quota FROM members WHERE name = ?", [words.member]).fetchone()
+    balance, quota = db.execute(
+        "SELECT max(credited - used, 0), quota FROM members WHERE name = ?", [words.member]
+    ).fetchone()
     if quota:
         plan.order(["set-quota", words.member, 0], Edit("members", (words.member,), {"quota": 0}))
     # SQLite tests references between rows at the end of the transaction.
     plan.change(-1, "PRAGMA defer_foreign_keys = ON")
     for place, (key, _) in enumerate(keys, 1):
         plan.tell("revokes", key=key, then=f"{new}-{place}")
-        plan.change(1, "UPDATE keys SET name = ?, member = ? WHERE name = ? AND revoked = 1", f"{new}-{place}", new, key)
-        plan.change(None, "UPDATE bookings SET pass_key = ? WHERE pass_key = ?", f"{new}-{place}", key)
-        plan.change(None, "UPDATE old_roots SET pass_key = ? WHERE pass_key = ?", f"{new}-{place}", key)
+        plan.change(
+            1,
+            "UPDATE keys SET name = ?, member = ? WHERE name = ? AND revoked = 1",
+            f"{new}-{place}",
+            new,
+            key,
+        )
+        plan.change(
+            None, "UPDATE bookings SET pass_key = ? WHERE pass_key = ?", f"{new}-{place}", key
+        )
+        plan.change(
+            None, "UPDATE old_roots SET pass_key = ? WHERE pass_key = ?", f"{new}-{place}", key
+        )
     plan.change(1, "UPDATE members SET name = ? WHERE name = ? AND quota = 0", new, words.member)
-    plan.tell("becomes", member=words.member, then=new, balance=balance + sum(it.charge for it in plan.cancelled))
+    plan.tell(
+        "becomes",
+        member=words.member,
+        then=new,
+        balance=balance + sum(it.charge for it in plan.cancelled),
+    )
     return plan
 
 
 def free_number(db):
     """Returns a number as the new name of a member who left. No member or key has a name that is this number, or that begins with this number and a
     hyphen."""
-    taken = {row[0].split("-")[0] for row in db.execute("SELECT name FROM members UNION ALL SELECT name FROM keys")}
+    taken = {
+        row[0].split("-")[0]
+        for row in db.execute("SELECT name FROM members UNION ALL SELECT name FROM keys")
+    }
     return next(str(candidate) for candidate in range(1, 10**9) if str(candidate) not in taken)
 
 
@@ -315,13 +408,24 @@ def plan_new_year(db, words, now, club):
     plan.change(old, "DELETE FROM bookings WHERE day < ?", before)
     plan.change(slots, "DELETE FROM slots WHERE day < ?", before)
     carried = carry_forward(db, before)
-    if not slots and carried == db.execute("SELECT * FROM bookings WHERE day < ? ORDER BY pass_key, number DESC", [before]).fetchall():
+    if (
+        not slots
+        and carried
+        == db.execute(
+            "SELECT * FROM bookings WHERE day < ? ORDER BY pass_key, number DESC", [before]
+        ).fetchall()
+    ):
         raise refusal("nothing carried", day=date_of(before))
-    plan.tell("carries", points=sum(row[6] for row in carried), keys=len({row[0] for row in carried}))
+    plan.tell(
+        "carries", points=sum(row[6] for row in carried), keys=len({row[0] for row in carried})
+    )
     for row in carried:
         plan.change(1, "INSERT INTO bookings VALUES (?, ?, ?, ?, ?, ?, ?, ?, ?, ?)", *row)
     plan.keeps = [
-        ("SELECT pass_key, sum(charge - refund) FROM bookings GROUP BY pass_key HAVING sum(charge - refund) <> 0 ORDER BY pass_key", []),
+        (
+            "SELECT pass_key, sum(charge - refund) FROM bookings GROUP BY pass_key HAVING sum(charge - refund) <> 0 ORDER BY pass_key",
+            [],
+        ),
         ("SELECT * FROM members ORDER BY name", []),
         ("SELECT * FROM bookings WHERE day >= ? ORDER BY pass_key, number", [before]),
         ("SELECT * FROM slots WHERE day >= ? ORDER BY facility, day, hour", [before]),
@@ -338,7 +442,12 @@ def carry_forward(db, before):
         " ORDER BY pass_key",
         [before],
     ).fetchall():
-        used = {row[0] for row in db.execute("SELECT number FROM bookings WHERE pass_key = ? AND day >= ?", [key, before])}
+        used = {
+            row[0]
+            for row in db.execute(
+                "SELECT number FROM bookings WHERE pass_key = ? AND day >= ?", [key, before]
+            )
+        }
         place = MOST_NUMBER
         while cost:
             while place in used:

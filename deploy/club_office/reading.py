@@ -8,7 +8,25 @@ import unicodedata
 
 from club_office.texts import MONTHS, WEEKDAYS
 
-LETTERS = {"ä": "ae", "ö": "oe", "ü": "ue", "ß": "ss", "æ": "ae", "ø": "oe", "å": "aa", "œ": "oe", "đ": "d", "ł": "l", "þ": "th", "ð": "d", "ı": "i", "ə": "e", "ħ": "h", "ŧ": "t", "ŋ": "n"}
+LETTERS = {
+    "ä": "ae",
+    "ö": "oe",
+    "ü": "ue",
+    "ß": "ss",
+    "æ": "ae",
+    "ø": "oe",
+    "å": "aa",
+    "œ": "oe",
+    "đ": "d",
+    "ł": "l",
+    "þ": "th",
+    "ð": "d",
+    "ı": "i",
+    "ə": "e",
+    "ħ": "h",
+    "ŧ": "t",
+    "ŋ": "n",
+}
 # The facts about a club that the parsers use. `members` has each member's credit, balance and quota. `keys` has each key's member, and whether the
 # key is revoked. `facilities` has each facility's kind, hours, places and price. `written` has the members' known full names.
 Names = collections.namedtuple("Names", "members keys facilities written")
@@ -19,8 +37,14 @@ Facility = collections.namedtuple("Facility", "kind opens shuts places price")
 
 def plain(text):
     """Returns the text in the form of names: in lower case and without accents."""
-    text = "".join(LETTERS.get(letter, letter) for letter in unicodedata.normalize("NFC", text.strip()).lower())
-    return "".join(letter for letter in unicodedata.normalize("NFKD", text) if not unicodedata.combining(letter))
+    text = "".join(
+        LETTERS.get(letter, letter) for letter in unicodedata.normalize("NFC", text.strip()).lower()
+    )
+    return "".join(
+        letter
+        for letter in unicodedata.normalize("NFKD", text)
+        if not unicodedata.combining(letter)
+    )
 
 
 def fitted(text, most):
@@ -46,9 +70,17 @@ def found(typed, names):
     # In the first round, a typed plain vowel also matches an umlaut in a name. If no name matches, a typed umlaut also matches a plain vowel in the
     # second round.
     for made in (lambda text: text, loose):
-        fits = [it for it in names if all(made(part) in made(it) or part in loose(it) for part in parts)]
+        fits = [
+            it for it in names if all(made(part) in made(it) or part in loose(it) for part in parts)
+        ]
         if fits:
-            return sorted(fits, key=lambda it: (not any(word.startswith(made(parts[0])) for word in made(it).split("-")), it))
+            return sorted(
+                fits,
+                key=lambda it: (
+                    not any(word.startswith(made(parts[0])) for word in made(it).split("-")),
+                    it,
+                ),
+            )
     return []
 
 
@@ -58,14 +90,26 @@ def found_members(typed, names):
     parts = re.findall("[a-z0-9]+", plain(typed))
     if typed in fits or not parts:
         return fits
-    written = [it for it, name in names.written.items() if it in names.members and all(part in plain(name) for part in parts)]
+    written = [
+        it
+        for it, name in names.written.items()
+        if it in names.members and all(part in plain(name) for part in parts)
+    ]
     return list(dict.fromkeys([*fits, *written]))
 
 
 # ---- Days.
 
 NEAR = {
-    "today": 0, "heute": 0, "now": 0, "tomorrow": 1, "morgen": 1, "uebermorgen": 2, "yesterday": -1, "gestern": -1, "vorgestern": -2,
+    "today": 0,
+    "heute": 0,
+    "now": 0,
+    "tomorrow": 1,
+    "morgen": 1,
+    "uebermorgen": 2,
+    "yesterday": -1,
+    "gestern": -1,
+    "vorgestern": -2,
 }
 
 
@@ -96,7 +140,15 @@ def dated(text, today):
         return next_of(today, int(parts[1]), int(parts[2]), parts[3])
     parts = re.fullmatch(r"([0-9]{1,2})\.? ([a-z]{3,})\.? ?([0-9]{4})?", text)
     if parts:
-        month = next((n for names in MONTHS.values() for n, it in enumerate(names, 1) if plain(it).startswith(parts[2]) or loose(plain(it)).startswith(parts[2])), 0)
+        month = next(
+            (
+                n
+                for names in MONTHS.values()
+                for n, it in enumerate(names, 1)
+                if plain(it).startswith(parts[2]) or loose(plain(it)).startswith(parts[2])
+            ),
+            0,
+        )
         return next_of(today, int(parts[1]), month, parts[3])
     raise ValueError
 
@@ -119,7 +171,12 @@ def next_of(today, day, month, year):
 
 def read_hours(text):
     """Returns the first hour and the hour after the last hour, or None. The text is, for example, 15-17, 15, 15:00-17:00 or 15 Uhr."""
-    text = re.sub(r"(:00|uhr|h)\b|\s", "", text.strip().lower()).replace("–", "-").replace("bis", "-").replace("to", "-")
+    text = (
+        re.sub(r"(:00|uhr|h)\b|\s", "", text.strip().lower())
+        .replace("–", "-")
+        .replace("bis", "-")
+        .replace("to", "-")
+    )
     parts = re.fullmatch(r"([0-9]{1,2})(?:-([0-9]{1,2}))?", text)
     if not parts:
         return None
@@ -148,14 +205,19 @@ def is_group(word):
 
 def read_facilities(text, facilities):
     """Finds the facilities that a text means. The text is `all`, a kind such as `courts`, or parts of names with commas or spaces between them.
-    Returns a list of matching facilities for each part. If a list has several facilities, the caller chooses one."""
+    Returns a list of matching facilities for each part. If a list has several facilities, the caller chooses one.
+    """
     words = [it for it in re.split(r"[\s,]+", text.strip()) if it]
     if all(plain(it) in ALL for it in words) and words:
         return [[it] for it in facilities]
     if len(words) > 1 and plain(words[0]) in ALL:
         words = words[1:]
     # One name may contain a space, as in `court 1`.
-    whole = found(text, facilities) if "," not in text and not all(it in facilities for it in words) else []
+    whole = (
+        found(text, facilities)
+        if "," not in text and not all(it in facilities for it in words)
+        else []
+    )
     if len(whole) == 1:
         return [whole]
     lists = []

@@ -12,7 +12,9 @@ from club_office.copies import address
 from club_office.texts import MONTHS, WEEKDAYS, day_text, language, say
 from club_office.values import EPOCH, MOST_NUMBER
 
-Booking = collections.namedtuple("Booking", "facility day hour persons charge refund cancelled member")
+Booking = collections.namedtuple(
+    "Booking", "facility day hour persons charge refund cancelled member"
+)
 Facility = collections.namedtuple("Facility", "kind opens shuts")
 KINDS = ("court", "boat", "room")
 MOST_ACTIVE = 15
@@ -29,9 +31,14 @@ class Use:
 
     def add(self, db, since, until):
         """Adds the bookings and offered slots of a file, for the days after `since` and up to `until`. Skips days outside the span of this object."""
-        least, most = (number_of(max(self.first, since + datetime.timedelta(1))), number_of(min(self.last, until)))
+        least, most = (
+            number_of(max(self.first, since + datetime.timedelta(1))),
+            number_of(min(self.last, until)),
+        )
         # The club's current file is added first, so its facts about a facility take precedence.
-        for name, *about in db.execute("SELECT name, kind, opens, shuts FROM facilities ORDER BY rowid"):
+        for name, *about in db.execute(
+            "SELECT name, kind, opens, shuts FROM facilities ORDER BY rowid"
+        ):
             self.facilities.setdefault(name, Facility(*about))
         for facility, day, *rest in db.execute(
             f"""SELECT facility, day, hour, guests + 1, charge, refund, cancelled, member FROM bookings JOIN keys ON keys.name = pass_key
@@ -39,7 +46,10 @@ class Use:
             [least, most],
         ):
             self.bookings.append(Booking(facility, EPOCH + datetime.timedelta(day), *rest))
-        for facility, day, hour in db.execute("SELECT facility, day, hour FROM slots WHERE closed = 1 AND day BETWEEN ? AND ?", [least, most]):
+        for facility, day, hour in db.execute(
+            "SELECT facility, day, hour FROM slots WHERE closed = 1 AND day BETWEEN ? AND ?",
+            [least, most],
+        ):
             self.closed.add((facility, EPOCH + datetime.timedelta(day), hour))
 
     def held(self):
@@ -50,7 +60,10 @@ class Use:
 
     def offered(self, facilities):
         """Counts the bookable slots of some facilities, by weekday and hour."""
-        days = collections.Counter((self.first + datetime.timedelta(it)).weekday() for it in range((self.last - self.first).days + 1))
+        days = collections.Counter(
+            (self.first + datetime.timedelta(it)).weekday()
+            for it in range((self.last - self.first).days + 1)
+        )
         found = collections.Counter()
         for it in facilities.values():
             for hour in range(it.opens, it.shuts):
@@ -64,7 +77,11 @@ class Use:
 
     def used(self, facilities):
         """Counts the booked slots of some facilities, by weekday and hour."""
-        return collections.Counter((day.weekday(), hour) for name, day, hour in {(it.facility, it.day, it.hour) for it in self.held()} if name in facilities)
+        return collections.Counter(
+            (day.weekday(), hour)
+            for name, day, hour in {(it.facility, it.day, it.hour) for it in self.held()}
+            if name in facilities
+        )
 
     def share(self, facilities):
         """Returns the percentage of the offered slots that members used, or None if the club offered no slot."""
@@ -78,10 +95,16 @@ def number_of(day):
 
 def use_of(club, db, first, last):
     """Returns the club's use in a span of days: the bookings and the offered slots. Each day is in the club's file, or in the file of an old year."""
-    use, before, files = Use(first, last), datetime.date.min, [(datetime.date.fromisoformat(day), path) for day, path in old_files(club.file)]
+    use, before, files = (
+        Use(first, last),
+        datetime.date.min,
+        [(datetime.date.fromisoformat(day), path) for day, path in old_files(club.file)],
+    )
     use.add(db, files[-1][0] if files else before, datetime.date.max)
     for until, path in files:
-        with contextlib.closing(sqlite3.connect(address(path, "ro") + "&immutable=1", uri=True)) as old:
+        with contextlib.closing(
+            sqlite3.connect(address(path, "ro") + "&immutable=1", uri=True)
+        ) as old:
             use.add(old, before, until)
         before = until
     return use
@@ -122,14 +145,21 @@ def row(cells, tag="td"):
 
 
 def table(heads, rows):
-    return f"<table><thead>{row(heads, 'th')}</thead><tbody>{''.join(map(row, rows))}</tbody></table>"
+    return (
+        f"<table><thead>{row(heads, 'th')}</thead><tbody>{''.join(map(row, rows))}</tbody></table>"
+    )
 
 
 def period(use):
     """Returns the name of a year for the page. If the year isn't over, the name includes the last counted day."""
     if (use.last.month, use.last.day) == (12, 31):
         return str(use.first.year)
-    return say("report until", year=use.first.year, day=use.last.day, month=MONTHS[language()][use.last.month - 1])
+    return say(
+        "report until",
+        year=use.first.year,
+        day=use.last.day,
+        month=MONTHS[language()][use.last.month - 1],
+    )
 
 
 def totals(use):
@@ -137,21 +167,34 @@ def totals(use):
     held = use.held()
     charged, refunded = sum(it.charge for it in use.bookings), sum(it.refund for it in use.bookings)
     numbers = [
-        len(use.bookings), len(use.bookings) - len(held), len({it[:3] for it in held}), sum(it.persons for it in held),
-        len({it.member for it in use.bookings}), charged, refunded, charged - refunded,
+        len(use.bookings),
+        len(use.bookings) - len(held),
+        len({it[:3] for it in held}),
+        sum(it.persons for it in held),
+        len({it.member for it in use.bookings}),
+        charged,
+        refunded,
+        charged - refunded,
     ]
     return [*map(grouped, numbers), percent(use.share(use.facilities))]
 
 
 def totals_table(use, before):
-    heads = [say(it) for it in "report made|report cancelled|report slots|report persons|report active|report charged|report refunded|report kept|report share".split("|")]
+    heads = [
+        say(it)
+        for it in "report made|report cancelled|report slots|report persons|report active|report charged|report refunded|report kept|report share".split(
+            "|"
+        )
+    ]
     return table(["", period(use), period(before)], zip(heads, totals(use), totals(before)))
 
 
 def heat_map(use, kind):
     facilities = use.of_kind(kind)
     offered, used = use.offered(facilities), use.used(facilities)
-    hours = range(min(it.opens for it in facilities.values()), max(it.shuts for it in facilities.values()))
+    hours = range(
+        min(it.opens for it in facilities.values()), max(it.shuts for it in facilities.values())
+    )
     lines = []
     for hour in hours:
         cells = [f"<th>{hour:02d}:00</th>"]
@@ -161,7 +204,9 @@ def heat_map(use, kind):
                 continue
             share = 100 * used[weekday, hour] / offered[weekday, hour]
             # Even on the cell with the darkest colour, the dark letters have a contrast of 5 to 1.
-            cells.append(f'<td style="background:hsl(156 59% {96 - share * 0.55:.0f}%)">{share:.0f}</td>')
+            cells.append(
+                f'<td style="background:hsl(156 59% {96 - share * 0.55:.0f}%)">{share:.0f}</td>'
+            )
         lines.append(f"<tr>{''.join(cells)}</tr>")
     heads = ["", *(it[:2] for it in WEEKDAYS[language()])]
     return f'<table class="heat"><thead>{row(heads, "th")}</thead><tbody>{"".join(lines)}</tbody></table>'
@@ -180,7 +225,8 @@ def months_table(use, before):
     lines = []
     for month, name in enumerate(MONTHS[language()], 1):
         bars = "<br>".join(
-            f'<span class="bar {how}" style="width:{22 * points / most:.2f}rem"></span> {grouped(points)}' for how, points in (("", now[month]), ("before", then[month]))
+            f'<span class="bar {how}" style="width:{22 * points / most:.2f}rem"></span> {grouped(points)}'
+            for how, points in (("", now[month]), ("before", then[month]))
         )
         lines.append(f"<tr><td>{name}</td><td>{bars}</td></tr>")
     keys = f'<p class="note"><span class="key bar"></span>{period(use)}<span class="key bar before"></span>{period(before)}</p>'
@@ -189,13 +235,33 @@ def months_table(use, before):
 
 def facilities_table(use, before):
     lines = []
-    for name, it in sorted(use.facilities.items(), key=lambda pair: (KINDS.index(pair[1].kind), pair[0])):
+    for name, it in sorted(
+        use.facilities.items(), key=lambda pair: (KINDS.index(pair[1].kind), pair[0])
+    ):
         held = {each[:3] for each in use.held() if each.facility == name}
         then = {each[:3] for each in before.held() if each.facility == name}
         money = [each for each in use.bookings if each.facility == name]
         charged, refunded = sum(each.charge for each in money), sum(each.refund for each in money)
-        lines.append([name, say(f"report {it.kind}"), grouped(len(held)), percent(use.share({name: it})), grouped(len(then)), grouped(charged - refunded), grouped(refunded)])
-    heads = ["report facility", "report kind", "report slots", "report share", "report slots before", "report kept", "report refunded"]
+        lines.append(
+            [
+                name,
+                say(f"report {it.kind}"),
+                grouped(len(held)),
+                percent(use.share({name: it})),
+                grouped(len(then)),
+                grouped(charged - refunded),
+                grouped(refunded),
+            ]
+        )
+    heads = [
+        "report facility",
+        "report kind",
+        "report slots",
+        "report share",
+        "report slots before",
+        "report kept",
+        "report refunded",
+    ]
     return table([say(it) for it in heads], lines)
 
 
@@ -206,7 +272,14 @@ def members_table(use, has_names):
     for it in use.bookings:
         points[it.member] += it.charge - it.refund
     first = sorted(count.items(), key=lambda pair: (-pair[1], pair[0]))[:MOST_ACTIVE]
-    lines = [[name if has_names else say("report place", place=place), grouped(number), grouped(points[name])] for place, (name, number) in enumerate(first, 1)]
+    lines = [
+        [
+            name if has_names else say("report place", place=place),
+            grouped(number),
+            grouped(points[name]),
+        ]
+        for place, (name, number) in enumerate(first, 1)
+    ]
     return table([say("report member"), say("report held"), say("report kept")], lines)
 
 
@@ -222,7 +295,9 @@ def page(title, use, before, today, has_names):
         (say("report facilities"), facilities_table(use, before)),
         (say("report members"), members_table(use, has_names)),
     ]
-    body = "".join(f"<section><h2>{html.escape(heading)}</h2>{text}</section>" for heading, text in sections)
+    body = "".join(
+        f"<section><h2>{html.escape(heading)}</h2>{text}</section>" for heading, text in sections
+    )
     heading = html.escape(f"{title}, {period(use)}")
     return f"""<!DOCTYPE html>
 <html lang="{language()}"><head><meta charset="utf-8"><meta name="viewport" content="width=device-width, initial-scale=1">
@@ -235,6 +310,10 @@ def page(title, use, before, today, has_names):
 def report_of(club, db, year, today, has_names):
     """Returns the page for a year. The page compares the year with the same days of the year before. In the current year, today is the last day."""
     last = min(datetime.date(year, 12, 31), today)
-    before = datetime.date(year - 1, last.month, 28 if (last.month, last.day) == (2, 29) else last.day)
-    use, then = use_of(club, db, datetime.date(year, 1, 1), last), use_of(club, db, datetime.date(year - 1, 1, 1), before)
+    before = datetime.date(
+        year - 1, last.month, 28 if (last.month, last.day) == (2, 29) else last.day
+    )
+    use, then = use_of(club, db, datetime.date(year, 1, 1), last), use_of(
+        club, db, datetime.date(year - 1, 1, 1), before
+    )
     return page(club.title, use, then, today, has_names)

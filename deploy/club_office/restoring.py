@@ -14,7 +14,16 @@ import time
 from club_office.asking import confirms, show_lines
 from club_office.book import Turn, refuse
 from club_office.clubs import now_of, program, refuse_to_come
-from club_office.copies import address, homes, is_run, keep_before, lost_name, scratch, snapshot, synced
+from club_office.copies import (
+    address,
+    homes,
+    is_run,
+    keep_before,
+    lost_name,
+    scratch,
+    snapshot,
+    synced,
+)
 from club_office.corrections import ended, file_taken
 from club_office.faults import REFUSED, Fault, refusal, storage_failed
 from club_office.lists import faults, table
@@ -34,13 +43,20 @@ def copies_of(club):
     """Returns the copies on this machine: the nightly copies, which clubdesk has opened, and the copies from before corrections, which SQLite has
     tested."""
     found = []
-    for folder, kind, tested in ((club.back_ups, "back-up", "opened"), (club.file + "-before", "before a correction", "whole")):
+    for folder, kind, tested in (
+        (club.back_ups, "back-up", "opened"),
+        (club.file + "-before", "before a correction", "whole"),
+    ):
         with contextlib.suppress(FileNotFoundError):
             for called in sorted(it for it in os.listdir(folder) if COPY.fullmatch(it)):
                 path = os.path.join(folder, called)
                 with contextlib.suppress(FileNotFoundError):
                     it = os.stat(path)
-                    found.append(Copy(called, kind, path, it.st_size, moment_of(called) or it.st_mtime, tested))
+                    found.append(
+                        Copy(
+                            called, kind, path, it.st_size, moment_of(called) or it.st_mtime, tested
+                        )
+                    )
     return found
 
 
@@ -52,7 +68,11 @@ def copies_off_site(club):
     try:
         place = place_of(club.settings["offsite"])
         refuse_own_disk(place, club.file)
-        return [Copy(it.name, "off-site", None, it.size, moment_of(it.name), it.tested) for it in kept_in(place) if moment_of(it.name)]
+        return [
+            Copy(it.name, "off-site", None, it.size, moment_of(it.name), it.tested)
+            for it in kept_in(place)
+            if moment_of(it.name)
+        ]
     except Fault as fault:
         print(say("not asked", fault=fault), file=sys.stderr)
         return []
@@ -75,11 +95,29 @@ def age_text(seconds):
 
 
 def list_copies(club, words):
-    found = sorted([*copies_of(club), *copies_off_site(club)], key=lambda it: (it.moment, it.called))
+    found = sorted(
+        [*copies_of(club), *copies_off_site(club)], key=lambda it: (it.moment, it.called)
+    )
     if words.csv:
-        table(["copy", "is", "bytes", "minutes", "tested"], [[it.called, it.kind, it.size, int((time.time() - it.moment) // 60), it.tested] for it in found], True)
+        table(
+            ["copy", "is", "bytes", "minutes", "tested"],
+            [
+                [it.called, it.kind, it.size, int((time.time() - it.moment) // 60), it.tested]
+                for it in found
+            ],
+            True,
+        )
         return 0
-    rows = [[it.called, say(it.kind), age_text(time.time() - it.moment), it.size, say(f"tested {it.tested}")] for it in found]
+    rows = [
+        [
+            it.called,
+            say(it.kind),
+            age_text(time.time() - it.moment),
+            it.size,
+            say(f"tested {it.tested}"),
+        ]
+        for it in found
+    ]
     table(["copy", "is", "age", "bytes", "tested"], rows, False)
     return 0
 
@@ -115,7 +153,12 @@ def copy_opened(club, called):
             shutil.copyfile(found.path, copy)
         else:
             brought(place_of(club.settings["offsite"]), called, copy)
-        done = subprocess.run([program("CLUBDESK", "clubdesk"), "sheet", "--", copy, "2000-01-01"], capture_output=True, text=True, check=False)
+        done = subprocess.run(
+            [program("CLUBDESK", "clubdesk"), "sheet", "--", copy, "2000-01-01"],
+            capture_output=True,
+            text=True,
+            check=False,
+        )
         if done.returncode:
             raise refusal("copy unopened", called=called, said=done.stderr.strip())
         with contextlib.closing(sqlite3.connect(address(copy, "ro"), uri=True)) as disk:
@@ -129,23 +172,74 @@ def copy_opened(club, called):
 
 def what_changes(copy, db, now):
     """Returns the changes that a restore would make, one per line. Leaves out past slots."""
-    members, then = (dict(it.execute("SELECT name, max(credited - used, 0) FROM members ORDER BY name")) for it in (db, copy))
+    members, then = (
+        dict(it.execute("SELECT name, max(credited - used, 0) FROM members ORDER BY name"))
+        for it in (db, copy)
+    )
     lines = [say("forgets member", name=it) for it in members if it not in then]
     lines += [say("has member", name=it) for it in then if it not in members]
-    lines += [say("balance of", member=it, before=members[it], then=then[it]) for it in members if then.get(it, members[it]) != members[it]]
-    quotas, then = (dict(it.execute("SELECT name, quota FROM members ORDER BY name")) for it in (db, copy))
-    lines += [say("quota of", member=it, before=quotas[it], then=then[it]) for it in quotas if then.get(it, quotas[it]) != quotas[it]]
-    lines += keys_changed(*({row[0]: row[1:] for row in it.execute("SELECT name, root, revoked FROM keys ORDER BY name")} for it in (db, copy)))
-    facilities, then = ({row[0]: row[1:] for row in it.execute("SELECT * FROM facilities ORDER BY name")} for it in (db, copy))
-    lines += [say("facility as was", facility=it) for it in sorted({*facilities, *then}) if facilities.get(it) != then.get(it)]
-    closed, then = (set(it.execute("SELECT facility, day, hour FROM slots WHERE closed = 1 AND day >= ?", [now // 1440])) for it in (db, copy))
+    lines += [
+        say("balance of", member=it, before=members[it], then=then[it])
+        for it in members
+        if then.get(it, members[it]) != members[it]
+    ]
+    quotas, then = (
+        dict(it.execute("SELECT name, quota FROM members ORDER BY name")) for it in (db, copy)
+    )
+    lines += [
+        say("quota of", member=it, before=quotas[it], then=then[it])
+        for it in quotas
+        if then.get(it, quotas[it]) != quotas[it]
+    ]
+    lines += keys_changed(
+        *(
+            {
+                row[0]: row[1:]
+                for row in it.execute("SELECT name, root, revoked FROM keys ORDER BY name")
+            }
+            for it in (db, copy)
+        )
+    )
+    facilities, then = (
+        {row[0]: row[1:] for row in it.execute("SELECT * FROM facilities ORDER BY name")}
+        for it in (db, copy)
+    )
+    lines += [
+        say("facility as was", facility=it)
+        for it in sorted({*facilities, *then})
+        if facilities.get(it) != then.get(it)
+    ]
+    closed, then = (
+        set(
+            it.execute(
+                "SELECT facility, day, hour FROM slots WHERE closed = 1 AND day >= ?", [now // 1440]
+            )
+        )
+        for it in (db, copy)
+    )
     lines += [say("opens", slot=slot_text(*it)) for it in sorted(closed - then)]
     lines += [say("closes", slot=slot_text(*it)) for it in sorted(then - closed)]
-    booked, then = ({it[:6]: it for it in bookings_of(each, "day * 1440 + hour * 60 > ?", now)} for each in (db, copy))
-    for what, bookings in (("loses", [booked[it] for it in booked if it not in then]), ("books again", [then[it] for it in then if it not in booked])):
+    booked, then = (
+        {it[:6]: it for it in bookings_of(each, "day * 1440 + hour * 60 > ?", now)}
+        for each in (db, copy)
+    )
+    for what, bookings in (
+        ("loses", [booked[it] for it in booked if it not in then]),
+        ("books again", [then[it] for it in then if it not in booked]),
+    ):
         for it in bookings:
             slot = slot_text(it.facility, it.day, it.hour)
-            lines.append(say(what, slot=slot, persons=persons_text(it), points=it.charge, key=it.key, number=it.number, member=it.member))
+            lines.append(
+                say(
+                    what,
+                    slot=slot,
+                    persons=persons_text(it),
+                    points=it.charge,
+                    key=it.key,
+                    number=it.number,
+                    member=it.member,
+                )
+            )
     if len(lines) > 1:
         lines.append(say("in all", what=say("changes", count=len(lines))))
     return lines or [say("nothing to come")]
@@ -165,7 +259,12 @@ def keys_changed(keys, then):
 
 def of_whom(lines):
     """Returns the members whose bookings a restore changes. Each member's name is the last word of a line about a booking."""
-    begin = [say(it, **dict.fromkeys(("slot", "persons", "points", "key", "number", "member"), "")).split()[0] for it in ("loses", "books again")]
+    begin = [
+        say(
+            it, **dict.fromkeys(("slot", "persons", "points", "key", "number", "member"), "")
+        ).split()[0]
+        for it in ("loses", "books again")
+    ]
     return [line.split()[-1] for line in lines if line.split()[0] in begin and "," in line]
 
 
@@ -179,10 +278,17 @@ def restore(club, words):
     lines, lost = [], set()
     with Turn(club) as turn:
         forget_undo(club)
-        status = turn.order(words.given, lambda: put_in_place(club, words, lines, None if words.yes else shown, lost))
+        status = turn.order(
+            words.given,
+            lambda: put_in_place(club, words, lines, None if words.yes else shown, lost),
+        )
     if words.yes:
         show_lines(lines)
-    print(say("done"), *(say("points lost", label=it) for it in sorted({label for label, _ in lost})), sep="\n")
+    print(
+        say("done"),
+        *(say("points lost", label=it) for it in sorted({label for label, _ in lost})),
+        sep="\n",
+    )
     show_concerned(club, of_whom(lines))
     return status
 

@@ -30,7 +30,9 @@ def steps_of(club, label):
             for line in lines:
                 words = line.split()
                 if len(words) == 5 and words[0] == label:
-                    found[words[1]] = Step(*words[:2], int(words[2]), int(words[3]), words[4] == "done")
+                    found[words[1]] = Step(
+                        *words[:2], int(words[2]), int(words[3]), words[4] == "done"
+                    )
     except FileNotFoundError:
         pass
     return found
@@ -45,17 +47,26 @@ def wanted(club, words):
     Members with a quota of 0 have left the club, or exist only for a screen."""
     steps = steps_of(club, words.label)
     if WHOLE in steps:
-        raise refusal("given already", label=words.label, points=steps[WHOLE].points, members=steps[WHOLE].before)
+        raise refusal(
+            "given already",
+            label=words.label,
+            points=steps[WHOLE].points,
+            members=steps[WHOLE].before,
+        )
     other = next((it.points for it in steps.values() if it.points != words.points), None)
     if other:
         raise refusal("begun otherwise", label=words.label, points=other)
     with snapshot(club) as db:
-        rows = db.execute("SELECT name, credited FROM members WHERE quota > 0 ORDER BY name").fetchall()
+        rows = db.execute(
+            "SELECT name, credited FROM members WHERE quota > 0 ORDER BY name"
+        ).fetchall()
     left = []
     for member, credited in rows:
         step = steps.get(member)
         if step and not step.is_done and credited not in (step.before, step.before + words.points):
-            raise refusal("credited otherwise", member=member, label=words.label, path=ledger_of(club))
+            raise refusal(
+                "credited otherwise", member=member, label=words.label, path=ledger_of(club)
+            )
         if not step or not step.is_done and credited == step.before:
             left.append((member, credited))
     return left, len(rows)
@@ -70,7 +81,17 @@ def credit_all(club, words):
     except Fault as failure:
         refuse(club, words, failure)
     if not words.yes:
-        show_lines([say("credits all", members=len(left), points=words.points, total=len(left) * words.points, label=words.label)])
+        show_lines(
+            [
+                say(
+                    "credits all",
+                    members=len(left),
+                    points=words.points,
+                    total=len(left) * words.points,
+                    label=words.label,
+                )
+            ]
+        )
         if len(left) < count:
             show_lines([say("credited before", count=count - len(left))])
         if not confirms():
@@ -91,7 +112,9 @@ def give(club, turn, words, member, credited):
     line = ["credit", member, str(words.points)]
     status = turn.order(line, lambda: clubdesk(club, line[0], line[1:])[0])
     if status:
-        raise fault(status if status != 1 else STORAGE, "not credited", member=member, status=status)
+        raise fault(
+            status if status != 1 else STORAGE, "not credited", member=member, status=status
+        )
     note(club, words.label, member, words.points, credited, "done")
 
 
@@ -107,7 +130,12 @@ def points_lost(club, copy):
     for label in labels_of(club):
         for member, step in steps_of(club, label).items():
             then = credited.get(member, 0)
-            if member != WHOLE and step.is_done and then <= step.before and before.get(member, then + 1) > then:
+            if (
+                member != WHOLE
+                and step.is_done
+                and then <= step.before
+                and before.get(member, then + 1) > then
+            ):
                 found.add((label, member))
     return found
 
@@ -123,7 +151,9 @@ def forget_points(club, lost):
     if not lost:
         return
     labels, made = {label for label, _ in lost}, ledger_of(club) + ".new"
-    with open(ledger_of(club), encoding="ascii") as lines, open(made, "w", encoding="ascii") as file:
+    with open(ledger_of(club), encoding="ascii") as lines, open(
+        made, "w", encoding="ascii"
+    ) as file:
         for line in lines:
             label, member = (line.split() + ["", ""])[:2]
             if (label, member) not in lost and not (member == WHOLE and label in labels):

@@ -13,7 +13,9 @@ def spare_keys(club, member):
     """Returns the names of a member's spare keys, such as amy-lend-1. In the configuration, SPARES is the number of spare keys. SPARE_NAME is the
     word in the spare keys' names, `lend` by default."""
     try:
-        count, called = number(0, MOST_SPARES)(club.settings.get("spares") or "0"), name(club.settings.get("spare_name") or "lend")
+        count, called = number(0, MOST_SPARES)(club.settings.get("spares") or "0"), name(
+            club.settings.get("spare_name") or "lend"
+        )
     except Fault as failure:
         raise fault(STORAGE, "spares", club=club.name, fault=failure) from None
     ends = [f"-{called}-{place}" for place in range(1, count + 1)]

@@ -34,11 +34,20 @@ TEXTS = {
     ),
     "several fit": ("{typed} may be", "{typed} passt auf"),
     "which": ("Number, or Enter for none: ", "Nummer oder Enter für keine: "),
-    "more": ("and {count} more names match: type more of the name", "und {count} weitere: mehr vom Namen eingeben"),
+    "more": (
+        "and {count} more names match: type more of the name",
+        "und {count} weitere: mehr vom Namen eingeben",
+    ),
     "nobody": ("no name matches", "dazu passt kein Name"),
-    "no day": ("this is not a day: write sa, +3, tomorrow, 5.12. or 2026-12-05", "kein Tag: etwa sa, +3, morgen, 5.12. oder 2026-12-05"),
+    "no day": (
+        "this is not a day: write sa, +3, tomorrow, 5.12. or 2026-12-05",
+        "kein Tag: etwa sa, +3, morgen, 5.12. oder 2026-12-05",
+    ),
     "no hours": ("these are not hours: write 15 or 15-17", "keine Uhrzeit: etwa 15 oder 15-17"),
-    "no number": ("this is not a number from {least} to {most}", "keine Zahl von {least} bis {most}"),
+    "no number": (
+        "this is not a number from {least} to {most}",
+        "keine Zahl von {least} bis {most}",
+    ),
     "no name": ("this answer isn't possible", "diese Antwort geht nicht"),
     "taken name": ("{name} already exists", "{name} gibt es schon"),
     "none yet": ("there are none", "es gibt keine"),
@@ -51,7 +60,10 @@ TEXTS = {
     "task": ("Task: ", "Aufgabe: "),
     "back": ("back; nothing changed", "zurück; nichts geändert"),
     "enter": ("Enter for the menu ", "Enter für das Menü "),
-    "broken off": ("interrupted: `office {club} log` shows what was already done", "abgebrochen: `office {club} log` zeigt, was bis dahin gemacht wurde"),
+    "broken off": (
+        "interrupted: `office {club} log` shows what was already done",
+        "abgebrochen: `office {club} log` zeigt, was bis dahin gemacht wurde",
+    ),
     "no such file": ("this file doesn't exist", "diese Datei gibt es nicht"),
     "no task": ("no task has this name", "so heißt keine Aufgabe"),
     "do it": ("Do it? [Y/n] ", "Ausführen? [J/n] "),
@@ -107,36 +119,69 @@ TEXTS = {
     "ask member": ("Member (part of the name)", "Mitglied (Teil des Namens)"),
     "ask key": ("Key", "Schlüssel"),
     "ask facility": ("Court, boat or room", "Platz, Boot oder Raum"),
-    "ask facilities": ("Which facilities (parts of names, all, courts, boats, rooms)", "Welche (Teile der Namen, alle, Plätze, Boote, Räume)"),
+    "ask facilities": (
+        "Which facilities (parts of names, all, courts, boats, rooms)",
+        "Welche (Teile der Namen, alle, Plätze, Boote, Räume)",
+    ),
     "ask day": ("Day (sa, +3, tomorrow, 5.12.)", "Tag (sa, +3, morgen, 5.12.)"),
     "ask first day": ("First day (tue, 2027-01-05, 5.12.)", "Erster Tag (di, 2027-01-05, 5.12.)"),
     "ask last day": ("Last day", "Letzter Tag"),
     "ask hours": ("Hours, such as 15-17", "Stunden, etwa 15-17"),
     "ask hour": ("Hours, such as 15 or 15-17", "Stunden, etwa 15 oder 15-17"),
     "ask guests": ("How many guests come along", "Wie viele kommen mit"),
-    "ask label": ("A name for the credit, such as {example}; no member gets the credit twice", "Ein Name für die Gutschrift, etwa {example}: jede gibt es nur einmal"),
+    "ask label": (
+        "A name for the credit, such as {example}; no member gets the credit twice",
+        "Ein Name für die Gutschrift, etwa {example}: jede gibt es nur einmal",
+    ),
     "ask why": ("The reason, which the booking page shows", "Grund, den die Seite zeigt"),
     "ask points": ("Points", "Punkte"),
     "ask new name": ("Full name", "Vor- und Nachname"),
     "ask name": ("Full name [{now}]: ", "Vor- und Nachname [{now}]: "),
     "ask mail": ("Mail address [{now}]: ", "E-Mail [{now}]: "),
     "ask telephone": ("Telephone [{now}]: ", "Telefon [{now}]: "),
-    "ask quota": ("Open bookings that the member may have at a time, 0 to 99", "Offene Buchungen zugleich, 0 bis 99"),
+    "ask quota": (
+        "Open bookings that the member may have at a time, 0 to 99",
+        "Offene Buchungen zugleich, 0 bis 99",
+    ),
     "ask booking": ("Which booking", "Welche Buchung"),
     "ask copy": ("Which copy", "Welche Kopie"),
     "ask file": ("File of the list", "Datei der Liste"),
-    "ask word": ("A word to look for, or Enter to see all lines", "Suchwort oder Enter für alle Zeilen"),
+    "ask word": (
+        "A word to look for, or Enter to see all lines",
+        "Suchwort oder Enter für alle Zeilen",
+    ),
     "ask facility name": ("Short name, such as court-3", "Kurzer Name, etwa court-3"),
     "ask kind": ("Kind: court, boat or room", "Art: court (Platz), boat (Boot) oder room (Raum)"),
-    "ask places": ("Places, 1 to 50: how many persons can use the facility at a time", "Plätze, 1 bis 50: wie viele Personen zugleich"),
-    "ask price": ("Points per person and hour, 0 to 9999", "Punkte je Person und Stunde, 0 bis 9999"),
+    "ask places": (
+        "Places, 1 to 50: how many persons can use the facility at a time",
+        "Plätze, 1 bis 50: wie viele Personen zugleich",
+    ),
+    "ask price": (
+        "Points per person and hour, 0 to 9999",
+        "Punkte je Person und Stunde, 0 bis 9999",
+    ),
     "ask opening": ("Opening hours, such as 8-22", "Öffnungszeiten, etwa 8-22"),
     "ask new price": ("New price, or Enter to keep {now}", "Neuer Preis oder Enter für {now}"),
-    "ask new places": ("New number of places, or Enter to keep {now}", "Neue Anzahl der Plätze oder Enter für {now}"),
-    "ask new opening": ("New opening hours, or Enter to keep {now}", "Neue Öffnungszeiten oder Enter für {now}"),
-    "member has": ("{balance} points, and at most {quota} open bookings at a time", "{balance} Punkte, {quota} Buchungen zugleich"),
-    "lost removed": ("{path} contained the lost pass and was removed", "in {path} war der verlorene Pass; die Datei ist gelöscht"),
-    "pass is in": ("the pass is in the file {file} in this folder", "der Pass ist in der Datei {file} in diesem Ordner"),
+    "ask new places": (
+        "New number of places, or Enter to keep {now}",
+        "Neue Anzahl der Plätze oder Enter für {now}",
+    ),
+    "ask new opening": (
+        "New opening hours, or Enter to keep {now}",
+        "Neue Öffnungszeiten oder Enter für {now}",
+    ),
+    "member has": (
+        "{balance} points, and at most {quota} open bookings at a time",
+        "{balance} Punkte, {quota} Buchungen zugleich",
+    ),
+    "lost removed": (
+        "{path} contained the lost pass and was removed",
+        "in {path} war der verlorene Pass; die Datei ist gelöscht",
+    ),
+    "pass is in": (
+        "the pass is in the file {file} in this folder",
+        "der Pass ist in der Datei {file} in diesem Ordner",
+    ),
     # What corrections and a restore do.
     "person": ("1 person", "1 Person"),
     "persons": ("{count} persons", "{count} Personen"),
@@ -150,15 +195,30 @@ TEXTS = {
         "this correction was interrupted on {moment}, and is complete now: nothing is left to do",
         "das wurde am {moment} unterbrochen und ist jetzt erledigt: es bleibt nichts zu tun",
     ),
-    "quota of": ("quota of {member} changes from {before} to {then}", "gleichzeitige Buchungen von {member}: {before}, dann {then}"),
-    "balance of": ("balance of {member} changes from {before} to {then}", "Punktestand von {member}: {before}, dann {then}"),
+    "quota of": (
+        "quota of {member} changes from {before} to {then}",
+        "gleichzeitige Buchungen von {member}: {before}, dann {then}",
+    ),
+    "balance of": (
+        "balance of {member} changes from {before} to {then}",
+        "Punktestand von {member}: {before}, dann {then}",
+    ),
     "price of": (
         "price of {facility} changes from {before} to {then}; existing bookings keep their charge",
         "Preis von {facility}: {before}, dann {then}; was gebucht ist, behält seinen Preis",
     ),
-    "places of": ("places of {facility} change from {before} to {then}", "Plätze von {facility}: {before}, dann {then}"),
-    "hours of": ("hours of {facility} change from {before} to {then}", "Zeiten von {facility}: {before}, dann {then}"),
-    "revokes": ("revokes the key {key} and renames it to {then}", "widerruft den Schlüssel {key}, der zu {then} wird"),
+    "places of": (
+        "places of {facility} change from {before} to {then}",
+        "Plätze von {facility}: {before}, dann {then}",
+    ),
+    "hours of": (
+        "hours of {facility} change from {before} to {then}",
+        "Zeiten von {facility}: {before}, dann {then}",
+    ),
+    "revokes": (
+        "revokes the key {key} and renames it to {then}",
+        "widerruft den Schlüssel {key}, der zu {then} wird",
+    ),
     "becomes": (
         "renames member {member} to {then}, with quota 0 and a balance of {balance}",
         "Mitglied {member} wird zu {then}, kann nichts mehr buchen und hat noch {balance} Punkte",
@@ -174,19 +234,34 @@ TEXTS = {
     ),
     "forgets member": ("removes the member {name}", "entfernt das Mitglied {name}"),
     "has member": ("brings back the member {name}", "stellt das Mitglied {name} wieder her"),
-    "facility as was": ("changes the facility {facility} back to its earlier state", "setzt die Anlage {facility} zurück"),
+    "facility as was": (
+        "changes the facility {facility} back to its earlier state",
+        "setzt die Anlage {facility} zurück",
+    ),
     "nothing to come": (
         "the restore changes no member, balance, quota, pass, facility or future slot",
         "das Zurückspielen ändert weder Mitglieder, Punktestände, Buchungsgrenzen, Pässe und Anlagen noch künftige Zeiten",
     ),
-    "forgets key": ("removes the key {key}: its passes are refused", "entfernt den Schlüssel {key}: seine Pässe gelten nicht mehr"),
-    "has key": ("brings back the key {key} and its passes", "stellt den Schlüssel {key} und seine Pässe wieder her"),
+    "forgets key": (
+        "removes the key {key}: its passes are refused",
+        "entfernt den Schlüssel {key}: seine Pässe gelten nicht mehr",
+    ),
+    "has key": (
+        "brings back the key {key} and its passes",
+        "stellt den Schlüssel {key} und seine Pässe wieder her",
+    ),
     "rotated back": (
         "accepts the passes that {key} had before its rotation, and refuses the later passes of {key}",
         "nimmt Pässe von {key} aus der Zeit vor dem Wechsel wieder an, spätere nicht mehr",
     ),
-    "revoked again": ("refuses the passes of {key}: the key is revoked again", "lehnt die Pässe von {key} ab: er ist wieder widerrufen"),
-    "revoked now": ("accepts the passes of {key} again: the key is no longer revoked", "nimmt die Pässe von {key} wieder an, der jetzt widerrufen ist"),
+    "revoked again": (
+        "refuses the passes of {key}: the key is revoked again",
+        "lehnt die Pässe von {key} ab: er ist wieder widerrufen",
+    ),
+    "revoked now": (
+        "accepts the passes of {key} again: the key is no longer revoked",
+        "nimmt die Pässe von {key} wieder an, der jetzt widerrufen ist",
+    ),
     "loses": (
         "loses the booking {slot}, {persons}, {points} points: {key} {number}, {member}",
         "verliert {slot}, {persons}, {points} Punkte: {key} {number}, {member}",
@@ -196,11 +271,26 @@ TEXTS = {
         "bucht wieder {slot}, {persons}, {points} Punkte: {key} {number}, {member}",
     ),
     # Bookings for a member who calls.
-    "booked": ("booked {slot} for {member}, {persons}, {points} points: {booking}", "{slot} gebucht für {member}, {persons}, {points} Punkte: {booking}"),
-    "called off": ("cancelled {slot} of {member}, {points} points back: {booking}", "{slot} von {member} abgesagt, {points} Punkte zurück: {booking}"),
-    "booked before": ("{slot} is already booked for {member}: {booking}", "{slot} ist für {member} schon gebucht: {booking}"),
-    "booked in all": ("slots booked in all: {count}, for {points} points", "zusammen: {count} gebucht, {points} Punkte"),
-    "called off in all": ("bookings cancelled in all: {count}, with {points} points back", "zusammen: {count} abgesagt, {points} Punkte zurück"),
+    "booked": (
+        "booked {slot} for {member}, {persons}, {points} points: {booking}",
+        "{slot} gebucht für {member}, {persons}, {points} Punkte: {booking}",
+    ),
+    "called off": (
+        "cancelled {slot} of {member}, {points} points back: {booking}",
+        "{slot} von {member} abgesagt, {points} Punkte zurück: {booking}",
+    ),
+    "booked before": (
+        "{slot} is already booked for {member}: {booking}",
+        "{slot} ist für {member} schon gebucht: {booking}",
+    ),
+    "booked in all": (
+        "slots booked in all: {count}, for {points} points",
+        "zusammen: {count} gebucht, {points} Punkte",
+    ),
+    "called off in all": (
+        "bookings cancelled in all: {count}, with {points} points back",
+        "zusammen: {count} abgesagt, {points} Punkte zurück",
+    ),
     "not done": ("not done: {lines}", "nicht erledigt: {lines}"),
     # Persons.
     "to tell": ("Members to inform:", "Zu benachrichtigen:"),
@@ -213,10 +303,16 @@ TEXTS = {
         "Hallo {name},\n\ndas Büro musste deine Buchung absagen:\n\n{lines}\n\nDu bekommst {points} Punkte zurück.\n\n{club}\n",
     ),
     # A list.
-    "list read": ("the list was read as {letters} with {sign} between the columns: {columns}", "gelesen als {letters} mit {sign} zwischen den Spalten: {columns}"),
+    "list read": (
+        "the list was read as {letters} with {sign} between the columns: {columns}",
+        "gelesen als {letters} mit {sign} zwischen den Spalten: {columns}",
+    ),
     "list over": ("; ignored columns: {columns}", "; übergangen: {columns}"),
     "nothing to do": ("nothing to do", "nichts zu tun"),
-    "import in all": ("in all: {count} of {rows} rows left to do, {points} points", "zusammen: {count} von {rows} Zeilen zu erledigen, {points} Punkte"),
+    "import in all": (
+        "in all: {count} of {rows} rows left to do, {points} points",
+        "zusammen: {count} von {rows} Zeilen zu erledigen, {points} Punkte",
+    ),
     "spare pass": ("spare pass {key}", "Ersatzpass {key}"),
     "imported": (
         "{done} of {rows} rows done, {there} rows done before; passes are in {folder}",
@@ -238,17 +334,29 @@ TEXTS = {
     "tested sum": ("same bytes", "gleiche Bytes"),
     "tested no": ("no", "nein"),
     # Lists.
-    "sums are right": ("the stored totals match the sums of the bookings", "die Summen stimmen mit den Buchungen überein"),
+    "sums are right": (
+        "the stored totals match the sums of the bookings",
+        "die Summen stimmen mit den Buchungen überein",
+    ),
     # The season's points.
     "credits all": (
         "credits {members} members with {points} points each, {total} in all, as {label}; members with quota 0 get no points",
         "schreibt {members} Mitgliedern je {points} Punkte gut, zusammen {total}, als {label}; wer nichts buchen darf, bekommt nichts",
     ),
-    "points lost": ("the restore removed the credit {label}: to give it again, use credit-all", "{label} ist nicht mehr gutgeschrieben: credit-all schreibt es wieder gut"),
+    "points lost": (
+        "the restore removed the credit {label}: to give it again, use credit-all",
+        "{label} ist nicht mehr gutgeschrieben: credit-all schreibt es wieder gut",
+    ),
     "credited before": ("{count} members already have these points", "{count} haben sie schon"),
-    "credited": ("{count} members credited with {points} points, as {label}", "{count} Mitgliedern {points} Punkte gutgeschrieben, als {label}"),
+    "credited": (
+        "{count} members credited with {points} points, as {label}",
+        "{count} Mitgliedern {points} Punkte gutgeschrieben, als {label}",
+    ),
     # Undo.
-    "undoes": ("undoes what was done on {moment}: {words}", "nimmt zurück, was am {moment} gemacht wurde: {words}"),
+    "undoes": (
+        "undoes what was done on {moment}: {words}",
+        "nimmt zurück, was am {moment} gemacht wurde: {words}",
+    ),
     "puts back": ("puts back {row}", "stellt wieder her: {row}"),
     "takes away": ("takes away {row}", "entfernt: {row}"),
     "row members": ("the member {row}", "das Mitglied {row}"),
@@ -271,7 +379,10 @@ TEXTS = {
         "The page asks whether your browser should keep the pass. On your own device, press “Keep it”.",
         "Die Seite fragt, ob dieser Browser den Pass speichern soll. Auf deinem eigenen Gerät: Drück auf „Speichern“.",
     ),
-    "letter step 3": ("Choose the day, press a free slot, and book.", "Wähle den Tag, tippe auf eine freie Zeit und buche."),
+    "letter step 3": (
+        "Choose the day, press a free slot, and book.",
+        "Wähle den Tag, tippe auf eine freie Zeit und buche.",
+    ),
     "letter lend title": ("To lend", "Zum Verleihen"),
     "letter lend": (
         "Cut off this half and keep it. On your own device, open the link on this half once. Then you can lend a part of your pass: under “Lend” on the page, choose what to"
@@ -285,7 +396,10 @@ TEXTS = {
         "Wer dieses Blatt hat, kann mit deinen Punkten buchen. Wirf es danach weg, oder verwahre es wie einen Hausschlüssel. Für jemand anderen macht"
         " das Büro einen eigenen Pass. Hast du das Blatt oder das Handy verloren, ruf im Büro an.",
     ),
-    "letters made": ("{count} sheets for {members} members are in {file}", "{count} Blätter für {members} Mitglieder sind in {file}"),
+    "letters made": (
+        "{count} sheets for {members} members are in {file}",
+        "{count} Blätter für {members} Mitglieder sind in {file}",
+    ),
     # The board's page.
     "report made in": ("the report is in {files}", "die Seite ist in {files}"),
     "report until": ("{year} to {day} {month}", "{year} bis {day}. {month}"),
@@ -321,9 +435,15 @@ TEXTS = {
     "report place": ("rank {place}", "Platz {place}"),
     # Summaries of corrections.
     "in all": ("in all: {what}", "zusammen: {what}"),
-    "cancelled": ("{count} bookings cancelled, {points} points back to {members}", "{count} Buchungen abgesagt, {points} Punkte zurück an {members}"),
+    "cancelled": (
+        "{count} bookings cancelled, {points} points back to {members}",
+        "{count} Buchungen abgesagt, {points} Punkte zurück an {members}",
+    ),
     "changes": ("{count} changes", "{count} Änderungen"),
-    "cancelled one": ("1 booking cancelled, {points} points back to {members}", "1 Buchung abgesagt, {points} Punkte zurück an {members}"),
+    "cancelled one": (
+        "1 booking cancelled, {points} points back to {members}",
+        "1 Buchung abgesagt, {points} Punkte zurück an {members}",
+    ),
     "members": ("{count} members", "{count} Mitglieder"),
     "slots closed": ("{count} slots closed", "{count} Zeiten gesperrt"),
     "slots closed one": ("1 slot closed", "1 Zeit gesperrt"),
@@ -334,12 +454,46 @@ TEXTS = {
 
 # The column heads of lists that aren't comma-separated values, and the words in some cells.
 HEADS = {
-    "member": "Mitglied", "balance": "Punkte", "quota": "zugleich", "open": "offen", "keys": "Schlüssel", "name": "Name", "facility": "Anlage", "kind": "Art",
-    "places": "Plätze", "price": "Preis", "opens": "öffnet", "shuts": "schließt", "key": "Schlüssel", "revoked": "widerrufen", "spent": "ausgegeben",
-    "older root until": "ältere Wurzel bis", "day": "Tag", "hour": "Stunde", "number": "Nummer", "persons": "Personen", "charge": "Preis",
-    "cancelled": "abgesagt", "refund": "zurück", "credited": "gutgeschrieben", "charged": "berechnet", "refunded": "erstattet", "copy": "Kopie", "is": "ist",
-    "age": "Alter", "bytes": "Bytes", "tested": "geprüft", "line": "Zeile", "as written": "wie geschrieben", "points": "Punkte", "yes": "ja", "no": "nein",
-    "none": "keine", "court": "Platz", "boat": "Boot", "room": "Raum",
+    "member": "Mitglied",
+    "balance": "Punkte",
+    "quota": "zugleich",
+    "open": "offen",
+    "keys": "Schlüssel",
+    "name": "Name",
+    "facility": "Anlage",
+    "kind": "Art",
+    "places": "Plätze",
+    "price": "Preis",
+    "opens": "öffnet",
+    "shuts": "schließt",
+    "key": "Schlüssel",
+    "revoked": "widerrufen",
+    "spent": "ausgegeben",
+    "older root until": "ältere Wurzel bis",
+    "day": "Tag",
+    "hour": "Stunde",
+    "number": "Nummer",
+    "persons": "Personen",
+    "charge": "Preis",
+    "cancelled": "abgesagt",
+    "refund": "zurück",
+    "credited": "gutgeschrieben",
+    "charged": "berechnet",
+    "refunded": "erstattet",
+    "copy": "Kopie",
+    "is": "ist",
+    "age": "Alter",
+    "bytes": "Bytes",
+    "tested": "geprüft",
+    "line": "Zeile",
+    "as written": "wie geschrieben",
+    "points": "Punkte",
+    "yes": "ja",
+    "no": "nein",
+    "none": "keine",
+    "court": "Platz",
+    "boat": "Boot",
+    "room": "Raum",
 }
 # argparse's messages for usage errors.
 USAGE = {
@@ -389,4 +543,8 @@ def means(text, answer):
 def day_text(day):
     """Returns a day in the clerk's language, such as Saturday 5 December 2026."""
     weekday, month = WEEKDAYS[language()][day.weekday()], MONTHS[language()][day.month - 1]
-    return f"{weekday}, {day.day}. {month} {day.year}" if language() == "de" else f"{weekday} {day.day} {month} {day.year}"
+    return (
+        f"{weekday}, {day.day}. {month} {day.year}"
+        if language() == "de"
+        else f"{weekday} {day.day} {month} {day.year}"
+    )

@@ -11,7 +11,19 @@ import sys
 from club_office.asking import Back, chosen, confirms, doubts, is_terminal
 from club_office.counter import as_desk
 from club_office.faults import fault, refusal
-from club_office.reading import Facility, Key, Member, Names, found, found_members, is_all_of_a_kind, is_group, read_day, read_facilities, read_hours
+from club_office.reading import (
+    Facility,
+    Key,
+    Member,
+    Names,
+    found,
+    found_members,
+    is_all_of_a_kind,
+    is_group,
+    read_day,
+    read_facilities,
+    read_hours,
+)
 from club_office.texts import day_text, say
 
 
@@ -31,9 +43,13 @@ def names_of(club):
 
 def print_names(db, words, _now):
     """Prints the names that names_of reads."""
-    members = db.execute("SELECT name, credited, max(credited - used, 0), quota FROM members ORDER BY name")
+    members = db.execute(
+        "SELECT name, credited, max(credited - used, 0), quota FROM members ORDER BY name"
+    )
     keys = db.execute("SELECT name, member, revoked FROM keys ORDER BY name")
-    facilities = db.execute("SELECT name, kind, opens, shuts, places, price FROM facilities ORDER BY rowid")
+    facilities = db.execute(
+        "SELECT name, kind, opens, shuts, places, price FROM facilities ORDER BY rowid"
+    )
     named = (("members", members), ("keys", keys), ("facilities", facilities))
     made = {what: {row[0]: row[1:] for row in rows} for what, rows in named}
     written = {member: person.name for member, person in words.people.items()}
@@ -95,9 +111,18 @@ class Reader:
 
     def what(self, word):
         """Converts a day, a member or a facility."""
-        if read_day(word, self.today) and not (word.isalpha() and word in {*self.names.members, *self.names.facilities}):
+        if read_day(word, self.today) and not (
+            word.isalpha() and word in {*self.names.members, *self.names.facilities}
+        ):
             return self.day(word)
-        return self.one_of(word, lambda: list(dict.fromkeys([*found_members(word, self.names), *found(word, self.names.facilities)])))
+        return self.one_of(
+            word,
+            lambda: list(
+                dict.fromkeys(
+                    [*found_members(word, self.names), *found(word, self.names.facilities)]
+                )
+            ),
+        )
 
     def one_of(self, word, fitting):
         """Returns the name that contains the word. Without a terminal the word must be the whole name, because no clerk can choose among several
@@ -127,8 +152,15 @@ class Reader:
 
 # Maps the name of each kind of word to its converter.
 READS = {
-    "MEMBER": Reader.member, "KEY": Reader.key, "FACILITY": Reader.facility, "FACILITIES": Reader.facilities, "DAY": Reader.day, "DAYS": Reader.days,
-    "HOURS": Reader.hours, "HOUR": Reader.hour, "MEMBER|DAY|FACILITY": Reader.what,
+    "MEMBER": Reader.member,
+    "KEY": Reader.key,
+    "FACILITY": Reader.facility,
+    "FACILITIES": Reader.facilities,
+    "DAY": Reader.day,
+    "DAYS": Reader.days,
+    "HOURS": Reader.hours,
+    "HOUR": Reader.hour,
+    "MEMBER|DAY|FACILITY": Reader.what,
 }
 # These commands accept only a complete key name, and don't search for a part of a name.
 MAKES_A_KEY = ("add-key", "letters")
@@ -159,7 +191,11 @@ def read_words(reader, command, words):
             option = word if word in takes_value else None
             made.append(word)
         else:
-            what = called[min(place, len(called) - 1) if is_repeated else place] if is_repeated or place < len(called) else ""
+            what = (
+                called[min(place, len(called) - 1) if is_repeated else place]
+                if is_repeated or place < len(called)
+                else ""
+            )
             if what == "FACILITIES" and is_all_of_a_kind(word, following):
                 continue
             is_new = what == "KEY" and reader.called in MAKES_A_KEY
@@ -181,7 +217,11 @@ DAY_AT = {"close": 0, "close-slot": 1}
 def without_options(command, words):
     """Returns the words that are neither options nor values of options."""
     _, _, takes_value = places_of(command)
-    return [it for before, it in zip(["", *words], words) if not it.startswith("--") and before not in takes_value]
+    return [
+        it
+        for before, it in zip(["", *words], words)
+        if not it.startswith("--") and before not in takes_value
+    ]
 
 
 def confirms_odd(reader, command, words, is_order):
@@ -190,7 +230,11 @@ def confirms_odd(reader, command, words, is_order):
     odd, called = [], reader.called
     plain = without_options(command, words)
     with contextlib.suppress(KeyError, IndexError, ValueError):
-        odd.append(doubts(datetime.date.fromisoformat(plain[DAY_AT[called]].partition("..")[0]), reader.today))
+        odd.append(
+            doubts(
+                datetime.date.fromisoformat(plain[DAY_AT[called]].partition("..")[0]), reader.today
+            )
+        )
     if called in ("credit", "credit-all") and plain and plain[-1].isdigit():
         usual = usual_points(reader.names)
         if usual and int(plain[-1]) > 10 * usual:

@@ -16,7 +16,10 @@ TABLES = ("members", "facilities", "keys", "slots", "bookings", "old_roots")
 # The number of key columns in each of these tables. In every other table the first column is the key.
 KEYS = {"slots": 3, "bookings": 2}
 # The columns of the tables that `undo` can correct with clubdesk's commands.
-COLUMNS = {"members": ("name", "credited", "quota", "used"), "facilities": ("name", "kind", "places", "price", "opens", "shuts")}
+COLUMNS = {
+    "members": ("name", "credited", "quota", "used"),
+    "facilities": ("name", "kind", "places", "price", "opens", "shuts"),
+}
 # A clerk can't undo a correction that changes more rows than this. Nor can a clerk undo a new year, which copies the club's file, then changes the
 # original in place.
 MOST_ROWS = 5_000
@@ -47,18 +50,34 @@ def rows_changed(db):
     found = []
     for table in TABLES:
         was, is_now = (
-            {row[0]: row[1:] for row in db.execute(f"SELECT rowid, * FROM {one}.{table} EXCEPT SELECT rowid, * FROM {other}.{table}")}
+            {
+                row[0]: row[1:]
+                for row in db.execute(
+                    f"SELECT rowid, * FROM {one}.{table} EXCEPT SELECT rowid, * FROM {other}.{table}"
+                )
+            }
             for one, other in (("before", "main"), ("main", "before"))
         )
         for rowid in sorted({*was, *is_now}):
-            found.append([table, rowid, *(None if it is None else [plain(value) for value in it] for it in (was.get(rowid), is_now.get(rowid)))])
+            found.append(
+                [
+                    table,
+                    rowid,
+                    *(
+                        None if it is None else [plain(value) for value in it]
+                        for it in (was.get(rowid), is_now.get(rowid))
+                    ),
+                ]
+            )
     return found
 
 
 def row_of(db, table, key):
     """Returns the rowid and the values of the row with this key, or None."""
     columns = columns_of(db, table)[: KEYS.get(table, 1)]
-    return db.execute(f"SELECT rowid, * FROM {table} WHERE {' AND '.join(f'{it} = ?' for it in columns)}", key).fetchone()
+    return db.execute(
+        f"SELECT rowid, * FROM {table} WHERE {' AND '.join(f'{it} = ?' for it in columns)}", key
+    ).fetchone()
 
 
 def rows_edited(db, edits):
@@ -69,13 +88,22 @@ def rows_edited(db, edits):
         columns, place = columns_of(db, it.table), (it.table, *it.key)
         if place not in found:
             row = row_of(db, it.table, it.key)
-            found[place] = [it.table, row and row[0], row and list(row[1:]), list(row[1:]) if row else [*it.key, 0, 0]]
+            found[place] = [
+                it.table,
+                row and row[0],
+                row and list(row[1:]),
+                list(row[1:]) if row else [*it.key, 0, 0],
+            ]
         row = found[place][3]
         for column, value in it.sets.items():
             row[columns.index(column)] = value
         for column, value in it.adds.items():
             row[columns.index(column)] += value
-    return [[table, rowid, was and [plain(it) for it in was], [plain(it) for it in is_now]] for table, rowid, was, is_now in found.values() if was != is_now]
+    return [
+        [table, rowid, was and [plain(it) for it in was], [plain(it) for it in is_now]]
+        for table, rowid, was, is_now in found.values()
+        if was != is_now
+    ]
 
 
 def attach_before(db, copy):
@@ -106,7 +134,14 @@ DONE, MAILED = "done", "mailed "
 
 
 def content_of(words, rows, is_done):
-    return {"moment": time.strftime("%Y-%m-%d %H:%M"), "words": words.given, "rows": rows, "cancelled": [], "mailed": [], "is_done": is_done}
+    return {
+        "moment": time.strftime("%Y-%m-%d %H:%M"),
+        "words": words.given,
+        "rows": rows,
+        "cancelled": [],
+        "mailed": [],
+        "is_done": is_done,
+    }
 
 
 def write(club, content):
@@ -128,11 +163,19 @@ def add(file, line):
 
 def read(club):
     """Returns the content of the last record, or None if the record is missing or unreadable."""
-    with contextlib.suppress(FileNotFoundError, ValueError), open(undo_of(club), encoding="ascii") as file:
+    with contextlib.suppress(FileNotFoundError, ValueError), open(
+        undo_of(club), encoding="ascii"
+    ) as file:
         content, *more = file.read().split("\n")
         content = json.loads(content)
-        mailed = content.get("mailed", []) + [it.removeprefix(MAILED) for it in more if it.startswith(MAILED)]
-        return {**content, "mailed": mailed, "is_done": content.get("is_done", True) or DONE in more}
+        mailed = content.get("mailed", []) + [
+            it.removeprefix(MAILED) for it in more if it.startswith(MAILED)
+        ]
+        return {
+            **content,
+            "mailed": mailed,
+            "is_done": content.get("is_done", True) or DONE in more,
+        }
     return None
 
 
@@ -149,7 +192,11 @@ def meant(words):
 def broken_off(club, words):
     """Returns the content of the last record if it belongs to this correction and the correction isn't complete. Otherwise returns None."""
     content = read(club)
-    return content if content and not content["is_done"] and meant(content["words"]) == meant(words.given) else None
+    return (
+        content
+        if content and not content["is_done"] and meant(content["words"]) == meant(words.given)
+        else None
+    )
 
 
 class Record:
@@ -158,7 +205,10 @@ class Record:
 
     def __init__(self, club, words, left):
         self.club, self.file = club, None
-        self.content = {**content_of(words, [], False), **{it: left[it] for it in ("rows", "cancelled", "mailed") if left}}
+        self.content = {
+            **content_of(words, [], False),
+            **{it: left[it] for it in ("rows", "cancelled", "mailed") if left},
+        }
 
     def keep(self, rows, cancelled):
         """Records the rows and bookings that the correction is about to change."""
@@ -201,7 +251,12 @@ def row_place(row):
 def rows_of_member(db, member):
     """Returns the rows that contain the name of a member or of one of the member's keys, by table and rowid."""
     of_keys = "pass_key IN (SELECT name FROM keys WHERE member = ?)"
-    tables = (("members", "name = ?"), ("keys", "member = ?"), ("bookings", of_keys), ("old_roots", of_keys))
+    tables = (
+        ("members", "name = ?"),
+        ("keys", "member = ?"),
+        ("bookings", of_keys),
+        ("old_roots", of_keys),
+    )
     return {
         (table, row[0]): [plain(it) for it in row[1:]]
         for table, condition in tables
@@ -236,11 +291,23 @@ def plan_undo(db, club):
             plan.change(1, f"DELETE FROM {table} WHERE rowid = ?", rowid)
         elif is_now is None:
             marks = ", ".join("?" * (len(columns) + 1))
-            plan.change(1, f"INSERT INTO {table} (rowid, {', '.join(columns)}) VALUES ({marks})", rowid, *map(value_of, was))
+            plan.change(
+                1,
+                f"INSERT INTO {table} (rowid, {', '.join(columns)}) VALUES ({marks})",
+                rowid,
+                *map(value_of, was),
+            )
         else:
-            plan.change(1, f"UPDATE {table} SET {', '.join(f'{name} = ?' for name in columns)} WHERE rowid = ?", *map(value_of, was), rowid)
+            plan.change(
+                1,
+                f"UPDATE {table} SET {', '.join(f'{name} = ?' for name in columns)} WHERE rowid = ?",
+                *map(value_of, was),
+                rowid,
+            )
         plan.undone += 1
-        plan.tell("puts back" if was is not None else "takes away", row=row_text(table, was or is_now))
+        plan.tell(
+            "puts back" if was is not None else "takes away", row=row_text(table, was or is_now)
+        )
     if not plan.undone:
         raise refusal("no undo", club=club.name)
     return plan
@@ -253,7 +320,11 @@ def is_undo(content):
 def order_between(table, now, then):
     """Returns the command that changes a row from `now` to `then`, with the command's edit. Returns None if no single command can do so."""
     columns = COLUMNS.get(table) if now and then else None
-    changed = {it: after for it, before, after in zip(columns or (), now or (), then or ()) if before != after}
+    changed = {
+        it: after
+        for it, before, after in zip(columns or (), now or (), then or ())
+        if before != after
+    }
     if changed.keys() == {"quota"}:
         return ["set-quota", now[0], changed["quota"]], Edit(table, (now[0],), changed)
     if changed.keys() == {"credited"} and 0 < then[1] - now[1] <= MOST_CREDIT:
@@ -302,7 +373,10 @@ def plan_undo_by_command(db, club):
 def row_text(table, values):
     """Describes a row in words that clerks know."""
     if table == "slots":
-        return say("row slots", row=f"{values[0]} {time.strftime('%Y-%m-%d', time.gmtime(values[1] * 86400))} {values[2]:02d}:00")
+        return say(
+            "row slots",
+            row=f"{values[0]} {time.strftime('%Y-%m-%d', time.gmtime(values[1] * 86400))} {values[2]:02d}:00",
+        )
     if table == "bookings":
         return say("row bookings", row=f"{values[0]} {values[1]}")
     return say(f"row {table}", row=values[0])

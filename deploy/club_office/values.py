@@ -10,7 +10,9 @@ from club_office.texts import WEEKDAYS
 NAME = re.compile(r"[a-z0-9][a-z0-9-]{0,23}")
 # The name of a copy. A nightly copy's name is its moment in UTC. The name of a correction's copy has the moment in the club's zone and the
 # correction's command. If two corrections happen in one second, the name of the second copy also has a number.
-COPY = re.compile(r"20[0-9]{2}-[0-9]{2}-[0-9]{2}T(?:[0-9]{6}Z|[0-9]{2}-[0-9]{2}-[0-9]{2}-[a-z-]+(?:-[0-9]{1,3})?)")
+COPY = re.compile(
+    r"20[0-9]{2}-[0-9]{2}-[0-9]{2}T(?:[0-9]{6}Z|[0-9]{2}-[0-9]{2}-[0-9]{2}-[a-z-]+(?:-[0-9]{1,3})?)"
+)
 EPOCH = datetime.date(1970, 1, 1)
 MOST_CHARGE = 499_950
 MOST_NUMBER = 999_999_999

@@ -26,10 +26,17 @@ ROUNDS = int(os.environ.get("ROUNDS", "20"))
 MOMENT, MAY = caveats.moment_of(NOON), caveats.day_of("2026-05-01")
 DAYS = range(MAY, MAY + 8)
 KEYS = [text(key_pass(f"k{key}")) for key in range(1, 5)]
-SLOTS = [f"/slots/court-1/{spelled_day(MAY + slot // 14)}/{8 + slot % 14:02}" for slot in range(100)]
+SLOTS = [
+    f"/slots/court-1/{spelled_day(MAY + slot // 14)}/{8 + slot % 14:02}" for slot in range(100)
+]
 # The first booking in a slot is for two persons, and the second booking is for one.
-PUTS = [Row("PUT", f"{SLOTS[it // 2]}/bookings/{it + 1}", ONE if it % 2 else TWO, KEYS[it % 4]).data for it in range(200)]
-GETS = [Row("GET", path, passed=KEYS[0]).data for path in SLOTS] + [ACCOUNT.under(it).data for it in KEYS]
+PUTS = [
+    Row("PUT", f"{SLOTS[it // 2]}/bookings/{it + 1}", ONE if it % 2 else TWO, KEYS[it % 4]).data
+    for it in range(200)
+]
+GETS = [Row("GET", path, passed=KEYS[0]).data for path in SLOTS] + [
+    ACCOUNT.under(it).data for it in KEYS
+]
 
 
 class Desk(Both):
@@ -40,7 +47,11 @@ class Desk(Both):
         super().__init__(program, file)
         self.give(("add-facility", "court-1", "court", 4, 7, 8, 22))
         for key in range(1, 5):
-            for command in (("add-member", f"m{key}", 99), ("credit", f"m{key}", 10_000), ("add-key", f"k{key}", f"m{key}", bytes.fromhex(ROOT))):
+            for command in (
+                ("add-member", f"m{key}", 99),
+                ("credit", f"m{key}", 10_000),
+                ("add-key", f"k{key}", f"m{key}", bytes.fromhex(ROOT)),
+            ):
                 self.give(command)
 
     def server(self, count=None):
@@ -63,7 +74,9 @@ class Desk(Both):
         """Sends the requests to a server, and kills the server after the given number of seconds. Returns the server's replies."""
         replies = []
         with self.server() as it:
-            client = threading.Thread(target=lambda: replies.extend(it.exchange(data) for data in PUTS))
+            client = threading.Thread(
+                target=lambda: replies.extend(it.exchange(data) for data in PUTS)
+            )
             client.start()
             time.sleep(seconds)
             it.kill()
@@ -90,7 +103,7 @@ def test_server_that_is_killed(clubdesk, seconds, tmp_path, number):
     there = len(desk.rows(club.file, "SELECT * FROM bookings"))
     assert there in (len(acknowledged), len(acknowledged) + 1)
     wanted = [wire.exchange(club.club, data, MOMENT) for data in PUTS[:there]]
-    assert acknowledged == wanted[:len(acknowledged)]
+    assert acknowledged == wanted[: len(acknowledged)]
     club.holds()
     club.asks(PUTS)
     club.holds()

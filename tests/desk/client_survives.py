@@ -32,14 +32,21 @@ pytestmark = [pytest.mark.programs, pytest.mark.faults, pytest.mark.needs("clubd
 KILLS = int(os.environ.get("KILLS", "100"))
 KEYS = range(8)
 # Facility, day, hour and guests of each booking. No slot repeats.
-SLOTS = [(f"court-{it % 10}", f"2026-05-{1 + it // 10 % 30:02}", f"{8 + it // 300 % 14:02}", it % 3) for it in range(10 * 30 * 14)]
+SLOTS = [
+    (f"court-{it % 10}", f"2026-05-{1 + it // 10 % 30:02}", f"{8 + it // 300 % 14:02}", it % 3)
+    for it in range(10 * 30 * 14)
+]
 
 
 class Counting(Client):
     """A client that writes a line whenever a request gets no reply."""
 
     def __init__(self, folder, port, key, file=None):
-        super().__init__(f"http://127.0.0.1:{port}", (folder / f"pass.{key}").read_text().strip(), Record(folder / f"record.{key}"))
+        super().__init__(
+            f"http://127.0.0.1:{port}",
+            (folder / f"pass.{key}").read_text().strip(),
+            Record(folder / f"record.{key}"),
+        )
         self.file = file
 
     def _exchange(self, *words):
@@ -58,8 +65,11 @@ def work(folder, port):
             client.repeat()
         for place, (facility, day, hour, guests) in enumerate(SLOTS):
             client = clients[place % 8]
-            asked = {(it["facility"], it["day"], it["hour"]): number for number, it in client.record.bookings.items()
-                     if it["book"] is None or it["book"].get("fault") != 13}
+            asked = {
+                (it["facility"], it["day"], it["hour"]): number
+                for number, it in client.record.bookings.items()
+                if it["book"] is None or it["book"].get("fault") != 13
+            }
             number = asked.get((facility, day, hour))
             if number is None:
                 reply = client.book(facility, day, hour, guests)
@@ -98,15 +108,27 @@ def recorded(folder, port):
             reply, cancelled = it["book"], it.get("cancel")
             assert reply.get("fault") in (None, 13), reply
             if "fault" not in reply:
-                rows[f"k{key}", number] = (it["facility"], date.fromisoformat(it["day"]).toordinal() - 719163, int(it["hour"]), it["guests"], reply["charge"],
-                                           reply["left"], int(cancelled is not None), cancelled["refund"] if cancelled else 0)
+                rows[f"k{key}", number] = (
+                    it["facility"],
+                    date.fromisoformat(it["day"]).toordinal() - 719163,
+                    int(it["hour"]),
+                    it["guests"],
+                    reply["charge"],
+                    reply["left"],
+                    int(cancelled is not None),
+                    cancelled["refund"] if cancelled else 0,
+                )
     return rows
 
 
 def test_servers_and_clients_that_are_killed(new_club, tmp_path):
     club = new_club(*(f"add-facility court-{court} court 4 7 8 22" for court in range(10)))
     for key in KEYS:
-        (tmp_path / f"pass.{key}").write_text(club.does(f"add-member m{key} 99", f"credit m{key} 1000000", f"add-key k{key} m{key} {ROOT}"))
+        (tmp_path / f"pass.{key}").write_text(
+            club.does(
+                f"add-member m{key} 99", f"credit m{key} 1000000", f"add-key k{key} m{key} {ROOT}"
+            )
+        )
     worker, port = killed_and_killed(club, tmp_path)
     with club.served(port=port):
         time.sleep(1)
@@ -115,13 +137,21 @@ def test_servers_and_clients_that_are_killed(new_club, tmp_path):
         rows = recorded(tmp_path, port)
     club.does("sheet 2026-05-01")
     assert {row[:2]: row[2:] for row in club.sql("SELECT * FROM bookings")} == rows
-    assert len({row[:3] for row in rows.values()}) == len(rows) > KILLS, "a slot is booked twice, or too few slots are booked"
+    assert (
+        len({row[:3] for row in rows.values()}) == len(rows) > KILLS
+    ), "a slot is booked twice, or too few slots are booked"
     by_number = {number: row for (_, number), row in rows.items()}
-    lines = [line.split() for line in (tmp_path / "acknowledged").read_text().splitlines(keepends=True) if line.endswith("\n")]
+    lines = [
+        line.split()
+        for line in (tmp_path / "acknowledged").read_text().splitlines(keepends=True)
+        if line.endswith("\n")
+    ]
     assert ["again"] in lines
     for number, action, *numbers in (line for line in lines if line != ["again"]):
         row = by_number[int(number)]
-        assert [int(it) for it in numbers] == (list(row[4:6]) if action == "book" else [row[7]]), number
+        assert [int(it) for it in numbers] == (
+            list(row[4:6]) if action == "book" else [row[7]]
+        ), number
     assert not desk.unsound(club.file)
 
 
@@ -133,10 +163,20 @@ def own(new_club, tmp_path):
 
     def prints(port, words, patience=0):
         """Runs a command of the client. Returns the status, the output with N in place of the booking number, and the booking number."""
-        ended = subprocess.run([desk.ROOT / "examples" / "client.py", *words.split()], cwd=tmp_path, check=False, stdout=subprocess.PIPE, text=True,
-                               env={**os.environ, "DESK": f"http://127.0.0.1:{port}", "PATIENCE": str(patience)})
+        ended = subprocess.run(
+            [desk.ROOT / "examples" / "client.py", *words.split()],
+            cwd=tmp_path,
+            check=False,
+            stdout=subprocess.PIPE,
+            text=True,
+            env={**os.environ, "DESK": f"http://127.0.0.1:{port}", "PATIENCE": str(patience)},
+        )
         drawn = re.search(r"amy-1/(\d+)", ended.stdout)
-        return ended.returncode, re.sub(r'("number":|amy-1/)\d+', r"\1N", ended.stdout), drawn and drawn[1]
+        return (
+            ended.returncode,
+            re.sub(r'("number":|amy-1/)\d+', r"\1N", ended.stdout),
+            drawn and drawn[1],
+        )
 
     return club, prints
 
@@ -147,14 +187,24 @@ def test_commands(own):
         status, printed, number = prints(it.port, "book court-1 2026-05-01 18 2")
         assert (status, printed) == (0, '{"booking":"amy-1/N","charge":600,"left":1}\n')
         for words, wanted, text in (
-                ("book court-1 2026-05-01 18 1", 1, '{"fault":18,"text":"no places"}\n'),
-                ("show court-1 2026-05-01 18", 0,
-                 '{"facility":"court-1","day":"2026-05-01","hour":18,"kind":"court","price":200,"places":4,"taken":3,"closed":false}\n'),
-                (f"cancel {number}", 0, '{"booking":"amy-1/N","refund":600}\n'), (f"cancel {number}", 0, '{"booking":"amy-1/N","refund":600}\n'),
-                ("account", 0, '{"member":"amy","balance":10000,"quota":2,"open":0,"spent":0}\n'), ("repeat", 0, ""),
-                ("list", 0, '{"number":N,"book":{"booking":"amy-1/N","charge":600,"left":1},"facility":"court-1","day":"2026-05-01","hour":"18","guests":2,'
-                 '"cancel":{"booking":"amy-1/N","refund":600}}\n'
-                 '{"number":N,"book":{"fault":18,"text":"no places"},"facility":"court-1","day":"2026-05-01","hour":"18","guests":1}\n')):
+            ("book court-1 2026-05-01 18 1", 1, '{"fault":18,"text":"no places"}\n'),
+            (
+                "show court-1 2026-05-01 18",
+                0,
+                '{"facility":"court-1","day":"2026-05-01","hour":18,"kind":"court","price":200,"places":4,"taken":3,"closed":false}\n',
+            ),
+            (f"cancel {number}", 0, '{"booking":"amy-1/N","refund":600}\n'),
+            (f"cancel {number}", 0, '{"booking":"amy-1/N","refund":600}\n'),
+            ("account", 0, '{"member":"amy","balance":10000,"quota":2,"open":0,"spent":0}\n'),
+            ("repeat", 0, ""),
+            (
+                "list",
+                0,
+                '{"number":N,"book":{"booking":"amy-1/N","charge":600,"left":1},"facility":"court-1","day":"2026-05-01","hour":"18","guests":2,'
+                '"cancel":{"booking":"amy-1/N","refund":600}}\n'
+                '{"number":N,"book":{"fault":18,"text":"no places"},"facility":"court-1","day":"2026-05-01","hour":"18","guests":1}\n',
+            ),
+        ):
             assert prints(it.port, words)[:2] == (wanted, text)
         for _ in range(2):
             prints(it.port, "account")
@@ -169,8 +219,10 @@ def test_proxy_that_fails(own):
     """Each time the client sends the request, the proxy fails in a different way."""
     club, prints = own
     number = ""
-    for method, words, reply in (("PUT", "book court-1 2026-05-03 18 0", '{"booking":"amy-1/N","charge":200,"left":3}\n'),
-                                 ("DELETE", "cancel ", '{"booking":"amy-1/N","refund":200}\n')):
+    for method, words, reply in (
+        ("PUT", "book court-1 2026-05-03 18 0", '{"booking":"amy-1/N","charge":200,"left":3}\n'),
+        ("DELETE", "cancel ", '{"booking":"amy-1/N","refund":200}\n'),
+    ):
         with club.served(count=4) as it:
             proxy = Between(it.port)
             proxy.fates[method] = list(FAILURES)

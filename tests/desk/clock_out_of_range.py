@@ -25,26 +25,56 @@ def clock(library, club):
     """Returns a function that starts a server for two connections. The server's clock always shows the same UTC time, or can't be read."""
 
     def server_at(zone, time, status=0):
-        second = "unreadable" if time is None else str(int(datetime.fromisoformat(time).replace(tzinfo=timezone.utc).timestamp()))
-        return desk.Server(club.program, club.file, 2, "--zone", zone, "--log", status=status,
-                           variables={"CLOCK_SECOND": second, "LD_PRELOAD": library("set_clock")})
+        second = (
+            "unreadable"
+            if time is None
+            else str(int(datetime.fromisoformat(time).replace(tzinfo=timezone.utc).timestamp()))
+        )
+        return desk.Server(
+            club.program,
+            club.file,
+            2,
+            "--zone",
+            zone,
+            "--log",
+            status=status,
+            variables={"CLOCK_SECOND": second, "LD_PRELOAD": library("set_clock")},
+        )
 
     return server_at
 
 
-@pytest.mark.parametrize("zone, time, minute", [
-    ("UTC0", "2000-01-01T00:00:00", "2000-01-01T00:00"), ("UTC0", "2099-12-31T23:59:59", "2099-12-31T23:59"),
-    (CENTRAL, "1999-12-31T23:00:00", "2000-01-01T00:00"), (CENTRAL, "2099-12-31T22:59:59", "2099-12-31T23:59"),
-    (WESTERN, "2100-01-01T04:59:59", "2099-12-31T23:59")])
+@pytest.mark.parametrize(
+    "zone, time, minute",
+    [
+        ("UTC0", "2000-01-01T00:00:00", "2000-01-01T00:00"),
+        ("UTC0", "2099-12-31T23:59:59", "2099-12-31T23:59"),
+        (CENTRAL, "1999-12-31T23:00:00", "2000-01-01T00:00"),
+        (CENTRAL, "2099-12-31T22:59:59", "2099-12-31T23:59"),
+        (WESTERN, "2100-01-01T04:59:59", "2099-12-31T23:59"),
+    ],
+)
 def test_moment_of_the_club(clock, zone, time, minute):
     with clock(zone, time) as it:
         it.serves(account(), account())
-    assert [line.startswith(f"{minute} GET /account 200 ") for line in it.log.read_text().splitlines()].count(True) == 2
+    assert [
+        line.startswith(f"{minute} GET /account 200 ") for line in it.log.read_text().splitlines()
+    ].count(True) == 2
 
 
-@pytest.mark.parametrize("zone, time", [
-    ("UTC0", "1999-12-31T23:59:59"), ("UTC0", "2100-01-01T00:00:00"), ("UTC0", "1970-01-01T00:00:00"), ("UTC0", "9999-12-31T23:59:59"),
-    (CENTRAL, "1999-12-31T22:59:59"), (CENTRAL, "2099-12-31T23:00:00"), (WESTERN, "2000-01-01T04:59:59"), ("UTC0", None)])
+@pytest.mark.parametrize(
+    "zone, time",
+    [
+        ("UTC0", "1999-12-31T23:59:59"),
+        ("UTC0", "2100-01-01T00:00:00"),
+        ("UTC0", "1970-01-01T00:00:00"),
+        ("UTC0", "9999-12-31T23:59:59"),
+        (CENTRAL, "1999-12-31T22:59:59"),
+        (CENTRAL, "2099-12-31T23:00:00"),
+        (WESTERN, "2000-01-01T04:59:59"),
+        ("UTC0", None),
+    ],
+)
 def test_no_moment_of_the_club(clock, club, zone, time):
     before = club.file.read_bytes()
     with clock(zone, time, status=6) as it:

@@ -19,7 +19,9 @@ pytestmark = [pytest.mark.faults, pytest.mark.needs("clubdesk"), pytest.mark.wan
 @pytest.mark.parametrize("form", passes.FORMS)
 def test_no_allocation_after_a_commit(club, library, tmp_path, form):
     calls = tmp_path / "calls"
-    with club.served(count=3, variables={"CALLS_TOLD": str(calls), "LD_PRELOAD": library("refused_memory")}) as it:
+    with club.served(
+        count=3, variables={"CALLS_TOLD": str(calls), "LD_PRELOAD": library("refused_memory")}
+    ) as it:
         for row in (book(1, ONE), book(2, ONE, slot("19")), cancel(1)):
             calls.write_text("")
             assert Reply(it.exchange(row.under(text(AMY, form=form)).data)).status == 200
@@ -27,5 +29,7 @@ def test_no_allocation_after_a_commit(club, library, tmp_path, form):
             sent = [name for name, _ in lines].index("send")
             assert sent > 0, "no commit before the reply"
             assert {name for name, _ in lines[:sent]} == {"sync"}
-            assert int(lines[sent][1]) - int(lines[sent - 1][1]) == 0, "allocations after the commit"
+            assert (
+                int(lines[sent][1]) - int(lines[sent - 1][1]) == 0
+            ), "allocations after the commit"
             assert int(lines[sent][1]) > 0, "no allocation was counted"

@@ -32,7 +32,12 @@ import desk
 from conftest import Club
 from kinds import ACCOUNT, NOON, ROOT, TWO, book, booked, cancel, key_pass, slot, text, view
 
-pytestmark = [pytest.mark.programs, pytest.mark.faults, pytest.mark.needs("clubdesk passtool"), pytest.mark.wants("sqlite3 util-linux")]
+pytestmark = [
+    pytest.mark.programs,
+    pytest.mark.faults,
+    pytest.mark.needs("clubdesk passtool"),
+    pytest.mark.wants("sqlite3 util-linux"),
+]
 
 PASSES = {place: text(key_pass(f"k{place}")) for place in range(1, 5)}
 DONE, FAILED = (0, "done\n", ""), (5, "", "storage failed\n")
@@ -46,10 +51,17 @@ def made(clubdesk):
     with tempfile.TemporaryDirectory() as folder:
         club = Club(clubdesk, Path(folder, "made"))
         for n in PASSES:
-            club.does(f"add-facility court-{n} court 4 7 8 22", f"add-member m{n} 99", f"credit m{n} 10000", f"add-key k{n} m{n} {ROOT}")
+            club.does(
+                f"add-facility court-{n} court 4 7 8 22",
+                f"add-member m{n} 99",
+                f"credit m{n} 10000",
+                f"add-key k{n} m{n} {ROOT}",
+            )
         for n in (1, 2):
             club.does(f"add-facility room-{n} room 1 5 8 22", f"add-key old-{n} m1 {ROOT}")
-        assert [stat.filemode(os.stat(f"{club.file}{it}").st_mode) for it in ("", "-wal")] == ["-rw-------"] * 2
+        assert [stat.filemode(os.stat(f"{club.file}{it}").st_mode) for it in ("", "-wal")] == [
+            "-rw-------"
+        ] * 2
         yield club
 
 
@@ -68,12 +80,16 @@ class Times(list):
         return found
 
     def show(self, what):
-        print(f"{len(self)} {what}: median {statistics.median(self) * 1000:.1f} ms, longest {max(self) * 1000:.1f} ms", flush=True)
+        print(
+            f"{len(self)} {what}: median {statistics.median(self) * 1000:.1f} ms, longest {max(self) * 1000:.1f} ms",
+            flush=True,
+        )
 
 
 def asked_by(place):
     """Yields a client's 1,250 requests, with the expected replies. In each of ninety rounds the client makes a booking, repeats it, and gets the slot
-    and the account. In every third round the client also cancels the booking. The remaining requests get the account."""
+    and the account. In every third round the client also cancels the booking. The remaining requests get the account.
+    """
     spent = opened = 0
     for number in range(1, 91):
         day, hour, is_cancelled = f"{1 + number // 14:02}", 8 + number % 14, number % 3 == 0
@@ -84,9 +100,19 @@ def asked_by(place):
             yield cancel(number, path).serves(booking=f"k{place}/{number}", refund=14)
         else:
             spent, opened = spent + 14, opened + 1
-        yield view(path).serves(facility=f"court-{place}", day=f"2026-05-{day}", hour=hour, kind="court", price=7, places=4, taken=0 if is_cancelled else 2,
-                                closed=False)
-        account = ACCOUNT.serves(member=f"m{place}", balance=10_000 - spent, quota=99, open=opened, spent=spent)
+        yield view(path).serves(
+            facility=f"court-{place}",
+            day=f"2026-05-{day}",
+            hour=hour,
+            kind="court",
+            price=7,
+            places=4,
+            taken=0 if is_cancelled else 2,
+            closed=False,
+        )
+        account = ACCOUNT.serves(
+            member=f"m{place}", balance=10_000 - spent, quota=99, open=opened, spent=spent
+        )
         yield account
     yield from [account] * (1250 - 90 * 4 - 30)
 
@@ -95,7 +121,12 @@ def given_by(place):
     """Yields 250 commands with the expected answers. The commands add members, credit points, close slots, revoke keys and show slots."""
     for n in range(1, 51):
         day = f"2026-{6 + n // 29:02}-{1 + n % 28:02}"
-        for words in (f"add-member o{place}-{n} 5", f"credit o{place}-{n} {100 * n}", f"close-slot room-{place} {day} 10", f"revoke-key old-{place}"):
+        for words in (
+            f"add-member o{place}-{n} 5",
+            f"credit o{place}-{n} {100 * n}",
+            f"close-slot room-{place} {day} 10",
+            f"revoke-key old-{place}",
+        ):
             yield words, "done\n"
         yield f"show-slot room-{place} {day} 10", f"facility room-{place}\nday {day}\nhour 10\nkind room\nprice 5\nplaces 1\ntaken 0\nclosed yes\n"
 
@@ -108,7 +139,10 @@ def beside(club, server, count):
         last = None
         for row in asked_by(place):
             times = bookings if row.method == "PUT" and row is not last else others
-            assert times.of(desk.exchange, server.port, row.under(PASSES[place]).data, 60) == row.wanted
+            assert (
+                times.of(desk.exchange, server.port, row.under(PASSES[place]).data, 60)
+                == row.wanted
+            )
             last = row
 
     def office(place):
@@ -116,7 +150,9 @@ def beside(club, server, count):
             assert commands.of(club.command, *words.split()) == (0, printed, "")
 
     with ThreadPoolExecutor(6) as pool:
-        for begun in [pool.submit(client, place) for place in PASSES] + [pool.submit(office, place) for place in (1, 2) if count]:
+        for begun in [pool.submit(client, place) for place in PASSES] + [
+            pool.submit(office, place) for place in (1, 2) if count
+        ]:
             begun.result()
     requests = Times(bookings + others)
     assert (len(requests), len(bookings), len(commands)) == (5000, 360, count)
@@ -132,14 +168,26 @@ def test_door_has_a_mode_and_commands_have_lines(club):
     with club.served("--log") as server:
         assert stat.filemode(os.stat(f"{club.file}-office").st_mode) == "srw-------"
         beside(club, server, 500)
-        assert club.command("add-key", "given", "m1", ROOT) == (0, text(key_pass("given")) + "\n", "")
-        assert club.command("rotate-key", "nobody", ROOT, "2030-01-01T00:00") == (1, "", "refused: unknown\n")
-        assert desk.command(club.program, "add-key", club.file, "read", "m1", "--root-stdin", text=ROOT) == (0, text(key_pass("read")) + "\n", "")
+        assert club.command("add-key", "given", "m1", ROOT) == (
+            0,
+            text(key_pass("given")) + "\n",
+            "",
+        )
+        assert club.command("rotate-key", "nobody", ROOT, "2030-01-01T00:00") == (
+            1,
+            "",
+            "refused: unknown\n",
+        )
+        assert desk.command(
+            club.program, "add-key", club.file, "read", "m1", "--root-stdin", text=ROOT
+        ) == (0, text(key_pass("read")) + "\n", "")
         # The server writes a command's line to the log before it answers the next client.
         assert server.exchange(b"GET /account HTTP/1.1\r\n\r\n")
         log = server.log.read_text()
     names = ("add-member", "credit", "close-slot", "revoke-key", "show-slot")
-    assert Counter(re.findall(r" office (\S+) (\S+) ", log)) == {(name, "0"): 100 for name in names} | {("add-key", "0"): 2, ("rotate-key", "1"): 1}
+    assert Counter(re.findall(r" office (\S+) (\S+) ", log)) == {
+        (name, "0"): 100 for name in names
+    } | {("add-key", "0"): 2, ("rotate-key", "1"): 1}
     assert ROOT not in log
 
 
@@ -181,7 +229,12 @@ def test_file_that_is_gone(made, is_replaced):
         if is_replaced:
             shutil.copy(made.file, club.file)
         assert server.exchange(ACCOUNT.under(PASSES[1]).data).startswith(b"HTTP/1.1 503 ")
-        for words in (("credit", "m2", "1"), ("add-member", "new", "1"), ("sheet", "2026-05-01"), ("show-account", "k2", "--at", NOON)):
+        for words in (
+            ("credit", "m2", "1"),
+            ("add-member", "new", "1"),
+            ("sheet", "2026-05-01"),
+            ("show-account", "k2", "--at", NOON),
+        ):
             assert club.command(*words) == FAILED, words
         assert club.file.exists() == is_replaced
         assert not is_replaced or club.file.read_bytes() == made.file.read_bytes()
@@ -213,9 +266,12 @@ def test_killed_server_leaves_a_door_and_whole_totals(club):
     assert Path(f"{club.file}-office").is_socket()
     ends(DONE, 2, club.program, "credit", club.file, "m3", "1")
     assert not desk.unsound(club.file)
-    for wanted, statement in (((360, 120, 3360), "SELECT count(*), sum(cancelled), sum(charge - refund) FROM bookings"),
-                              ((100, 255_000), "SELECT count(*), sum(credited) FROM members WHERE name LIKE 'o%'"),
-                              ((100,), "SELECT count(*) FROM slots WHERE closed"), ((40_004,), "SELECT sum(credited) FROM members WHERE name LIKE 'm%'")):
+    for wanted, statement in (
+        ((360, 120, 3360), "SELECT count(*), sum(cancelled), sum(charge - refund) FROM bookings"),
+        ((100, 255_000), "SELECT count(*), sum(credited) FROM members WHERE name LIKE 'o%'"),
+        ((100,), "SELECT count(*) FROM slots WHERE closed"),
+        ((40_004,), "SELECT sum(credited) FROM members WHERE name LIKE 'm%'"),
+    ):
         assert desk.rows(club.file, statement) == [wanted]
 
 
@@ -233,22 +289,30 @@ def test_commands_beside_four_clients_of_which_two_dawdle(club):
     commands = Times()
 
     def dawdles(server, act):
-        with socket.create_connection(("127.0.0.1", server.port), 60) as client, contextlib.suppress(ConnectionResetError):
+        with socket.create_connection(
+            ("127.0.0.1", server.port), 60
+        ) as client, contextlib.suppress(ConnectionResetError):
             act(client)
             assert client.recv(1) == b""
 
     def asks(server, place):
         for _ in range(50):
-            assert desk.exchange(server.port, ACCOUNT.under(PASSES[place]).data, 60).startswith(b"HTTP/1.1 200 ")
+            assert desk.exchange(server.port, ACCOUNT.under(PASSES[place]).data, 60).startswith(
+                b"HTTP/1.1 200 "
+            )
 
     with club.served("--patience", "2") as server, ThreadPoolExecutor(4) as pool:
-        begun = [pool.submit(dawdles, server, act) for act in (lambda _: None, DRIP)] + [pool.submit(asks, server, place) for place in (1, 2)]
+        begun = [pool.submit(dawdles, server, act) for act in (lambda _: None, DRIP)] + [
+            pool.submit(asks, server, place) for place in (1, 2)
+        ]
         while not all(it.done() for it in begun):
             assert commands.of(club.command, "credit", "m4", 1) == DONE
         for it in begun:
             it.result()
     assert max(commands) <= 0.9
-    commands.show("commands next to four clients; one client is silent, and one sends a byte a second")
+    commands.show(
+        "commands next to four clients; one client is silent, and one sends a byte a second"
+    )
 
 
 @pytest.mark.parametrize("dawdle", [lambda _: None, DRIP], ids=["silent", "a byte a second"])
@@ -256,7 +320,9 @@ def test_client_that_dawdles_keeps_no_command(club, dawdle):
     """The server carries out each command within 0.9 seconds, while it still waits for the slow client. The server cuts off the slow client after
     four seconds, the value of the option `--patience`."""
     commands = Times()
-    with club.served("--patience", "4") as server, socket.create_connection(("127.0.0.1", server.port), 60) as client:
+    with club.served("--patience", "4") as server, socket.create_connection(
+        ("127.0.0.1", server.port), 60
+    ) as client:
         begun, dawdling = time.monotonic(), threading.Thread(target=dawdle, args=[client])
         dawdling.start()
         for wait in (0.2, 1.1):
@@ -275,11 +341,22 @@ def test_killed_command_or_server(club, number):
     """The status of a command states whether the server carried out the command, or that the outcome is unknown. The totals agree with the status."""
     with club.served() as server:
         before = club.balance("k1")
-        command = subprocess.Popen([club.program, "credit", club.file, "m1", "1"], stdout=subprocess.DEVNULL, stderr=subprocess.DEVNULL)
+        command = subprocess.Popen(
+            [club.program, "credit", club.file, "m1", "1"],
+            stdout=subprocess.DEVNULL,
+            stderr=subprocess.DEVNULL,
+        )
         time.sleep((number % 10 * 10 + number * 7 % 10) / 10_000)
         (command if number % 2 else server).kill()
         command.wait()
-    assert (command.returncode, club.balance("k1") - before) in {(0, 1), (8, 0), (8, 1), (9, 0), (-9, 0), (-9, 1)}
+    assert (command.returncode, club.balance("k1") - before) in {
+        (0, 1),
+        (8, 0),
+        (8, 1),
+        (9, 0),
+        (-9, 0),
+        (-9, 1),
+    }
     assert not desk.unsound(club.file)
 
 

@@ -91,10 +91,22 @@ def test_cut_at_each_byte(club, serving):
     assert credited(club) == 0
 
 
-@pytest.mark.parametrize("data", [
-    command_bytes(*CREDIT[:4], 1), command_bytes(*CREDIT, root=None), b"[" + WHOLE + b"]", WHOLE + WHOLE, WHOLE + b"\0",
-    WHOLE.replace(b"amy", b"am\xff"), b"5\0\0" + b"".join(it.encode() + b"\0" for it in CREDIT),
-    command_bytes("clubdesk", "serve", "club", "--port", "0", "--count", "1"), command_bytes("clubdesk", "--help"), command_bytes(), b"\0" * 100])
+@pytest.mark.parametrize(
+    "data",
+    [
+        command_bytes(*CREDIT[:4], 1),
+        command_bytes(*CREDIT, root=None),
+        b"[" + WHOLE + b"]",
+        WHOLE + WHOLE,
+        WHOLE + b"\0",
+        WHOLE.replace(b"amy", b"am\xff"),
+        b"5\0\0" + b"".join(it.encode() + b"\0" for it in CREDIT),
+        command_bytes("clubdesk", "serve", "club", "--port", "0", "--count", "1"),
+        command_bytes("clubdesk", "--help"),
+        command_bytes(),
+        b"\0" * 100,
+    ],
+)
 def test_no_command(club, serving, data):
     assert answer(club, data)[0] == 2
     assert credited(club) == 0
@@ -102,8 +114,14 @@ def test_no_command(club, serving, data):
 
 def test_words_that_are_refused(club, serving):
     assert answer(club, command_bytes("clubdesk", "credits", "club"))[0] == 2
-    assert answer(club, command_bytes("clubdesk", "credit", "club", "amy", "none")) == (3, "bad value")
-    assert answer(club, command_bytes("clubdesk", "credit", "club", "zed", "1")) == (1, "refused: unknown")
+    assert answer(club, command_bytes("clubdesk", "credit", "club", "amy", "none")) == (
+        3,
+        "bad value",
+    )
+    assert answer(club, command_bytes("clubdesk", "credit", "club", "zed", "1")) == (
+        1,
+        "refused: unknown",
+    )
 
 
 def test_too_long(club, serving):
@@ -138,8 +156,10 @@ def test_a_silent_sender(club, serving, length):
 def test_a_sender_that_takes_no_answer(club):
     """The day sheet is too large for the socket's buffer, and the sender doesn't read it. The server cuts off the sender after 200 milliseconds,
     even if the server's patience is longer. The truncated answer doesn't end in a zero byte."""
-    club.sql("""WITH n(i) AS (SELECT 1 UNION ALL SELECT i + 1 FROM n WHERE i < 10000)
-        INSERT INTO bookings SELECT 'amy-1', 1000 + i, 'court-1', 10957, 8, 0, 0, 0, 0, 0 FROM n""")
+    club.sql(
+        """WITH n(i) AS (SELECT 1 UNION ALL SELECT i + 1 FROM n WHERE i < 10000)
+        INSERT INTO bookings SELECT 'amy-1', 1000 + i, 'court-1', 10957, 8, 0, 0, 0, 0, 0 FROM n"""
+    )
     with club.served("--patience", "10") as server, visitor(club) as it:
         it.sendall(command_bytes("clubdesk", "sheet", "club", "2000-01-01"))
         it.shutdown(socket.SHUT_WR)
@@ -147,7 +167,9 @@ def test_a_sender_that_takes_no_answer(club):
         assert answer(club, WHOLE) == (0, "done\n")
         assert 0.15 < time.monotonic() - began < 2
         cut = desk.read(it)
-        assert cut.startswith(b"\0Day sheet 2000-01-01\n") and len(cut) < 500_000 < len(club.does("sheet 2000-01-01"))
+        assert cut.startswith(b"\0Day sheet 2000-01-01\n") and len(cut) < 500_000 < len(
+            club.does("sheet 2000-01-01")
+        )
         assert not cut.endswith(b"\0")
         goes_on(server)
 
@@ -203,7 +225,12 @@ def test_a_server_that_ends_before_it_greets(club, clubdesk, is_followed):
     """When the server ends, the client has sent no byte of the command. Therefore the client opens the file itself or connects to the next server."""
     with club.served() as server:
         os.kill(server.process.pid, signal.SIGSTOP)
-        with subprocess.Popen([clubdesk, "credit", club.file, "amy", "1"], stdout=subprocess.PIPE, stderr=subprocess.PIPE, text=True) as command:
+        with subprocess.Popen(
+            [clubdesk, "credit", club.file, "amy", "1"],
+            stdout=subprocess.PIPE,
+            stderr=subprocess.PIPE,
+            text=True,
+        ) as command:
             time.sleep(0.5)  # the command waits for the greeting
             server.kill()
             with club.served() if is_followed else contextlib.nullcontext():
@@ -211,8 +238,13 @@ def test_a_server_that_ends_before_it_greets(club, clubdesk, is_followed):
     assert credited(club) == 1
 
 
-SENT = [(b"!", b"\0done\n\0", DONE), (b"!", b"\0done\n", NO_ANSWER), (b"!", b"", NO_ANSWER), (b"!", b"\x09nothing was done\0", NOTHING),
-        (b"?", b"\0done\n\0", FAILED)]
+SENT = [
+    (b"!", b"\0done\n\0", DONE),
+    (b"!", b"\0done\n", NO_ANSWER),
+    (b"!", b"", NO_ANSWER),
+    (b"!", b"\x09nothing was done\0", NOTHING),
+    (b"?", b"\0done\n\0", FAILED),
+]
 
 
 @pytest.mark.parametrize("greeting, reply, wanted", SENT)
@@ -261,7 +293,14 @@ def test_a_server_that_closes_after_it_greeted(club):
 def test_fifty_at_once(club, serving, clubdesk):
     """The server carries out each command once. On a busy machine, a client may get no processor time until its timeout for sending is over.
     Then the client tries again."""
-    commands = [subprocess.Popen([clubdesk, "credit", club.file, "amy", "1"], stdout=subprocess.PIPE, stderr=subprocess.PIPE) for _ in range(50)]
+    commands = [
+        subprocess.Popen(
+            [clubdesk, "credit", club.file, "amy", "1"],
+            stdout=subprocess.PIPE,
+            stderr=subprocess.PIPE,
+        )
+        for _ in range(50)
+    ]
     ended = [(*it.communicate(), it.returncode) for it in commands]
     assert ended == [(b"done\n", b"", 0)] * 50
     assert credited(club) == 50
@@ -283,7 +322,11 @@ def test_a_command_of_root(of_another):
     with of_another.served(by=desk.AS_ANOTHER):
         assert of_another.command("credit", "amy", "1") == DONE
         assert credited(of_another) == 1
-        assert {path.stat().st_uid for path in of_another.file.parent.iterdir() if path.name.startswith("club")} <= {desk.ANOTHER, 0}
+        assert {
+            path.stat().st_uid
+            for path in of_another.file.parent.iterdir()
+            if path.name.startswith("club")
+        } <= {desk.ANOTHER, 0}
     assert of_another.file.stat().st_uid == desk.ANOTHER
 
 
@@ -328,7 +371,9 @@ def test_a_door_of_a_stranger(club, clubdesk):
             parent.chmod(0o755)
     club.file.parent.chmod(0o777)
     door = f"{club.file}-office"
-    with subprocess.Popen([*desk.AS_ANOTHER, sys.executable, "-c", STRANGER, door], stdout=subprocess.PIPE, text=True) as stranger:
+    with subprocess.Popen(
+        [*desk.AS_ANOTHER, sys.executable, "-c", STRANGER, door], stdout=subprocess.PIPE, text=True
+    ) as stranger:
         assert stranger.stdout.readline() == "listening\n"
         words = ("add-key", club.file, "amy-2", "amy", "--root-stdin")
         assert desk.command(clubdesk, *words, text="a7" * 32 + "\n") == FAILED
@@ -359,7 +404,11 @@ def test_a_file_beside_the_club_stays(club, ending):
 def test_a_folder_that_cannot_be_written(of_another, clubdesk):
     of_another.file.parent.chmod(0o555)
     shutil.chown(of_another.file.parent, 0, 0)
-    ended = subprocess.run([*desk.AS_ANOTHER, clubdesk, "serve", of_another.file, "--port", "0", "--count", "1"], capture_output=True, check=False)
+    ended = subprocess.run(
+        [*desk.AS_ANOTHER, clubdesk, "serve", of_another.file, "--port", "0", "--count", "1"],
+        capture_output=True,
+        check=False,
+    )
     assert (ended.returncode, ended.stdout) == (5, b"")
     assert not of_another.file.with_name("club-office").exists()
 

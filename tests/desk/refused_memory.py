@@ -16,8 +16,25 @@ from reference import passes
 pytestmark = [pytest.mark.faults, pytest.mark.needs("passtool"), pytest.mark.wants("gcc libc6-dev")]
 
 CAVEATS = ("kind = court", "guests <= 2")
-COMMANDS = [("mint", "--root", ROOT, "--id", "key:amy-1", "--location", "club-desk", "--form", "FORM", *CAVEATS), ("show",),
-            ("narrow", *CAVEATS), ("convert", "--form", "json"), ("convert", "--form", "v2"), ("verify", "--root", ROOT)]
+COMMANDS = [
+    (
+        "mint",
+        "--root",
+        ROOT,
+        "--id",
+        "key:amy-1",
+        "--location",
+        "club-desk",
+        "--form",
+        "FORM",
+        *CAVEATS,
+    ),
+    ("show",),
+    ("narrow", *CAVEATS),
+    ("convert", "--form", "json"),
+    ("convert", "--form", "v2"),
+    ("verify", "--root", ROOT),
+]
 
 
 @pytest.mark.parametrize("words", COMMANDS, ids=" ".join)
@@ -26,7 +43,13 @@ def test_each_allocation_refused(tmp_path, form, words):
     words = [desk.program("passtool"), *(it.replace("FORM", form) for it in words)]
 
     def ended(**variables):
-        run = subprocess.run(words, input=text(key_pass("amy-1"), form=form).encode(), capture_output=True, check=False, env={**os.environ, **variables})
+        run = subprocess.run(
+            words,
+            input=text(key_pass("amy-1"), form=form).encode(),
+            capture_output=True,
+            check=False,
+            env={**os.environ, **variables},
+        )
         return run.returncode, run.stdout, run.stderr
 
     whole, refused = ended(), (4, b"", b"out of memory\n")

@@ -36,14 +36,25 @@ STDOUT = lines.FOLDER.parent / "stdout"
 
 
 def expectations(scenarios):
-    return sum(1 for it in scenarios for event in it.events if isinstance(inner(event), (Request, Office, Listing)))
+    return sum(
+        1
+        for it in scenarios
+        for event in it.events
+        if isinstance(inner(event), (Request, Office, Listing))
+    )
 
 
 def whole(path):
     """Returns the scenarios of a file. Raises Fault if a line has no answer."""
     found = lines.read(path)
     for event in (inner(it) for scenario in found for it in scenario.events):
-        has = event.reply if isinstance(event, Request) else event.outcomes if isinstance(event, Office) else getattr(event, "lines", True)
+        has = (
+            event.reply
+            if isinstance(event, Request)
+            else event.outcomes
+            if isinstance(event, Office)
+            else getattr(event, "lines", True)
+        )
         if not has:
             raise Fault(f"{event.place}: no expectation")
     return found
@@ -55,7 +66,10 @@ def counts(path, scenarios):
 
 def write_counts():
     """Writes the output that the program `scenarios` must print."""
-    told = ["odd texts: refused", *(counts(path, whole(path)) for path in lines.files() if path != lines.PAGE)]
+    told = [
+        "odd texts: refused",
+        *(counts(path, whole(path)) for path in lines.files() if path != lines.PAGE),
+    ]
     STDOUT.write_text("".join(f"{it}\n" for it in told), encoding="utf-8")
 
 
@@ -100,9 +114,20 @@ def filled(path):
             if isinstance(event, Request) and event.reply is None:
                 text[at] = padded(text[at], reply_in(found))
             elif isinstance(event, Office) and not event.outcomes:
-                text[at] = padded(text[at], " or ".join(dict.fromkeys(map(outcome_of, [found, player.found(event)] if is_crash else [found]))))
+                text[at] = padded(
+                    text[at],
+                    " or ".join(
+                        dict.fromkeys(
+                            map(outcome_of, [found, player.found(event)] if is_crash else [found])
+                        )
+                    ),
+                )
             elif isinstance(event, Listing) and event.lines is None:
-                text[at] += "".join(f"\n        {it}" for it in found[1:]) if event.words[0] == "sheet" else f"  {', '.join(found)}"
+                text[at] += (
+                    "".join(f"\n        {it}" for it in found[1:])
+                    if event.words[0] == "sheet"
+                    else f"  {', '.join(found)}"
+                )
     return "\n".join(text)
 
 
@@ -124,22 +149,51 @@ ACCOUNT = 'amy-1  GET account  200 {"member":"amy","balance":100,"quota":5,"open
 # Faulty files: the text after CLUB, the line of the fault, and words of the message. If the line is None, the file is valid. The texts of
 # FAULTY_CLUBS are complete files, so CLUB isn't added to them.
 FAULTY = (
-    ("", 2, "no expectation"), ("amy-1", 3, "not understood"), ("amy-1  GET", 3, "a request has"), ("offce  revoke-key amy-1  done", 3, "is unknown"),
-    ("bob-1  GET account  200 {}", 3, "the key bob-1 is unknown"), ("amy-1 [unknown]  GET account  200 {}", 3, "the key amy-1 is known"),
-    ("amy-1  GET account", 3, "no expectation"), ("amy-1  GET account  200", 3, "a status and a body"), ("amy-1  GET account  299 {}", 3, "not a status"),
-    ("amy-1  GET account  200 {", 3, "Expecting"), ("amy-1  POST account  405 {}", 3, "the path's methods"), (ACCOUNT + "  50 bytes", 3, "59, not 50 bytes"),
-    ("amy-1  GET account  200 {}  allows GET", 3, "only if its status is 405"), ("amy-1 [\\q]  GET account  200 {}", 3, "isn't an escape"),
-    ("text none  GET account  400 {}", 3, "undefined: text"), ("office  fly amy-1  done", 3, "not a command"), ("office  revoke-key  done", 3, "not a command"),
-    ("office  revoke-key Amy  done", 3, "invalid name"), ("office  close-slot court-1 2026-02-29 18  done", 3, "invalid day"), ("office  add-key k amy 00  done", 3, "a root has"),
-    ("office  revoke-key amy-1  dome", 3, "not an outcome"), ("office  revoke-key amy-1", 3, "no expectation"), ("sheet  2026-05-01", 3, "no expectation"),
-    ("account  amy-1", 3, "no expectation"), ("slot  court-1 2026-05-01", 3, "wrong number"), ("at  2026-04-20", 3, "not a moment"), ("crash  at noon", 3, "a crash line must be"),
-    (f"crash  {AGAIN}\nreopen", 4, "a request or a command"), (f"{ACCOUNT}\ncrash  {AGAIN}", 4, "without a line after it"), ("reopen  as version 7", 3, "may only have"),
-    (f"{ACCOUNT}\n  more", 3, "no indented lines"), ("root  third", 3, "a name and its bytes"), (f"text  x\n  AgEJ\n{ACCOUNT}\n", None, ""), (ACCOUNT, None, ""),
+    ("", 2, "no expectation"),
+    ("amy-1", 3, "not understood"),
+    ("amy-1  GET", 3, "a request has"),
+    ("offce  revoke-key amy-1  done", 3, "is unknown"),
+    ("bob-1  GET account  200 {}", 3, "the key bob-1 is unknown"),
+    ("amy-1 [unknown]  GET account  200 {}", 3, "the key amy-1 is known"),
+    ("amy-1  GET account", 3, "no expectation"),
+    ("amy-1  GET account  200", 3, "a status and a body"),
+    ("amy-1  GET account  299 {}", 3, "not a status"),
+    ("amy-1  GET account  200 {", 3, "Expecting"),
+    ("amy-1  POST account  405 {}", 3, "the path's methods"),
+    (ACCOUNT + "  50 bytes", 3, "59, not 50 bytes"),
+    ("amy-1  GET account  200 {}  allows GET", 3, "only if its status is 405"),
+    ("amy-1 [\\q]  GET account  200 {}", 3, "isn't an escape"),
+    ("text none  GET account  400 {}", 3, "undefined: text"),
+    ("office  fly amy-1  done", 3, "not a command"),
+    ("office  revoke-key  done", 3, "not a command"),
+    ("office  revoke-key Amy  done", 3, "invalid name"),
+    ("office  close-slot court-1 2026-02-29 18  done", 3, "invalid day"),
+    ("office  add-key k amy 00  done", 3, "a root has"),
+    ("office  revoke-key amy-1  dome", 3, "not an outcome"),
+    ("office  revoke-key amy-1", 3, "no expectation"),
+    ("sheet  2026-05-01", 3, "no expectation"),
+    ("account  amy-1", 3, "no expectation"),
+    ("slot  court-1 2026-05-01", 3, "wrong number"),
+    ("at  2026-04-20", 3, "not a moment"),
+    ("crash  at noon", 3, "a crash line must be"),
+    (f"crash  {AGAIN}\nreopen", 4, "a request or a command"),
+    (f"{ACCOUNT}\ncrash  {AGAIN}", 4, "without a line after it"),
+    ("reopen  as version 7", 3, "may only have"),
+    (f"{ACCOUNT}\n  more", 3, "no indented lines"),
+    ("root  third", 3, "a name and its bytes"),
+    (f"text  x\n  AgEJ\n{ACCOUNT}\n", None, ""),
+    (ACCOUNT, None, ""),
 )
 FAULTY_CLUBS = (
-    (ACCOUNT, 1, "the key amy-1 is unknown"), ("club  again", 1, "no club before"), ("club  members amy 100 5; keys amy-1", 1, "refused: out of range"),
-    ("club  members amy 5", 1, "a quota and points"), ("club  keys amy-1", 1, "refused: unknown"), ("club  members amy 5 0, amy 5 0", 1, "refused: exists"),
-    ("club  members amy 5 0; court 4 200", 1, "a facility has"), ("club  members amy 5 0; keys amy-1 under x", 1, "a root has"), (" club", 1, "belongs to no other line"),
+    (ACCOUNT, 1, "the key amy-1 is unknown"),
+    ("club  again", 1, "no club before"),
+    ("club  members amy 100 5; keys amy-1", 1, "refused: out of range"),
+    ("club  members amy 5", 1, "a quota and points"),
+    ("club  keys amy-1", 1, "refused: unknown"),
+    ("club  members amy 5 0, amy 5 0", 1, "refused: exists"),
+    ("club  members amy 5 0; court 4 200", 1, "a facility has"),
+    ("club  members amy 5 0; keys amy-1 under x", 1, "a root has"),
+    (" club", 1, "belongs to no other line"),
     ("club  empty\nnobody  GET account  200 {}", 2, "no moment before it"),
 )
 
@@ -163,23 +217,43 @@ def is_refused(text, line, words):
 
 def self_test(paths):
     """Checks that the reader refuses each faulty file, and that the test finds each fault planted in the rules."""
-    are_refused = [is_refused(CLUB + text, line, words) for text, line, words in FAULTY] + [is_refused(*it) for it in FAULTY_CLUBS]
+    are_refused = [is_refused(CLUB + text, line, words) for text, line, words in FAULTY] + [
+        is_refused(*it) for it in FAULTY_CLUBS
+    ]
     print(f"{sum(are_refused)} of {len(are_refused)} odd files are refused or accepted as expected")
 
     def run(plant):
         _, faults = played(paths, lambda: Rules(plant), 1, prints=False)
         if faults:
             raise AssertionError(faults[0])
+
     return 0 if finds_each_plant(run) and all(are_refused) else 1
 
 
 def main():
     parser = argparse.ArgumentParser(description=__doc__.splitlines()[0])
-    parser.add_argument("files", nargs="*", metavar="FILE", help="files of crates/scenarios/data, by their names without `.txt`")
-    parser.add_argument("--player", choices=("rules", "programs"), help="plays the files with only this player; the default is both")
-    parser.add_argument("--fill", action="store_true", help="prints files, and fills in missing answers")
-    parser.add_argument("--self-test", action="store_true", help="plants each fault of the rules in turn")
-    parser.add_argument("--counts", action="store_true", help="writes the counts of each file into crates/scenarios/stdout")
+    parser.add_argument(
+        "files",
+        nargs="*",
+        metavar="FILE",
+        help="files of crates/scenarios/data, by their names without `.txt`",
+    )
+    parser.add_argument(
+        "--player",
+        choices=("rules", "programs"),
+        help="plays the files with only this player; the default is both",
+    )
+    parser.add_argument(
+        "--fill", action="store_true", help="prints files, and fills in missing answers"
+    )
+    parser.add_argument(
+        "--self-test", action="store_true", help="plants each fault of the rules in turn"
+    )
+    parser.add_argument(
+        "--counts",
+        action="store_true",
+        help="writes the counts of each file into crates/scenarios/stdout",
+    )
     given = parser.parse_args()
     if given.counts:
         write_counts()
@@ -197,7 +271,9 @@ def main():
     if given.player != "rules" and not faults:
         desk = programs.program("clubdesk")
         with tempfile.TemporaryDirectory(dir=programs.IN_MEMORY) as folder:
-            count, faults = played(paths, lambda: Programs(desk, folder), len(os.sched_getaffinity(0)))
+            count, faults = played(
+                paths, lambda: Programs(desk, folder), len(os.sched_getaffinity(0))
+            )
         print(f"{Programs.name}: {count} lines in {len(paths)} files, {len(faults)} faults")
     return status_of(faults)
 

@@ -69,13 +69,20 @@ def is_late(server, pieces, pause, wanted):
 def cut(text, count):
     """Splits the text into `count` pieces."""
     size = (len(text) + count - 1) // count
-    return [text[place:place + size] for place in range(0, len(text), size)]
+    return [text[place : place + size] for place in range(0, len(text), size)]
 
 
-@pytest.mark.parametrize("dawdle, least, most", [
-    (b"", PATIENCE - 0.2, PATIENCE + 1), (REQUEST[:40], PATIENCE - 0.2, PATIENCE + 1),
-    # Two clients stay connected after their requests. The server waits a fifth of a second for more bytes.
-    (REQUEST, 0, 1), (REQUEST + b"x", 0, 1)], ids=["silent", "begins its request", "never reads", "stays"])
+@pytest.mark.parametrize(
+    "dawdle, least, most",
+    [
+        (b"", PATIENCE - 0.2, PATIENCE + 1),
+        (REQUEST[:40], PATIENCE - 0.2, PATIENCE + 1),
+        # Two clients stay connected after their requests. The server waits a fifth of a second for more bytes.
+        (REQUEST, 0, 1),
+        (REQUEST + b"x", 0, 1),
+    ],
+    ids=["silent", "begins its request", "never reads", "stays"],
+)
 def test_client_behind_one_that_dawdles(patient, dawdle, least, most):
     with patient(2) as server, connected(server) as client:
         began = time.monotonic()
@@ -89,28 +96,44 @@ def test_client_of_a_byte_a_second_is_cut_off(patient):
     with patient(2) as server:
         with connected(server) as client:
             began = time.monotonic()
-            desk.drip(client, REQUEST[:3 * PATIENCE])
+            desk.drip(client, REQUEST[: 3 * PATIENCE])
             assert time.monotonic() - began <= PATIENCE + 3
         assert replied(server, REQUEST) == account().wanted
 
 
-@pytest.mark.parametrize("data_of, wanted", [
-    (lambda place: REQUEST + b"x" * (1 + place * 99_999 // (COUNT - 1)), account().wanted),
-    (lambda _: b"GET /account HTTP/1.1\r\nX: " + b"x" * (100_000 - 30) + b"\r\n\r\n", Row().gets(1).wanted)],
-    ids=["bytes after requests", "heads of 100,000 bytes"])
+@pytest.mark.parametrize(
+    "data_of, wanted",
+    [
+        (lambda place: REQUEST + b"x" * (1 + place * 99_999 // (COUNT - 1)), account().wanted),
+        (
+            lambda _: b"GET /account HTTP/1.1\r\nX: " + b"x" * (100_000 - 30) + b"\r\n\r\n",
+            Row().gets(1).wanted,
+        ),
+    ],
+    ids=["bytes after requests", "heads of 100,000 bytes"],
+)
 def test_all_is_sent_before_it_is_read(patient, data_of, wanted):
     with patient(COUNT) as server:
-        late = sum(is_late(server, cut(data_of(place), 1 + place % 2), 0.002, wanted) for place in range(COUNT))
+        late = sum(
+            is_late(server, cut(data_of(place), 1 + place % 2), 0.002, wanted)
+            for place in range(COUNT)
+        )
     assert late <= COUNT // 10
 
 
 @pytest.mark.parametrize("count", [3, 4, 6])
 def test_requests_in_pieces(patient, count):
     """Tries a body with a length, a body that arrives after its head, a body in chunks, and a body that is too long."""
-    row = Row("PUT", slot(facility="court-2") + "/bookings/7", '{"guests":' + " " * 240 + "0}").gets(14)
+    row = Row(
+        "PUT", slot(facility="court-2") + "/bookings/7", '{"guests":' + " " * 240 + "0}"
+    ).gets(14)
     head, body = row.data.partition(b"\r\n\r\n")[0] + b"\r\n\r\n", row.body.encode()
-    without = b"\r\n".join(line for line in head.split(b"\r\n") if not line.startswith(b"Content-Length"))
-    chunks = b"".join(b"%x\r\n%s\r\n" % (len(part), part) for part in cut(body, count)) + b"0\r\n\r\n"
+    without = b"\r\n".join(
+        line for line in head.split(b"\r\n") if not line.startswith(b"Content-Length")
+    )
+    chunks = (
+        b"".join(b"%x\r\n%s\r\n" % (len(part), part) for part in cut(body, count)) + b"0\r\n\r\n"
+    )
     bad = Row().gets(1).wanted
     sent = [
         (cut(row.data, count), row.wanted),
@@ -119,7 +142,11 @@ def test_requests_in_pieces(patient, count):
         (cut(without[:-2] + b"Content-Length: 1000\r\n\r\n" + b"x" * 1000, count), bad),
     ]
     with patient(4 * 200) as server:
-        late = sum(is_late(server, pieces, pause, wanted) for pause in 50 * (0.001, 0.005, 0.02, 0.05) for pieces, wanted in sent)
+        late = sum(
+            is_late(server, pieces, pause, wanted)
+            for pause in 50 * (0.001, 0.005, 0.02, 0.05)
+            for pieces, wanted in sent
+        )
     assert late <= 4 * 200 // 10
 
 

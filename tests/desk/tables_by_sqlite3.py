@@ -15,32 +15,82 @@ import pytest
 
 import desk
 from conftest import Club
-from kinds import ACCOUNT, ONE, ROOM, THREE, book, booked, cancel, key_pass, command, shown, slot, text, view
+from kinds import (
+    ACCOUNT,
+    ONE,
+    ROOM,
+    THREE,
+    book,
+    booked,
+    cancel,
+    key_pass,
+    command,
+    shown,
+    slot,
+    text,
+    view,
+)
 
 pytestmark = [pytest.mark.programs, pytest.mark.needs("clubdesk"), pytest.mark.wants("sqlite3")]
 
 DAY = "2026-05-01"
 RUNNING = (desk.ROOT / "docs" / "RUNNING.md").read_text(encoding="utf-8")
-SCHEMA = re.search(r"^```sql\n(.*?)^```", (desk.ROOT / "docs" / "TABLES.md").read_text(encoding="utf-8"), re.MULTILINE | re.DOTALL)[1]
+SCHEMA = re.search(
+    r"^```sql\n(.*?)^```",
+    (desk.ROOT / "docs" / "TABLES.md").read_text(encoding="utf-8"),
+    re.MULTILINE | re.DOTALL,
+)[1]
 TABLES = re.findall(r"^CREATE TABLE (\w+)", SCHEMA, re.MULTILINE)
 # For each column with limits in docs/TABLES.md: its table, its name, its least value and its greatest value.
-LIMITS = [(table, *limit) for table, columns in re.findall(r"^CREATE TABLE (\w+) \(\n(.*?)^\)", SCHEMA, re.MULTILINE | re.DOTALL)
-          for limit in re.findall(r"CHECK \((\w+) BETWEEN (\d+) AND (\d+)\)", columns)]
+LIMITS = [
+    (table, *limit)
+    for table, columns in re.findall(
+        r"^CREATE TABLE (\w+) \(\n(.*?)^\)", SCHEMA, re.MULTILINE | re.DOTALL
+    )
+    for limit in re.findall(r"CHECK \((\w+) BETWEEN (\d+) AND (\d+)\)", columns)
+]
 ROOT = "30313233343536373839616263646566"
 AMY = text(key_pass("amy-1", ROOT))
-FORGED = text(key_pass("amy-1", "00" * 16))  # signed with another root, so the desk looks for an older root
+FORGED = text(
+    key_pass("amy-1", "00" * 16)
+)  # signed with another root, so the desk looks for an older root
 UNAVAILABLE = '{"fault":22,"text":"unavailable"}'
 LINE_7 = "court-1                  18:00 amy-1                            7  3    600\n"
 LINE_9 = "court-1                  18:00 amy-1                            9  1    200\n"
 NO_BOOKINGS = command(f"sheet {DAY}", printed=f"Day sheet {DAY}\nNo bookings.\n")
 
 
-def tells(taken, balance, opened, spent, quota=5, sheet=LINE_7 + "Total bookings 1, persons 3, charge 600\n", nine=True, room=False):
+def tells(
+    taken,
+    balance,
+    opened,
+    spent,
+    quota=5,
+    sheet=LINE_7 + "Total bookings 1, persons 3, charge 600\n",
+    nine=True,
+    room=False,
+):
     """Returns requests for three slots and the account, and a command for the day sheet, with the expected answers. `nine` is true if the court's
     slot at 9:00 is closed, and `room` is true if the room's slot is closed."""
-    rows = [shown(0, 9, nine), shown(taken), view(ROOM).serves(facility="room-1", day=DAY, hour=18, kind="room", price=601, places=1, taken=0, closed=room),
-            ACCOUNT.serves(member="amy", balance=balance, quota=quota, open=opened, spent=spent)]
-    return [*(it.under(AMY) for it in rows), command(f"sheet {DAY}", printed=f"Day sheet {DAY}\n{sheet}")]
+    rows = [
+        shown(0, 9, nine),
+        shown(taken),
+        view(ROOM).serves(
+            facility="room-1",
+            day=DAY,
+            hour=18,
+            kind="room",
+            price=601,
+            places=1,
+            taken=0,
+            closed=room,
+        ),
+        ACCOUNT.serves(member="amy", balance=balance, quota=quota, open=opened, spent=spent),
+    ]
+    return [
+        *(it.under(AMY) for it in rows),
+        command(f"sheet {DAY}", printed=f"Day sheet {DAY}\n{sheet}"),
+    ]
 
 
 FIRST = tells(3, 9099, 1, 901)
@@ -49,9 +99,19 @@ FIRST = tells(3, 9099, 1, 901)
 @pytest.fixture(scope="module")
 def made(new_club):
     """A club with two bookings. One of the bookings was cancelled less than a day before its slot."""
-    club = new_club("add-member amy 5", "credit amy 10000", "add-facility court-1 court 4 200 8 22", "add-facility room-1 room 1 601 8 22",
-                    f"add-key amy-1 amy {ROOT}", f"close-slot court-1 {DAY} 09")
-    rows = [booked(book(7, THREE), 600, 1), booked(book(8, ONE, ROOM), 601, 0), cancel(8, ROOM).at("2026-04-30T18:01").serves(booking="amy-1/8", refund=300)]
+    club = new_club(
+        "add-member amy 5",
+        "credit amy 10000",
+        "add-facility court-1 court 4 200 8 22",
+        "add-facility room-1 room 1 601 8 22",
+        f"add-key amy-1 amy {ROOT}",
+        f"close-slot court-1 {DAY} 09",
+    )
+    rows = [
+        booked(book(7, THREE), 600, 1),
+        booked(book(8, ONE, ROOM), 601, 0),
+        cancel(8, ROOM).at("2026-04-30T18:01").serves(booking="amy-1/8", refund=300),
+    ]
     club.play(it.under(AMY) for it in rows)
     return club
 
@@ -65,7 +125,13 @@ def club(made, tmp_path):
 
 def shell(club, *words, given=None):
     """Runs the sqlite3 shell on the club's file, and returns the output."""
-    return subprocess.run(["sqlite3", "-bail", club.file, *words], input=given, capture_output=True, check=True, text=True).stdout
+    return subprocess.run(
+        ["sqlite3", "-bail", club.file, *words],
+        input=given,
+        capture_output=True,
+        check=True,
+        text=True,
+    ).stdout
 
 
 def sql(club, statements):
@@ -81,8 +147,13 @@ def test_what_clubdesk_tells(club):
 
 
 def test_rows(club):
-    assert sql(club, """PRAGMA integrity_check; PRAGMA foreign_key_check; SELECT * FROM desk; SELECT * FROM members; SELECT * FROM facilities;
-        SELECT name, member, hex(root), revoked FROM keys; SELECT * FROM slots; SELECT * FROM bookings; SELECT * FROM old_roots""") == """\
+    assert (
+        sql(
+            club,
+            """PRAGMA integrity_check; PRAGMA foreign_key_check; SELECT * FROM desk; SELECT * FROM members; SELECT * FROM facilities;
+        SELECT name, member, hex(root), revoked FROM keys; SELECT * FROM slots; SELECT * FROM bookings; SELECT * FROM old_roots""",
+        )
+        == """\
 ok
 2
 amy|10000|5|901
@@ -95,14 +166,21 @@ room-1|20574|18|0|0
 amy-1|7|court-1|20574|18|2|600|1|0|0
 amy-1|8|room-1|20574|18|0|601|0|1|300
 """
+    )
 
 
 def test_sums_of_an_auditor(club):
     taken = "SELECT total(guests + 1) FROM bookings WHERE cancelled = 0 AND day = 20574 AND hour = 18 AND facility ="
-    assert sql(club, f"""SELECT total(charge - refund) FROM bookings WHERE pass_key = 'amy-1';
+    assert (
+        sql(
+            club,
+            f"""SELECT total(charge - refund) FROM bookings WHERE pass_key = 'amy-1';
         SELECT credited - (SELECT total(charge - refund) FROM bookings JOIN keys ON name = pass_key WHERE member = 'amy')
             FROM members WHERE name = 'amy';
-        {taken} 'court-1'; {taken} 'room-1'; SELECT date(20574 * 86400, 'unixepoch')""").split() == ["901.0", "9099.0", "3.0", "0.0", DAY]
+        {taken} 'court-1'; {taken} 'room-1'; SELECT date(20574 * 86400, 'unixepoch')""",
+        ).split()
+        == ["901.0", "9099.0", "3.0", "0.0", DAY]
+    )
     sound(club)
 
 
@@ -114,20 +192,41 @@ def statements(texts):
 def test_columns_keys_references_and_limits(club):
     """The CREATE statements have exactly the words of docs/TABLES.md. No column may be null, and all tables are STRICT."""
     found = [it for it, in club.sql("SELECT sql FROM sqlite_schema WHERE sql NOT NULL")]
-    assert statements(found) == statements(it for it in SCHEMA.split(";\n") if it.startswith("CREATE "))
-    assert club.sql("""SELECT count(*) FROM pragma_table_list t, pragma_table_info(t.name) c
-        WHERE t.name NOT LIKE 'sqlite%' AND NOT (t.strict AND c."notnull")""") == [(0,)]
+    assert statements(found) == statements(
+        it for it in SCHEMA.split(";\n") if it.startswith("CREATE ")
+    )
+    assert (
+        club.sql(
+            """SELECT count(*) FROM pragma_table_list t, pragma_table_info(t.name) c
+        WHERE t.name NOT LIKE 'sqlite%' AND NOT (t.strict AND c."notnull")"""
+        )
+        == [(0,)]
+    )
     assert (len(TABLES), len(LIMITS)) == (7, 20)
 
 
 def test_what_sqlite3_writes_is_told(club):
     """clubdesk shows rows that sqlite3 has changed within the limits, even if clubdesk left a write-ahead log next to the file."""
     club.does(f"sheet {DAY}")
-    sql(club, """UPDATE members SET credited = credited + 5, quota = 99, used = used + 200; DELETE FROM slots;
+    sql(
+        club,
+        """UPDATE members SET credited = credited + 5, quota = 99, used = used + 200; DELETE FROM slots;
         INSERT INTO slots VALUES ('room-1', 20574, 18, 1, 0), ('court-1', 20574, 9, 0, 0), ('court-1', 20574, 18, 0, 4);
         INSERT INTO bookings VALUES ('amy-1', 9, 'court-1', 20574, 18, 0, 200, 0, 0, 0);
-        INSERT INTO old_roots VALUES ('amy-1', zeroblob(16), 20000000)""")
-    club.play(tells(4, 8904, 2, 1101, 99, LINE_7 + LINE_9 + "Total bookings 2, persons 4, charge 800\n", nine=False, room=True))
+        INSERT INTO old_roots VALUES ('amy-1', zeroblob(16), 20000000)""",
+    )
+    club.play(
+        tells(
+            4,
+            8904,
+            2,
+            1101,
+            99,
+            LINE_7 + LINE_9 + "Total bookings 2, persons 4, charge 800\n",
+            nine=False,
+            room=True,
+        )
+    )
     sql(club, "UPDATE keys SET revoked = 1")
     club.play([it.under(AMY).gets(10) for it in (view(slot("09")), view(), view(ROOM), ACCOUNT)])
 
@@ -137,7 +236,12 @@ def test_what_sqlite3_writes_is_told(club):
 
 def by_recipe(club, heading):
     """Runs the SQL block under a heading of docs/RUNNING.md in the sqlite3 shell, and returns the output."""
-    return shell(club, given=re.search(rf"^### {heading}\n[^#]*?```sql\n(.*?)^```", RUNNING, re.MULTILINE | re.DOTALL)[1])
+    return shell(
+        club,
+        given=re.search(
+            rf"^### {heading}\n[^#]*?```sql\n(.*?)^```", RUNNING, re.MULTILINE | re.DOTALL
+        )[1],
+    )
 
 
 def sound(club):
@@ -180,13 +284,22 @@ def test_corrections(club):
     club.does("revoke-key amy-1")
     corrected(club, "Cancel for a revoked key", 0)
     sql(club, "UPDATE keys SET revoked = 0")
-    club.play([*tells(0, 9699, 0, 301, sheet="No bookings.\n", nine=False), cancel(7).under(AMY).serves(booking="amy-1/7", refund=600)])
+    club.play(
+        [
+            *tells(0, 9699, 0, 301, sheet="No bookings.\n", nine=False),
+            cancel(7).under(AMY).serves(booking="amy-1/7", refund=600),
+        ]
+    )
 
 
 # ---- other files
 
 
-@pytest.mark.parametrize("before", [None, "", "CREATE TABLE notes (text TEXT); INSERT INTO notes VALUES ('a')"], ids=["none", "empty", "of others"])
+@pytest.mark.parametrize(
+    "before",
+    [None, "", "CREATE TABLE notes (text TEXT); INSERT INTO notes VALUES ('a')"],
+    ids=["none", "empty", "of others"],
+)
 def test_file_that_becomes_a_club(clubdesk, tmp_path, before):
     """clubdesk makes a club in a new file, in an empty file, and in a file with another program's table. The other table stays."""
     club = Club(clubdesk, tmp_path / "new")
@@ -194,19 +307,34 @@ def test_file_that_becomes_a_club(clubdesk, tmp_path, before):
         club.file.touch()
         sql(club, before)
     club.play([NO_BOOKINGS])
-    assert sql(club, """PRAGMA integrity_check; SELECT * FROM desk;
-        SELECT count(*) FROM members, facilities, keys, slots, bookings""") == "ok\n2\n0\n"
+    assert (
+        sql(
+            club,
+            """PRAGMA integrity_check; SELECT * FROM desk;
+        SELECT count(*) FROM members, facilities, keys, slots, bookings""",
+        )
+        == "ok\n2\n0\n"
+    )
     assert not before or sql(club, "SELECT * FROM notes") == "a\n"
 
 
-@pytest.mark.parametrize("change", ["DROP TABLE old_roots; DROP INDEX bookings_by_key; UPDATE desk SET version = 1", "DROP INDEX bookings_by_key"])
+@pytest.mark.parametrize(
+    "change",
+    [
+        "DROP TABLE old_roots; DROP INDEX bookings_by_key; UPDATE desk SET version = 1",
+        "DROP INDEX bookings_by_key",
+    ],
+)
 def test_file_of_before_is_migrated(club, change):
     """The test changes the file to an older format. After the migration, the rows and the schema are the same as before this change, and no key has
     an older root."""
     schema = sql(club, "SELECT type, name, sql FROM sqlite_schema")
     sql(club, change)
     club.play(FIRST)
-    assert sql(club, "PRAGMA integrity_check; SELECT * FROM desk; SELECT count(*) FROM old_roots") == "ok\n2\n0\n"
+    assert (
+        sql(club, "PRAGMA integrity_check; SELECT * FROM desk; SELECT count(*) FROM old_roots")
+        == "ok\n2\n0\n"
+    )
     assert sql(club, "SELECT type, name, sql FROM sqlite_schema") == schema
 
 
@@ -217,13 +345,21 @@ def refused(club):
     status, _, fault = club.command("sheet", DAY)
     if (status, fault) != (5, "storage failed\n"):
         assert (status, fault) == (0, "")
-        asked = [*(it.under(AMY) for it in (view(slot("09")), view(), view(ROOM), ACCOUNT)), ACCOUNT.under(FORGED)]
-        assert UNAVAILABLE in [club.ask(it.data).body for it in asked], "the desk answers every request"
+        asked = [
+            *(it.under(AMY) for it in (view(slot("09")), view(), view(ROOM), ACCOUNT)),
+            ACCOUNT.under(FORGED),
+        ]
+        assert UNAVAILABLE in [
+            club.ask(it.data).body for it in asked
+        ], "the desk answers every request"
     assert (club.file.read_bytes(), dump(club)) == before
 
 
-@pytest.mark.parametrize("spoil", [lambda _: b"x" * 100, lambda it: it[:20000], lambda it: it[:16385] + b"\xff" * 4 + it[16389:]],
-                         ids=["no database", "half a file", "a damaged page"])
+@pytest.mark.parametrize(
+    "spoil",
+    [lambda _: b"x" * 100, lambda it: it[:20000], lambda it: it[:16385] + b"\xff" * 4 + it[16389:]],
+    ids=["no database", "half a file", "a damaged page"],
+)
 def test_bytes_that_are_no_club(club, spoil):
     club.file.write_bytes(spoil(club.file.read_bytes()))
     refused(club)
@@ -243,9 +379,17 @@ def test_limit(club, table, column, least, most):
     kept = club.copied_to(club.file.with_name("kept"))
     for value in (int(least) - 1, int(least), int(most), int(most) + 1):
         update = f"UPDATE OR IGNORE {table} SET {column} = {value}"
-        ended = subprocess.run(["sqlite3", club.file, f"BEGIN; {update.replace(' OR IGNORE', '')} WHERE rowid = 1"], capture_output=True, check=False, text=True)
+        ended = subprocess.run(
+            ["sqlite3", club.file, f"BEGIN; {update.replace(' OR IGNORE', '')} WHERE rowid = 1"],
+            capture_output=True,
+            check=False,
+            text=True,
+        )
         is_refused = not int(least) <= value <= int(most)
-        assert (ended.returncode, "CHECK constraint failed" in ended.stderr) == (19 if is_refused else 0, is_refused), value
+        assert (ended.returncode, "CHECK constraint failed" in ended.stderr) == (
+            19 if is_refused else 0,
+            is_refused,
+        ), value
         if is_refused:
             shell(club, f"PRAGMA ignore_check_constraints = ON; {update}")
             refused(club)
@@ -253,10 +397,21 @@ def test_limit(club, table, column, least, most):
 
 
 # Lines of SQL. Each line spoils a club, so that the desk must refuse the file.
-RENAMED = ("old_roots until", "members quota", "members used", "facilities price", "keys root", "slots closed", "slots taken", "bookings remains")
+RENAMED = (
+    "old_roots until",
+    "members quota",
+    "members used",
+    "facilities price",
+    "keys root",
+    "slots closed",
+    "slots taken",
+    "bookings remains",
+)
 SPOILED = [
-    *(f"UPDATE desk SET version = {it}" for it in (9, 0, -1, 1, 3)), *(f"DROP TABLE {it}" for it in TABLES),
-    *("ALTER TABLE {} RENAME COLUMN {} TO other".format(*it.split()) for it in RENAMED), *"""\
+    *(f"UPDATE desk SET version = {it}" for it in (9, 0, -1, 1, 3)),
+    *(f"DROP TABLE {it}" for it in TABLES),
+    *("ALTER TABLE {} RENAME COLUMN {} TO other".format(*it.split()) for it in RENAMED),
+    *"""\
 DELETE FROM desk
 INSERT INTO desk VALUES (1)
 DROP TABLE desk; CREATE TABLE desk (version TEXT) STRICT; INSERT INTO desk VALUES ('1')
@@ -280,7 +435,8 @@ UPDATE bookings SET facility = 'room-2'
 UPDATE bookings SET refund = 602 WHERE number = 8
 UPDATE bookings SET refund = 1 WHERE number = 7
 UPDATE facilities SET name = 'Court-1' WHERE name = 'court-1'; UPDATE bookings SET facility = 'Court-1' WHERE number = 7; UPDATE slots SET facility = 'Court-1' WHERE facility = 'court-1'
-""".splitlines()]
+""".splitlines(),
+]
 
 
 @pytest.mark.parametrize("change", SPOILED)

@@ -34,8 +34,14 @@ from reference import caveats, passes
 RULE, ZONE = "CET-1CEST,M3.5.0,M10.5.0/3", ZoneInfo("Europe/Berlin")
 NEW_YEAR = datetime(2026, 1, 1, 6, tzinfo=timezone.utc)
 MEMBERS = [f"member-{it}" for it in range(24)]
-FACILITIES = [("court-1", "court", 4, 200, 8, 22), ("court-2", "court", 4, 200, 8, 22), ("court-3", "court", 2, 151, 7, 23),
-              ("boat-1", "boat", 8, 75, 6, 20), ("room-1", "room", 1, 601, 9, 24), ("room-2", "room", 30, 5, 0, 24)]
+FACILITIES = [
+    ("court-1", "court", 4, 200, 8, 22),
+    ("court-2", "court", 4, 200, 8, 22),
+    ("court-3", "court", 2, 151, 7, 23),
+    ("boat-1", "boat", 8, 75, 6, 20),
+    ("room-1", "room", 1, 601, 9, 24),
+    ("room-2", "room", 30, 5, 0, 24),
+]
 KILLS_ONE_IN = 9  # servers
 DAYS_OF_SUMMER_TIME = (86, 87, 88, 296, 297, 298)  # about the ends of March and October
 
@@ -71,17 +77,31 @@ class Year(Both):
         """Adds the key's full pass and two narrowed passes to the passes in use, each in a random form."""
         whole = passes.minted(self.roots[key][-1], b"key:" + key.encode())
         held = [whole, *(self.narrowed(whole) for _ in range(2))]
-        self.passes.setdefault(key, []).extend(passes.text_of(it, self.draw.choice(("v1", "v2", "json"))) for it in held)
+        self.passes.setdefault(key, []).extend(
+            passes.text_of(it, self.draw.choice(("v1", "v2", "json"))) for it in held
+        )
 
     def narrowed(self, held):
         draw = self.draw
         for _ in range(draw.choice((1, 1, 2))):
             day = draw.randrange(365)
             first, last = (NEW_YEAR.date() + timedelta(days=it) for it in (day, day + 30))
-            held = held.narrowed(draw.choice((
-                "kind = court", "facility = court-1,court-2", "weekday = sat,sun", "hours = 17-22", f"days = {first}..{last}",
-                f"until < {last}T18:00", "guests <= 1", f"spend <= {draw.choice((600, 2000, 9000))}", "actions = view,book", "actions = view",
-            )).encode())
+            held = held.narrowed(
+                draw.choice(
+                    (
+                        "kind = court",
+                        "facility = court-1,court-2",
+                        "weekday = sat,sun",
+                        "hours = 17-22",
+                        f"days = {first}..{last}",
+                        f"until < {last}T18:00",
+                        "guests <= 1",
+                        f"spend <= {draw.choice((600, 2000, 9000))}",
+                        "actions = view,book",
+                        "actions = view",
+                    )
+                ).encode()
+            )
         return held
 
     def begin(self):
@@ -103,12 +123,21 @@ class Year(Both):
             self.add_key(draw.choice(MEMBERS))
         if draw.random() < 0.1:
             key = draw.choice(list(self.passes))
-            self.give(("rotate-key", key, draw.randbytes(32), moment + draw.choice((-5, 600, 4000))))
+            self.give(
+                ("rotate-key", key, draw.randbytes(32), moment + draw.choice((-5, 600, 4000)))
+            )
             self.hand_out(key)
         if draw.random() < 0.04:
             self.give(("revoke-key", draw.choice(list(self.passes))))
         if draw.random() < 0.2:
-            self.give(("close-slot", draw.choice(FACILITIES)[0], moment // 1440 + draw.randrange(20), draw.randrange(24)))
+            self.give(
+                (
+                    "close-slot",
+                    draw.choice(FACILITIES)[0],
+                    moment // 1440 + draw.randrange(20),
+                    draw.randrange(24),
+                )
+            )
         if draw.random() < 0.1 and self.club.closed:
             self.give(("open-slot", *draw.choice(sorted(self.club.closed))))
         if draw.random() < 0.05:
@@ -117,21 +146,37 @@ class Year(Both):
             self.give(("debit", member, draw.choice((1, 500, balance // 2, balance, balance + 1))))
         if draw.random() < 0.05:
             name, _, places, price, opens, shuts = draw.choice(FACILITIES)
-            self.give(("set-facility", name, draw.choice((1, places, places, places + 2)), draw.choice((price, price // 2, price + 30)),
-                       opens + draw.choice((0, 0, 2)), shuts - draw.choice((0, 0, 2))))
+            self.give(
+                (
+                    "set-facility",
+                    name,
+                    draw.choice((1, places, places, places + 2)),
+                    draw.choice((price, price // 2, price + 30)),
+                    opens + draw.choice((0, 0, 2)),
+                    shuts - draw.choice((0, 0, 2)),
+                )
+            )
         if draw.random() < 0.2:
-            key = draw.choice([it for it, rows in self.club.bookings.items() if rows] or list(self.passes))
+            key = draw.choice(
+                [it for it, rows in self.club.bookings.items() if rows] or list(self.passes)
+            )
             self.give(("cancel-booking", key, draw.choice([*self.club.bookings[key]][-20:] or [1])))
         if draw.random() < 0.05:
             self.give(("set-quota", draw.choice(MEMBERS), draw.choice((0, 3, 5, 99, 100))))
         if draw.random() < 0.1:
-            self.give_and_kill(("add-key", f"k{self.next_key}", draw.choice(MEMBERS), draw.randbytes(16)))
+            self.give_and_kill(
+                ("add-key", f"k{self.next_key}", draw.choice(MEMBERS), draw.randbytes(16))
+            )
 
     def give_and_kill(self, command):
         """Runs a command that adds a key, and kills it after a random delay of at most 30 ms. Then runs the command again. The second try must
         succeed, or report that the key exists already."""
         self.next_key += 1
-        process = subprocess.Popen([self.desk, *map(str, self.words_of(command))], stdout=subprocess.DEVNULL, stderr=subprocess.DEVNULL)
+        process = subprocess.Popen(
+            [self.desk, *map(str, self.words_of(command))],
+            stdout=subprocess.DEVNULL,
+            stderr=subprocess.DEVNULL,
+        )
         time.sleep(self.draw.random() * 0.03)
         process.kill()
         process.wait()
@@ -155,11 +200,18 @@ class Year(Both):
         if kind == "account":
             return self.bytes_of(moment, "GET", key, "/account")
         facility, _, _, _, opens, shuts = draw.choice(FACILITIES)
-        day = moment // 1440 + min(draw.choice((0, 0, 1, 1, 2, 3, 7, 14, 59, 60, 61)), caveats.LAST_DAY)
+        day = moment // 1440 + min(
+            draw.choice((0, 0, 1, 1, 2, 3, 7, 14, 59, 60, 61)), caveats.LAST_DAY
+        )
         slot = f"/slots/{facility}/{spelled_day(day)}/{draw.randrange(opens, shuts):02d}"
         if kind == "view":
             return self.bytes_of(moment, "GET", key, slot)
-        request = ("PUT", key, f"{slot}/bookings/{draw.randrange(1, 10**9)}", b'{"guests":%d}' % draw.choice((0, 0, 1, 1, 2, 3)))
+        request = (
+            "PUT",
+            key,
+            f"{slot}/bookings/{draw.randrange(1, 10**9)}",
+            b'{"guests":%d}' % draw.choice((0, 0, 1, 1, 2, 3)),
+        )
         self.booked.append(request)
         return self.bytes_of(moment, *request)
 
@@ -170,7 +222,13 @@ class Year(Both):
             until = f"until < {spelled_moment(moment + self.draw.choice((0, 1)))}"
             given = passes.text_of(passes.read(given).narrowed(until.encode()), "v2")
         length = b"Content-Length: %d\r\n" % len(body) if body else b""
-        return b"%s %s HTTP/1.1\r\nHost: club\r\nAuthorization: Bearer %s\r\n%s\r\n%s" % (method.encode(), path.encode(), given, length, body)
+        return b"%s %s HTTP/1.1\r\nHost: club\r\nAuthorization: Bearer %s\r\n%s\r\n%s" % (
+            method.encode(),
+            path.encode(),
+            given,
+            length,
+            body,
+        )
 
     # ---- servers
 
@@ -206,9 +264,15 @@ class Year(Both):
         """Simulates a day of the club: first the office's commands, then two or three servers, and finally the day sheet. On days near a change of
         summer time, runs six more servers."""
         draw = self.draw
-        instants = sorted(NEW_YEAR + timedelta(days=day, minutes=draw.randrange(16 * 60)) for _ in range(draw.choice((2, 3))))
+        instants = sorted(
+            NEW_YEAR + timedelta(days=day, minutes=draw.randrange(16 * 60))
+            for _ in range(draw.choice((2, 3)))
+        )
         if day in DAYS_OF_SUMMER_TIME:
-            instants += [NEW_YEAR + timedelta(days=day, hours=19, minutes=it) for it in (-1, 0, 59, 60, 119, 120)]
+            instants += [
+                NEW_YEAR + timedelta(days=day, hours=19, minutes=it)
+                for it in (-1, 0, 59, 60, 119, 120)
+            ]
         self.work_of_office(day, civil_minute(instants[0]))
         for instant in instants:
             self.served(instant, max(1, requests // len(instants)))
@@ -228,15 +292,24 @@ def run(given, desk, plant=None):
         year.begin()
         year.pass_days(given.days, given.requests)
         bookings = sum(map(len, year.club.bookings.values()))
-        print(f"{given.days} days, seed {given.seed}: {bookings} bookings, {year.commands} commands, {year.kills} kills, no difference")
+        print(
+            f"{given.days} days, seed {given.seed}: {bookings} bookings, {year.commands} commands, {year.kills} kills, no difference"
+        )
 
 
 def main():
     parser = argparse.ArgumentParser(description=__doc__.splitlines()[0])
     parser.add_argument("--seed", type=int, default=1)
     parser.add_argument("--days", type=int, default=365)
-    parser.add_argument("--requests", type=int, default=240, help="the number of requests per day; the default takes about ten minutes")
-    parser.add_argument("--self-test", action="store_true", help="plants each fault of the reference in turn")
+    parser.add_argument(
+        "--requests",
+        type=int,
+        default=240,
+        help="the number of requests per day; the default takes about ten minutes",
+    )
+    parser.add_argument(
+        "--self-test", action="store_true", help="plants each fault of the reference in turn"
+    )
     given = parser.parse_args()
     os.environ.setdefault("TZ", "UTC")
     desk = programs.program("clubdesk")

@@ -22,14 +22,31 @@ import pytest
 
 import desk
 
-pytestmark = [pytest.mark.pages, pytest.mark.quick("--no-commands", wants="", needs=""), pytest.mark.needs("clubdesk passtool"),
-    pytest.mark.wants("curl sqlite3 openssl gcc libc6-dev pkg-config golang-go nodejs")]
+pytestmark = [
+    pytest.mark.pages,
+    pytest.mark.quick("--no-commands", wants="", needs=""),
+    pytest.mark.needs("clubdesk passtool"),
+    pytest.mark.wants("curl sqlite3 openssl gcc libc6-dev pkg-config golang-go nodejs"),
+]
 
 os.chdir(desk.ROOT)
-PAGES = ["README.md", "CONTRIBUTING.md", *(str(it) for pattern in ("docs/*.md", "crates/*/README.md") for it in sorted(Path().glob(pattern)))]
+PAGES = [
+    "README.md",
+    "CONTRIBUTING.md",
+    *(
+        str(it)
+        for pattern in ("docs/*.md", "crates/*/README.md")
+        for it in sorted(Path().glob(pattern))
+    ),
+]
 TEXTS = {page: Path(page).read_text(encoding="utf-8") for page in PAGES}
-CODE = {str(it): it.read_text(encoding="utf-8") for it in sorted(Path("crates").glob("*/**/*"))
-        if re.fullmatch(r"(?!.*/out/).*(/src/.*\.rt|/(specs|proofs)/.*\.antt|\.edit|/more-edits\.txt)", str(it))}
+CODE = {
+    str(it): it.read_text(encoding="utf-8")
+    for it in sorted(Path("crates").glob("*/**/*"))
+    if re.fullmatch(
+        r"(?!.*/out/).*(/src/.*\.rt|/(specs|proofs)/.*\.antt|\.edit|/more-edits\.txt)", str(it)
+    )
+}
 WORD = re.compile(r"[^A-Za-z0-9_]+")
 each_page = pytest.mark.parametrize("page", PAGES)
 
@@ -52,28 +69,53 @@ def ticked(text):
 
 
 def found(endings, pattern):
-    return {(file, file.split("/")[1], *it.groups()) for file, text in CODE.items() if file.endswith(endings) for it in re.finditer(pattern, text, re.MULTILINE)}
+    return {
+        (file, file.split("/")[1], *it.groups())
+        for file, text in CODE.items()
+        if file.endswith(endings)
+        for it in re.finditer(pattern, text, re.MULTILINE)
+    }
 
 
 def within(places, pattern):
     """Returns the matches of a pattern in these texts, each with the place of its text."""
-    return {(*place, name) for *place, text in places for name in re.findall(pattern, text, re.MULTILINE)}
+    return {
+        (*place, name)
+        for *place, text in places
+        for name in re.findall(pattern, text, re.MULTILINE)
+    }
 
 
 HEAD = r"^ *(?:pub(?:\([a-z]+\))? )?(?:final )?(?:const )?(?:extern \"C\" )?"
 RECORD = r"^ *(?:pub )?record "
 FUNCTIONS = found(".rt", rf"{HEAD}fn (\w+)")
-CLAUSES = within(found(".rt", rf"(?s){HEAD}fn (\w+)(.*?)(?={HEAD}fn |\Z)"), r"^ *ensures ([a-z_0-9]+) ")
-FIELDS = within(found(".antt", rf"(?s){RECORD}(\S+)(.*?)(?={RECORD}|^[^ \n-]|\Z)"), r"^ +pub ([A-Za-z_0-9]+) :")
+CLAUSES = within(
+    found(".rt", rf"(?s){HEAD}fn (\w+)(.*?)(?={HEAD}fn |\Z)"), r"^ *ensures ([a-z_0-9]+) "
+)
+FIELDS = within(
+    found(".antt", rf"(?s){RECORD}(\S+)(.*?)(?={RECORD}|^[^ \n-]|\Z)"), r"^ +pub ([A-Za-z_0-9]+) :"
+)
 ITEMS = FUNCTIONS.union(
-    found(".rt", rf"{HEAD}(?:(?:struct|enum|trait|type|mod|static|abbrev) |ghost (?=[A-Za-z_]+(?: =|:)))(\w+)"),
-    found(".rt", r"^ *(?:pub )?const ([A-Z]\w*)"), found(".rt", "^    pub ([a-z_]+): "), found(".rt", rf"{HEAD}([A-Z][A-Za-z]+)(?: \{{|\(|,|$)"),
-    found(".antt", r"^ *(?:pub )?(?:record|data) (\S+)"), found(".antt", r"^ *(?:abbrev |unfoldable )?(?:pub )?(\S+) +(?::|where)(?= |$)"))
+    found(
+        ".rt",
+        rf"{HEAD}(?:(?:struct|enum|trait|type|mod|static|abbrev) |ghost (?=[A-Za-z_]+(?: =|:)))(\w+)",
+    ),
+    found(".rt", r"^ *(?:pub )?const ([A-Z]\w*)"),
+    found(".rt", "^    pub ([a-z_]+): "),
+    found(".rt", rf"{HEAD}([A-Z][A-Za-z]+)(?: \{{|\(|,|$)"),
+    found(".antt", r"^ *(?:pub )?(?:record|data) (\S+)"),
+    found(".antt", r"^ *(?:abbrev |unfoldable )?(?:pub )?(\S+) +(?::|where)(?= |$)"),
+)
 IN_FILE = {(it[0], it[-1]) for it in ITEMS | CLAUSES | FIELDS}
 CRATES = {crate for _, crate, _ in ITEMS}
 DEFINED = {it[1:] for it in ITEMS}
 CLAUSES = {it[1:] for it in CLAUSES}
-LIBRARIES = {word for line in Path("crates.txt").read_text(encoding="utf-8").splitlines() if line[:1] not in ("", "#") for word in line.replace(":", " ").split()}
+LIBRARIES = {
+    word
+    for line in Path("crates.txt").read_text(encoding="utf-8").splitlines()
+    if line[:1] not in ("", "#")
+    for word in line.replace(":", " ").split()
+}
 # For each crate, the names of std that its page mentions although its code doesn't use them.
 OF_STD = {"test_kit": {"expect"}}
 
@@ -86,15 +128,27 @@ def test_quoted_lines_are_in_a_file(page):
     """Each paragraph of a ```rust, ```antt or ```text block is in a file of crates/. The indentation may differ."""
     texts = [re.sub(r"^ +", "", text, flags=re.MULTILINE) for text in CODE.values()]
     for language in ("rust", "antt", "text"):
-        for quote in (it for block in blocks(page, language) for it in re.split(r"\n\n+", re.sub(r"^ +", "", block, flags=re.MULTILINE))):
+        for quote in (
+            it
+            for block in blocks(page, language)
+            for it in re.split(r"\n\n+", re.sub(r"^ +", "", block, flags=re.MULTILINE))
+        ):
             assert any(quote in text for text in texts), f"in no file of crates/:\n{quote}"
 
 
 def anchors(page):
     """Returns the anchors of a page's headings. An anchor is the heading in lower case, with dashes in place of spaces, and without punctuation
     except `-` and `_`."""
-    text = re.sub(r"^```.*?^```.*?\n", "", Path(page).read_text(encoding="utf-8"), flags=re.MULTILINE | re.DOTALL)
-    return {re.sub(r"[^a-z0-9 _-]", "", it.lower()).replace(" ", "-") for it in re.findall(r"^#+ (.*)", text, re.MULTILINE)}
+    text = re.sub(
+        r"^```.*?^```.*?\n",
+        "",
+        Path(page).read_text(encoding="utf-8"),
+        flags=re.MULTILINE | re.DOTALL,
+    )
+    return {
+        re.sub(r"[^a-z0-9 _-]", "", it.lower()).replace(" ", "-")
+        for it in re.findall(r"^#+ (.*)", text, re.MULTILINE)
+    }
 
 
 @each_page
@@ -111,9 +165,15 @@ def test_files_and_names_are_there(page):
     """Each file that a page names exists. If a crate's page names a file or a folder of the crate, the file or folder exists. Each name
     `crate::..::name` or `Type::name` has a definition."""
     words = ticked(prose(page))
-    scripts = [it for block in blocks(page, "sh") for it in re.findall(r"^(?:bin|tests|deploy)/[a-z_./]+", block, re.MULTILINE)]
+    scripts = [
+        it
+        for block in blocks(page, "sh")
+        for it in re.findall(r"^(?:bin|tests|deploy)/[a-z_./]+", block, re.MULTILINE)
+    ]
     for path in [*words, *scripts]:
-        if re.match(r"(crates|docs|tests|bin|deploy|man)/", path) and not re.search(r"[*<]|NAME|CRATE|(^|/)out(/|$)", path):
+        if re.match(r"(crates|docs|tests|bin|deploy|man)/", path) and not re.search(
+            r"[*<]|NAME|CRATE|(^|/)out(/|$)", path
+        ):
             assert Path(path.split(":")[0]).exists(), f"no file {path}"
         if page.startswith("crates/") and re.match(r"(src|specs|proofs|must-fail)/", path):
             assert (Path(page).parent / path).exists(), f"no file {path}"
@@ -122,7 +182,11 @@ def test_files_and_names_are_there(page):
     for word in words:
         if re.fullmatch(r"[A-Za-z_]+(::[A-Za-z_0-9]+)+", word):
             crate, *_, name = word.split("::")
-            assert (crate, name) in DEFINED if crate in CRATES else any(name == it for _, it in DEFINED), f"no {word}"
+            assert (
+                (crate, name) in DEFINED
+                if crate in CRATES
+                else any(name == it for _, it in DEFINED)
+            ), f"no {word}"
 
 
 @pytest.mark.parametrize("page", [it for it in PAGES if it.startswith("crates/")])
@@ -131,10 +195,18 @@ def test_bare_names_of_a_crate(page):
     definition, a crate or a library."""
     folder = Path(page).parent
     crate, names = folder.name, {name for _, name in DEFINED}
-    code = "\n".join(re.sub(r"//.*|^--.*", "", text, flags=re.MULTILINE) for file, text in CODE.items() if file.startswith(f"{folder}/"))
+    code = "\n".join(
+        re.sub(r"//.*|^--.*", "", text, flags=re.MULTILINE)
+        for file, text in CODE.items()
+        if file.startswith(f"{folder}/")
+    )
     known = {*WORD.split(code), *names, *LIBRARIES, *OF_STD.get(crate, ())}
     for word in ticked(prose(page)):
-        assert not re.fullmatch(r"[A-Za-z_][A-Za-z_0-9]*", word) or word in known or (folder / word).exists(), f"no {word}"
+        assert (
+            not re.fullmatch(r"[A-Za-z_][A-Za-z_0-9]*", word)
+            or word in known
+            or (folder / word).exists()
+        ), f"no {word}"
 
 
 @each_page
@@ -151,7 +223,10 @@ def test_definitions_are_in_their_files(page):
             place = piece if "/" in piece else f"{folder}/{piece}"
             folder = re.sub(r"/[A-Za-z0-9_]*\.antt$", "", place)
             for name in names:
-                assert any(name == it and (file == place or file.startswith(place + "/")) for file, it in IN_FILE), f"no definition {name} in {place}"
+                assert any(
+                    name == it and (file == place or file.startswith(place + "/"))
+                    for file, it in IN_FILE
+                ), f"no definition {name} in {place}"
             names = []
         assert not names, f"no file of the definitions {names}"
 
@@ -160,10 +235,22 @@ def test_definitions_are_in_their_files(page):
 def test_passes_are_written_under_temporary_names(page):
     """A command that prints a pass must write to a file whose name ends in .new (`> pass.new && mv pass.new pass`). If the command wrote to the old
     file and were refused, the shell would already have emptied the file."""
-    commands = [it for block in blocks(page, "console") for it in re.findall(r"^\$ (.*)", block, re.MULTILINE)]
-    for command in [*commands, *(line for block in blocks(page, "sh") for line in block.splitlines())]:
-        if re.search(r"(^|[ |])(passtool|clubdesk|office [a-z]+) (mint|narrow|convert|add-key|rotate-key) ", command):
-            assert not re.search(r">|[|] *tee ", re.sub(r'"[^"]*"|>&?[ ]*[^ ]*\.new', "", command)), command
+    commands = [
+        it
+        for block in blocks(page, "console")
+        for it in re.findall(r"^\$ (.*)", block, re.MULTILINE)
+    ]
+    for command in [
+        *commands,
+        *(line for block in blocks(page, "sh") for line in block.splitlines()),
+    ]:
+        if re.search(
+            r"(^|[ |])(passtool|clubdesk|office [a-z]+) (mint|narrow|convert|add-key|rotate-key) ",
+            command,
+        ):
+            assert not re.search(
+                r">|[|] *tee ", re.sub(r'"[^"]*"|>&?[ ]*[^ ]*\.new', "", command)
+            ), command
 
 
 # ---- single pages
@@ -171,10 +258,15 @@ def test_passes_are_written_under_temporary_names(page):
 
 def test_laws():
     """README lists the laws of docs/PROMISES.md in the same order. Each law ends in a link to docs/PROMISES.md. The text of the link names a
-    function and one of the function's clauses. tests/audit.py checks the functions and clauses of docs/PROMISES.md."""
+    function and one of the function's clauses. tests/audit.py checks the functions and clauses of docs/PROMISES.md.
+    """
     title = r"^\d+\. \*\*(.*?)\.\*\*"
     laws = re.findall(title, TEXTS["docs/PROMISES.md"], re.MULTILINE)
-    rows = re.findall(title + r" .*\(\[`([^`]*)`: `([^`]*)`.*\]\(docs/PROMISES\.md#the-law-of-the-desk\)\)$", TEXTS["README.md"], re.MULTILINE)
+    rows = re.findall(
+        title + r" .*\(\[`([^`]*)`: `([^`]*)`.*\]\(docs/PROMISES\.md#the-law-of-the-desk\)\)$",
+        TEXTS["README.md"],
+        re.MULTILINE,
+    )
     assert [law for law, _, _ in rows] == laws
     for _, function, clause in rows:
         assert (function, clause) in {it[1:] for it in CLAUSES}, f"{function}: {clause}"
@@ -201,7 +293,11 @@ def test_tour():
         assert 3 <= len(steps) <= 6, question
         for step in steps:
             path, name = re.match(r"`([^`]*)`: `([^`]*)`", step).groups()
-            assert (path, name.split("::")[-1]) in IN_FILE if path in CODE else name in Path(path).read_text(encoding="utf-8"), step
+            assert (
+                (path, name.split("::")[-1]) in IN_FILE
+                if path in CODE
+                else name in Path(path).read_text(encoding="utf-8")
+            ), step
 
 
 def test_audit_is_made_of_the_sources():
@@ -213,13 +309,26 @@ def test_audit_is_made_of_the_sources():
 
 def test_table_of_groups():
     """The table of docs/TRUST.md has each group of tests/pytest.ini, with the group's description."""
-    groups = re.findall(r"^ +(\w+): group: (.*)$", Path("tests/pytest.ini").read_text(encoding="utf-8"), re.MULTILINE)
+    groups = re.findall(
+        r"^ +(\w+): group: (.*)$",
+        Path("tests/pytest.ini").read_text(encoding="utf-8"),
+        re.MULTILINE,
+    )
     assert groups
-    assert re.findall(r"^\| `(\w+)` \| ([^|\n]*) \|$", TEXTS["docs/TRUST.md"].partition("## Scripts beside the gate")[2], re.MULTILINE) == groups
+    assert (
+        re.findall(
+            r"^\| `(\w+)` \| ([^|\n]*) \|$",
+            TEXTS["docs/TRUST.md"].partition("## Scripts beside the gate")[2],
+            re.MULTILINE,
+        )
+        == groups
+    )
 
 
 def test_trust_names_each_crate():
-    for crate in re.findall(r"^([a-z][a-z_0-9]*)[ :]", Path("crates.txt").read_text(encoding="utf-8"), re.MULTILINE):
+    for crate in re.findall(
+        r"^([a-z][a-z_0-9]*)[ :]", Path("crates.txt").read_text(encoding="utf-8"), re.MULTILINE
+    ):
         assert f"`{crate}`" in TEXTS["docs/TRUST.md"], crate
 
 
@@ -236,12 +345,19 @@ def test_each_decision_has_its_day_and_status():
     written down, and with a status."""
     sections = re.split(r"^## .*\n", TEXTS["docs/DECISIONS.md"], flags=re.MULTILINE)[1:]
     for paragraph in (it for section in sections for it in re.split(r"\n\n+", section.strip())):
-        assert re.fullmatch(r"\*\*.* \*20\d\d-\d\d-\d\d, (accepted|measured|stand-in)(, changed 20\d\d-\d\d-\d\d)?\*", paragraph), paragraph
+        assert re.fullmatch(
+            r"\*\*.* \*20\d\d-\d\d-\d\d, (accepted|measured|stand-in)(, changed 20\d\d-\d\d-\d\d)?\*",
+            paragraph,
+        ), paragraph
 
 
 def test_index_names_each_page():
     for page in PAGES:
-        assert not page.startswith("docs/") or page == "docs/INDEX.md" or f"({Path(page).name})" in TEXTS["docs/INDEX.md"], page
+        assert (
+            not page.startswith("docs/")
+            or page == "docs/INDEX.md"
+            or f"({Path(page).name})" in TEXTS["docs/INDEX.md"]
+        ), page
 
 
 @pytest.mark.parametrize("page", ["README.md", "docs/TRUST.md"])
@@ -264,15 +380,26 @@ def script_of(text):
     lines = ["trap 'kill $(jobs -p) 2>/dev/null' EXIT", 'again() { return "$1"; }']
     for command in re.findall(r"^\$ (.*)", text, re.MULTILINE):
         is_behind = command.endswith(" &")
-        lines += [f'ended=$?; printf "%s\\n" {shlex.quote("$ " + command)}', *(['printed=$(wc -c <"$OUT")'] if is_behind else []), 'again "$ended"', command]
+        lines += [
+            f'ended=$?; printf "%s\\n" {shlex.quote("$ " + command)}',
+            *(['printed=$(wc -c <"$OUT")'] if is_behind else []),
+            'again "$ended"',
+            command,
+        ]
         if is_behind:
-            lines.append('for wait in $(seq 100); do [ "$(wc -c <"$OUT")" = "$printed" ] || break; sleep 0.1; done')
+            lines.append(
+                'for wait in $(seq 100); do [ "$(wc -c <"$OUT")" = "$printed" ] || break; sleep 0.1; done'
+            )
     return "\n".join(lines)
 
 
 def free_port(number):
     """Returns the first free port from this number on. A port that a program has just used isn't free."""
-    is_used = any(f":{number:04X} " in it.read_text() for it in (Path("/proc/net/tcp"), Path("/proc/net/tcp6")) if it.exists())
+    is_used = any(
+        f":{number:04X} " in it.read_text()
+        for it in (Path("/proc/net/tcp"), Path("/proc/net/tcp6"))
+        if it.exists()
+    )
     return free_port(number + 1) if is_used else number
 
 
@@ -298,13 +425,30 @@ def test_commands(page, tmp_path):
     if "bin/library" in text:
         subprocess.run(["bin/library", tmp_path / "library"], check=True, stdout=subprocess.DEVNULL)
     with open(out, "wb") as printed:
-        subprocess.run(["sh", "-c", script_of(text)], cwd=room, stdin=subprocess.DEVNULL, stdout=printed, stderr=printed, timeout=600, check=False,
-                       env={**os.environ, "PATH": f"{given}:{desk.ROOT}/bin:{os.environ['PATH']}", "CURL_HOME": str(tmp_path), "OUT": str(out)})
+        subprocess.run(
+            ["sh", "-c", script_of(text)],
+            cwd=room,
+            stdin=subprocess.DEVNULL,
+            stdout=printed,
+            stderr=printed,
+            timeout=600,
+            check=False,
+            env={
+                **os.environ,
+                "PATH": f"{given}:{desk.ROOT}/bin:{os.environ['PATH']}",
+                "CURL_HOME": str(tmp_path),
+                "OUT": str(out),
+            },
+        )
     assert squeezed(out.read_text(encoding="utf-8")) == squeezed(text)
 
 
 @pytest.mark.built
 def test_what_readme_tries_unproved():
-    script = next(re.search(r"^cd crates.*?rt try.*?$", it, re.MULTILINE | re.DOTALL) for it in blocks("README.md", "sh") if "rt try" in it)[0]
+    script = next(
+        re.search(r"^cd crates.*?rt try.*?$", it, re.MULTILINE | re.DOTALL)
+        for it in blocks("README.md", "sh")
+        if "rt try" in it
+    )[0]
     tried = subprocess.run(["sh", "-c", script], capture_output=True, text=True, check=False)
     assert tried.stdout == "signed\n" and tried.stderr.endswith("proved=no\n")

@@ -65,8 +65,14 @@ FILES = {
     "web/src/a.mjs": ("// found exactly if there\n", 1),
     "web/src/words/en.json": ('{\n  "found": "Found exactly if there."\n}\n', 2),
     "man/a.1": (".Sh NAME\nFound exactly if there.\n", 2),
-    "crates/a/src/table.rt": ('const HELP: &str = "FILE is the file.\nIt is found exactly if there.\n\nExample:\n  exactly if";\n', 2),
-    "deploy/club_office/texts.py": ('TEXTS = {\n    "a": ("It is found exactly if there.", "Gefunden, wenn da."),\n}\n', 2),
+    "crates/a/src/table.rt": (
+        'const HELP: &str = "FILE is the file.\nIt is found exactly if there.\n\nExample:\n  exactly if";\n',
+        2,
+    ),
+    "deploy/club_office/texts.py": (
+        'TEXTS = {\n    "a": ("It is found exactly if there.", "Gefunden, wenn da."),\n}\n',
+        2,
+    ),
 }
 
 
@@ -92,7 +98,10 @@ def test_kinds_of_files(file):
     assert [it.split(": ")[1] for it in prose.foreign(file, text)] == [f"{file}:{line}"]
 
 
-@pytest.mark.parametrize("text", ["```sh\nexactly if it is\n```\n", "    exactly if it is\n", "  usage exactly if     it is\n"])
+@pytest.mark.parametrize(
+    "text",
+    ["```sh\nexactly if it is\n```\n", "    exactly if it is\n", "  usage exactly if     it is\n"],
+)
 def test_code_is_no_prose(text):
     assert not list(prose.foreign("docs/TOUR.md", text))
 
@@ -107,8 +116,14 @@ def test_numbers_of_lines_within_a_paragraph():
 @pytest.fixture
 def clone(tmp_path):
     """A clone of a small repository, which has a page, a crate and one commit."""
+
     def git(*words, at):
-        subprocess.run(["git", "-c", "user.name=a", "-c", "user.email=a@example", *words], cwd=at, check=True, capture_output=True)
+        subprocess.run(
+            ["git", "-c", "user.name=a", "-c", "user.email=a@example", *words],
+            cwd=at,
+            check=True,
+            capture_output=True,
+        )
 
     origin, clone = tmp_path / "origin", tmp_path / "clone"
     (origin / "crates/pass_mac").mkdir(parents=True)
@@ -124,9 +139,14 @@ def clone(tmp_path):
 def test_added_lines_and_commits_alone(clone):
     root, git = clone
     assert not list(prose.of_change(root, prose.base_of(root)))
-    (root / "page.md").write_text("It was found exactly if it was there.\n\nA line.\n\nIt is found exactly if it is there.\n")
+    (root / "page.md").write_text(
+        "It was found exactly if it was there.\n\nA line.\n\nIt is found exactly if it is there.\n"
+    )
     (root / "new.md").write_text("A new page, of which this is a line.\n")
-    assert [it.split(": ")[1] for it in prose.of_change(root, prose.base_of(root))] == ["page.md:5", "new.md:1"]
+    assert [it.split(": ")[1] for it in prose.of_change(root, prose.base_of(root))] == [
+        "page.md:5",
+        "new.md:1",
+    ]
     git("add", ".")
     git("commit", "-q", "-m", "Pages get lines")
     found = list(prose.of_change(root, prose.base_of(root)))
@@ -149,22 +169,38 @@ def test_spelling(tmp_path):
     (tmp_path / "tests/lib").mkdir(parents=True)
     (tmp_path / "web/src/words").mkdir(parents=True)
     for page in prose.PAGES:
-        (tmp_path / page).write_text("A page with `codde`, [a link](wrongg.md), page.mdd and clubdesk's name.\n")
+        (tmp_path / page).write_text(
+            "A page with `codde`, [a link](wrongg.md), page.mdd and clubdesk's name.\n"
+        )
     (tmp_path / "docs/A.md").write_text("A line.\n\nA mispelt word.\n")
-    (tmp_path / "tests/lib/words.txt").write_text("# en: words\nclubdesk\n\n# de_DE: Wörter\nJSON\n")
+    (tmp_path / "tests/lib/words.txt").write_text(
+        "# en: words\nclubdesk\n\n# de_DE: Wörter\nJSON\n"
+    )
     (tmp_path / "web/src/words/en.json").write_text('{\n  "a": "A fine {word} here."\n}\n')
     (tmp_path / "web/src/words/de.json").write_text('{\n  "a": "Ein schönes Wortt in JSON."\n}\n')
-    assert list(prose.misspellings(tmp_path)) == ["misspelt: docs/A.md:3: mispelt", "misspelt: web/src/words/de.json:2: Wortt"]
+    assert list(prose.misspellings(tmp_path)) == [
+        "misspelt: docs/A.md:3: mispelt",
+        "misspelt: web/src/words/de.json:2: Wortt",
+    ]
 
 
 def test_draw():
     def draw(*words):
-        return subprocess.run([TESTS / "docs" / "sentences.py", *words], check=True, capture_output=True, text=True).stdout
+        return subprocess.run(
+            [TESTS / "docs" / "sentences.py", *words], check=True, capture_output=True, text=True
+        ).stdout
 
     if prose.git(TESTS.parent, "ls-files") is None:
         pytest.skip("wants a clone")
     one = draw("--seed", "5")
     assert one == draw("--seed", "5") != draw("--seed", "6")
-    assert [it.split()[1] for it in one.splitlines()] == ["code"] * 14 + ["pages"] * 13 + ["help"] * 13
+    assert [it.split()[1] for it in one.splitlines()] == ["code"] * 14 + ["pages"] * 13 + [
+        "help"
+    ] * 13
     assert len(draw("--below", "docs/TOUR.md", "--count", "5").splitlines()) == 5
-    assert subprocess.run([TESTS / "docs" / "sentences.py", "--below", "none"], check=False, capture_output=True).returncode == 2
+    assert (
+        subprocess.run(
+            [TESTS / "docs" / "sentences.py", "--below", "none"], check=False, capture_output=True
+        ).returncode
+        == 2
+    )

@@ -1,11 +1,11 @@
 #!/bin/sh
-# pyflakes, shellcheck, gofmt and go vet find no faults except those that the code excuses with a stated reason.
+# pyflakes, shellcheck, gofmt and go vet find no faults except those that the code excuses with a stated reason. black finds nothing to lay out anew.
 #
 # The program shellcheck reads the shell scripts and bats files of tests/, bin/ and deploy/. The program pyflakes reads the Python files of these
 # folders, of examples/ and of bindings/. If gofmt is installed, gofmt reads the Go files of tests/, examples/ and bindings/. If Debian's packages for
 # the desk in Go are also installed, go vet reads the desk's files.
 #
-# pytestmark = [mark.quick, mark.wants("shellcheck pyflakes3")]
+# pytestmark = [mark.quick, mark.wants("shellcheck pyflakes3 black")]
 set -eu
 cd "$(dirname -- "$0")/../.."
 
@@ -21,6 +21,9 @@ shellcheck -x -P tests/lib $(by_first_line '^#!/bin/(ba)?sh') || status=1
 shellcheck -x -P tests/lib -e SC2154,SC2164 tests/*/*.bats || status=1
 # shellcheck disable=SC2046
 pyflakes3 $(by_first_line 'python3') $(find tests examples deploy bindings -name '*.py') || status=1
+# shellcheck disable=SC2046
+black --check --quiet $(by_first_line 'python3') $(find tests examples deploy bindings -name '*.py') ||
+    { echo "black: a file isn't in the layout of pyproject.toml"; status=1; }
 if command -v gofmt > /dev/null; then
     spelled_otherwise=$(gofmt -l tests/peers/beside_go tests/peers/passes_from_c examples bindings)
     [ -z "$spelled_otherwise" ] || { echo "gofmt: $spelled_otherwise"; status=1; }

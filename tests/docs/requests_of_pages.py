@@ -19,9 +19,16 @@ from conftest import Club
 from kinds import Row
 from reference import wire
 
-pytestmark = [pytest.mark.pages, pytest.mark.needs("clubdesk passtool"), pytest.mark.wants("openssl")]
+pytestmark = [
+    pytest.mark.pages,
+    pytest.mark.needs("clubdesk passtool"),
+    pytest.mark.wants("openssl"),
+]
 
-PART = re.compile(r"^```console\n(?P<block>[^`]*?)^```$|^(?P<section>##.*)|^\| (?P<under>Under `.*)|^\| (?P<asked>`(?:GET|PUT|DELETE|POST) .*)", re.MULTILINE)
+PART = re.compile(
+    r"^```console\n(?P<block>[^`]*?)^```$|^(?P<section>##.*)|^\| (?P<under>Under `.*)|^\| (?P<asked>`(?:GET|PUT|DELETE|POST) .*)",
+    re.MULTILINE,
+)
 UNDER = re.compile(r"Under `([^`]+)` at (\S+) \|.*")
 ASKED = re.compile(r"`(\S+) (\S+)(?: -d ([^`]+))?` \| (\d+) `([^`]+)` \|")
 
@@ -39,8 +46,16 @@ def test_page(clubdesk, tmp_path, name):
         text = part[part.lastgroup]
         match part.lastgroup:
             case "block":
-                for command in [] if "clubdesk serve" in text else re.findall(r"^\$ (.*)", text, re.MULTILINE):
-                    subprocess.run(["sh", "-c", command], cwd=place, check=True, stdin=subprocess.DEVNULL, env=variables)
+                for command in (
+                    [] if "clubdesk serve" in text else re.findall(r"^\$ (.*)", text, re.MULTILINE)
+                ):
+                    subprocess.run(
+                        ["sh", "-c", command],
+                        cwd=place,
+                        check=True,
+                        stdin=subprocess.DEVNULL,
+                        env=variables,
+                    )
             case "section":
                 place = made
             case "under":
@@ -53,6 +68,8 @@ def test_page(clubdesk, tmp_path, name):
             case "asked":
                 method, path, body, status, reply = ASKED.fullmatch(text).groups()
                 wanted = wire.bytes_with(int(status), reply.encode())
-                Club(clubdesk, place / "club").play([row.but(method=method, path=path, body=body, wanted=wanted)])
+                Club(clubdesk, place / "club").play(
+                    [row.but(method=method, path=path, body=body, wanted=wanted)]
+                )
                 asked[status == "200"] += 1
     assert asked[True] and asked[False]

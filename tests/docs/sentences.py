@@ -22,9 +22,15 @@ import prose
 
 ROOT = Path(__file__).resolve().parents[2]
 KINDS = {
-    "code": re.compile(r"crates/[^/]+/(src|specs|proofs)/.*\.(rt|antt)|(tests|bin|deploy)/.*|web/src/.*\.mjs|examples/.*"),
-    "pages": re.compile(r"(README|CONTRIBUTING|CHANGELOG|SECURITY)\.md|docs/.*\.md|crates/[^/]+/README\.md"),
-    "help": re.compile(r"crates/(clubdesk_arguments|passtool_commands)/src/table\.rt|man/.*|deploy/club_office/(texts|refusals)\.py|web/src/words/en\.json"),
+    "code": re.compile(
+        r"crates/[^/]+/(src|specs|proofs)/.*\.(rt|antt)|(tests|bin|deploy)/.*|web/src/.*\.mjs|examples/.*"
+    ),
+    "pages": re.compile(
+        r"(README|CONTRIBUTING|CHANGELOG|SECURITY)\.md|docs/.*\.md|crates/[^/]+/README\.md"
+    ),
+    "help": re.compile(
+        r"crates/(clubdesk_arguments|passtool_commands)/src/table\.rt|man/.*|deploy/club_office/(texts|refusals)\.py|web/src/words/en\.json"
+    ),
 }
 LEAST_WORDS = 5  # a shorter one is a name or a label
 MOST_LINES = 6  # of the context, before and after the sentence's first line
@@ -39,7 +45,14 @@ def all_sentences(below):
     found = {kind: [] for kind in KINDS}
     for file in sorted(prose.git(ROOT, "ls-files").splitlines()):
         kind = kind_of(file)
-        if not kind or not (ROOT / file).is_file() or (below and not any(file == it or file.startswith(it.rstrip("/") + "/") for it in below)):
+        if (
+            not kind
+            or not (ROOT / file).is_file()
+            or (
+                below
+                and not any(file == it or file.startswith(it.rstrip("/") + "/") for it in below)
+            )
+        ):
             continue
         try:
             text = (ROOT / file).read_text(encoding="utf-8")
@@ -47,9 +60,15 @@ def all_sentences(below):
             continue
         for paragraph in prose.paragraphs(file, text):
             for lines, sentence in prose.sentences(paragraph):
-                is_cut = file.startswith("man/") and not sentence.endswith(".")  # a request of mdoc follows
+                is_cut = file.startswith("man/") and not sentence.endswith(
+                    "."
+                )  # a request of mdoc follows
                 is_usage = re.match(r"(tests|bin|deploy|crates)/\S+ |pytestmark", sentence)
-                if len(re.findall(r"[A-Za-z]{2,}", sentence)) >= LEAST_WORDS and not is_cut and not is_usage:
+                if (
+                    len(re.findall(r"[A-Za-z]{2,}", sentence)) >= LEAST_WORDS
+                    and not is_cut
+                    and not is_usage
+                ):
                     found[kind].append((file, min(lines), sentence))
     return found
 
@@ -65,7 +84,7 @@ def context(file, line):
         return [lines[first], lines[line - 1]]
     while last + 1 < len(lines) and lines[last + 1].strip() and last + 1 - line < MOST_LINES:
         last += 1
-    return lines[first:last + 1]
+    return lines[first : last + 1]
 
 
 def drawn(found, seed, count):
@@ -77,7 +96,9 @@ def drawn(found, seed, count):
 
 
 def main():
-    parser = argparse.ArgumentParser(usage="tests/docs/sentences.py [--seed N] [--count N] [--below PATH] [--slips] [--context]")
+    parser = argparse.ArgumentParser(
+        usage="tests/docs/sentences.py [--seed N] [--count N] [--below PATH] [--slips] [--context]"
+    )
     parser.add_argument("--seed", type=int, default=1)
     parser.add_argument("--count", type=int, default=40)
     parser.add_argument("--below", action="append", default=[], metavar="PATH")

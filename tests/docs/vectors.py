@@ -18,7 +18,12 @@ from conftest import Club
 from kinds import Command, Row
 from reference import passes
 
-pytestmark = [pytest.mark.pages, pytest.mark.quick, pytest.mark.needs("clubdesk passtool"), pytest.mark.wants("python3-pymacaroons")]
+pytestmark = [
+    pytest.mark.pages,
+    pytest.mark.quick,
+    pytest.mark.needs("clubdesk passtool"),
+    pytest.mark.wants("python3-pymacaroons"),
+]
 
 VECTORS = json.loads((desk.ROOT / "docs" / "vectors.json").read_text(encoding="utf-8"))
 FORMS = list(passes.FORMS)
@@ -36,17 +41,29 @@ def bytes_of(owner, name):
 
 
 def caveats_of(vector):
-    return [bytes.fromhex(it["hex"]) if isinstance(it, dict) else it.encode() for it in vector["caveats"]]
+    return [
+        bytes.fromhex(it["hex"]) if isinstance(it, dict) else it.encode()
+        for it in vector["caveats"]
+    ]
 
 
 def shown(data):
-    return "".join("\\\\" if b == 0x5C else chr(b) if 0x20 <= b <= 0x7E else f"\\x{b:02x}" for b in data)
+    return "".join(
+        "\\\\" if b == 0x5C else chr(b) if 0x20 <= b <= 0x7E else f"\\x{b:02x}" for b in data
+    )
 
 
 def texts_of(vector):
     """Returns the location, the identifier and the caveats as texts, or None if one of them isn't UTF-8."""
     try:
-        return [it.decode() for it in (bytes_of(vector, "location"), bytes_of(vector, "identifier"), *caveats_of(vector))]
+        return [
+            it.decode()
+            for it in (
+                bytes_of(vector, "location"),
+                bytes_of(vector, "identifier"),
+                *caveats_of(vector),
+            )
+        ]
     except UnicodeDecodeError:
         return None
 
@@ -59,7 +76,10 @@ OF_WORDS = [it for it in WITH_A_ROOT if texts_of(it) is not None]
 def test_signatures_by_the_standard_library(vector):
     """The signatures in the vector are the chain of signatures under the root."""
     minted = passes.minted(bytes.fromhex(vector["root"]), bytes_of(vector, "identifier"))
-    chain = [it.signature.hex() for it in itertools.accumulate(caveats_of(vector), passes.Pass.narrowed, initial=minted)]
+    chain = [
+        it.signature.hex()
+        for it in itertools.accumulate(caveats_of(vector), passes.Pass.narrowed, initial=minted)
+    ]
     assert chain == vector["signatures"] and chain[-1] == vector["signature"]
 
 
@@ -71,7 +91,12 @@ def test_texts_by_pymacaroons(vector):
         pytest.skip("pymacaroons counts characters instead of bytes, and needs an identifier")
     location, identifier, *caveats = texts
     for version in (1, 2) if location else (1,):
-        macaroon = Macaroon(location=location, identifier=identifier, key=bytes.fromhex(vector["root"]), version=version)
+        macaroon = Macaroon(
+            location=location,
+            identifier=identifier,
+            key=bytes.fromhex(vector["root"]),
+            version=version,
+        )
         for caveat in caveats:
             macaroon.add_first_party_caveat(caveat)
         assert macaroon.serialize() == vector[FORMS[version - 1]]
@@ -83,8 +108,14 @@ def test_pass_in_a_form(passtool, vector, form):
     text = vector[form]
     for other in FORMS:
         assert passtool("convert", "--form", other, given=text) == (0, vector[other] + "\n")
-    lines = [f"form {form}", f"location {shown(bytes_of(vector, 'location'))}", f"identifier {shown(bytes_of(vector, 'identifier'))}"]
-    lines += [f"caveat {n} {shown(caveat)}" for n, caveat in enumerate(caveats_of(vector), 1)] + [f"signature {vector['signature']}"]
+    lines = [
+        f"form {form}",
+        f"location {shown(bytes_of(vector, 'location'))}",
+        f"identifier {shown(bytes_of(vector, 'identifier'))}",
+    ]
+    lines += [f"caveat {n} {shown(caveat)}" for n, caveat in enumerate(caveats_of(vector), 1)] + [
+        f"signature {vector['signature']}"
+    ]
     assert passtool("show", given=text) == (0, "\n".join(lines) + "\n")
     if "root" not in vector:
         return
@@ -97,10 +128,21 @@ def test_pass_in_a_form(passtool, vector, form):
 @each(OF_WORDS)
 def test_pass_is_minted_and_narrowed(passtool, vector, form):
     location, identifier, *caveats = texts_of(vector)
-    words = ["--root", vector["root"], f"--id={identifier}", f"--location={location}", "--form", form, "--"]
+    words = [
+        "--root",
+        vector["root"],
+        f"--id={identifier}",
+        f"--location={location}",
+        "--form",
+        form,
+        "--",
+    ]
     assert passtool("mint", *words, *caveats) == (0, vector[form] + "\n")
     if caveats:
-        assert passtool("narrow", "--any", "--", *caveats, given=passtool("mint", *words)[1]) == (0, vector[form] + "\n")
+        assert passtool("narrow", "--any", "--", *caveats, given=passtool("mint", *words)[1]) == (
+            0,
+            vector[form] + "\n",
+        )
 
 
 @each(VECTORS["also read as the third pass"])
@@ -118,7 +160,10 @@ def test_text_that_is_no_pass(passtool, vector):
 def made(clubdesk, tmp_path_factory):
     """Makes the club of the vectors. `amy` is the pass that the club's first add-key command prints."""
     club = Club(clubdesk, tmp_path_factory.mktemp("made") / "club")
-    printed = [club.does(command.removeprefix("clubdesk ").replace(" CLUB", "")) for command in VECTORS["club"]["commands"]]
+    printed = [
+        club.does(command.removeprefix("clubdesk ").replace(" CLUB", ""))
+        for command in VECTORS["club"]["commands"]
+    ]
     club.amy = next(it for it in printed if it != "done")
     return club
 
@@ -135,7 +180,9 @@ def verdict(passtool, club, amy, caveat, asked):
 @pytest.mark.parametrize("name", VECTORS["asks"])
 @each(VECTORS["caveats"])
 def test_verdict_on_a_caveat(passtool, club, made, vector, name):
-    assert verdict(passtool, club, made.amy, vector["caveat"], VECTORS["asks"][name]) == vector[name]
+    assert (
+        verdict(passtool, club, made.amy, vector["caveat"], VECTORS["asks"][name]) == vector[name]
+    )
 
 
 @pytest.mark.parametrize("name", ["book", "account"])
@@ -146,7 +193,9 @@ def test_caveat_that_is_not_understood(passtool, club, made, vector, name):
 
 
 def row_of(exchange):
-    return Row(raw=exchange["request"].encode(), moment=exchange["at"], wanted=exchange["reply"].encode())
+    return Row(
+        raw=exchange["request"].encode(), moment=exchange["at"], wanted=exchange["reply"].encode()
+    )
 
 
 @each(VECTORS["runs"])
@@ -158,7 +207,11 @@ def command_of(step):
     """Returns the command of a step, with the output or the refusal that it must print."""
     _, name, _, *values = step["command"].split()
     is_refused = step["prints"].startswith("refused: ")
-    return Command((name, *values), "" if is_refused else step["prints"] + "\n", step["prints"] if is_refused else "")
+    return Command(
+        (name, *values),
+        "" if is_refused else step["prints"] + "\n",
+        step["prints"] if is_refused else "",
+    )
 
 
 @pytest.mark.parametrize("is_served", [False, True], ids=["file", "door"])

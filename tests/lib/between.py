@@ -10,8 +10,17 @@ import desk
 
 # The ways in which a request can fail. In each case the client doesn't get the desk's complete reply, although the desk may have carried out the
 # request.
-FAILURES = ["silent", "answer 502 <html>bad gateway</html>", "answer 504 <html>gateway timeout</html>", "answer 200 <html>a page</html>",
-            'answer 500 {"error":"proxy"}', 'answer 503 {"fault":22,"text":"unavailable"}', "swallowed", "head-cut", "body-cut"]
+FAILURES = [
+    "silent",
+    "answer 502 <html>bad gateway</html>",
+    "answer 504 <html>gateway timeout</html>",
+    "answer 200 <html>a page</html>",
+    'answer 500 {"error":"proxy"}',
+    'answer 503 {"fault":22,"text":"unavailable"}',
+    "swallowed",
+    "head-cut",
+    "body-cut",
+]
 CUT_AT = {"swallowed": 0, "head-cut": 40, "body-cut": -5}  # where the desk's reply is cut
 
 
@@ -61,9 +70,13 @@ class Between:
         kind, _, detail = fate.partition(" ")
         if kind == "answer":
             status, body = detail.split(" ", 1)
-            client.sendall(f"HTTP/1.1 {status} X\r\nContent-Length: {len(body)}\r\nConnection: close\r\n\r\n{body}".encode())
+            client.sendall(
+                f"HTTP/1.1 {status} X\r\nContent-Length: {len(body)}\r\nConnection: close\r\n\r\n{body}".encode()
+            )
         elif kind != "silent":
             time.sleep(float(detail) if kind == "slow" else 0)
             reply = desk.exchange(self.desk_port, request) or b""
-            time.sleep(float(detail) if kind == "late" else 0)  # the desk carries out the request, but the reply comes late
-            client.sendall(reply[:CUT_AT.get(kind)])
+            time.sleep(
+                float(detail) if kind == "late" else 0
+            )  # the desk carries out the request, but the reply comes late
+            client.sendall(reply[: CUT_AT.get(kind)])

@@ -20,7 +20,12 @@ from datetime import datetime, timedelta, timezone
 import desk
 from page_browser import Browser, check
 
-TOP, DESK, TOOL, ROOM = desk.ROOT, desk.program("clubdesk"), desk.program("passtool"), tempfile.TemporaryDirectory()
+TOP, DESK, TOOL, ROOM = (
+    desk.ROOT,
+    desk.program("clubdesk"),
+    desk.program("passtool"),
+    tempfile.TemporaryDirectory(),
+)
 PICTURES = os.path.abspath(sys.argv[1]) if sys.argv[1:] else ROOM.name
 KILLS, BOOKINGS = int(os.environ.get("KILLS", "30")), int(os.environ.get("BOOKINGS", "200"))
 os.environ["PATH"] = f"/usr/sbin:/sbin:{os.environ['PATH']}"
@@ -32,9 +37,14 @@ draw = random.Random(20260501)
 AHEAD = 12 - datetime.now(timezone.utc).hour
 ZONE = f"Etc/GMT{-AHEAD:+d}" if AHEAD else "Etc/GMT"
 RULE = f"<{AHEAD:+03d}>{-AHEAD}" if AHEAD else "GMT0"
-FACILITIES = [("court-1", "Court 1", "court", 4, 200, 8, 22), ("court-2", "Court 2", "court", 4, 200, 8, 22),
-              ("court-3", "Court 3 (indoor)", "court", 2, 300, 8, 22), ("boat-1", "Double scull", "boat", 2, 150, 6, 22),
-              ("boat-2", "Coxed four", "boat", 4, 250, 6, 22), ("room-1", None, "room", 1, 601, 8, 22)]
+FACILITIES = [
+    ("court-1", "Court 1", "court", 4, 200, 8, 22),
+    ("court-2", "Court 2", "court", 4, 200, 8, 22),
+    ("court-3", "Court 3 (indoor)", "court", 2, 300, 8, 22),
+    ("boat-1", "Double scull", "boat", 2, 150, 6, 22),
+    ("boat-2", "Coxed four", "boat", 4, 250, 6, 22),
+    ("room-1", None, "room", 1, 601, 8, 22),
+]
 FILES = ("book.html", "pass.html", "demo.html", "worker.js", "app.webmanifest")
 CELLS = sum(shuts - opens for *_, opens, shuts in FACILITIES)
 
@@ -57,7 +67,9 @@ class Server(desk.Server):
 
     def asked(self):
         """Returns the number of requests with each method and path, from the server's log."""
-        return Counter(tuple(line.split()[1:3]) for line in self.log.read_text(encoding="utf-8").splitlines())
+        return Counter(
+            tuple(line.split()[1:3]) for line in self.log.read_text(encoding="utf-8").splitlines()
+        )
 
 
 def start_proxy(upstream, rate=5000, burst=5000):
@@ -67,16 +79,32 @@ def start_proxy(upstream, rate=5000, burst=5000):
     front = desk.free_port()
     site = pathlib.Path(TOP, "deploy/nginx.conf").read_text()
     here = os.getcwd()
-    for old, new in [("/etc/ssl/clubdesk/", f"{here}/"), (":8080", f":{upstream}"), ("/usr/share/clubdesk/web", f"{here}/www"), ("/var/www/club;", f"{here}/www;"),
-                     *([("rate=400r/s", f"rate={rate}r/s"), ("rate=200r/s", f"rate={rate}r/s"), ("burst=2000", f"burst={burst}"), ("burst=1000", f"burst={burst}")]
-                       if rate else []),
-                     ("    listen [::]:443 ssl http2;\n", ""), ("listen 443", f"listen 127.0.0.1:{front}")]:
+    for old, new in [
+        ("/etc/ssl/clubdesk/", f"{here}/"),
+        (":8080", f":{upstream}"),
+        ("/usr/share/clubdesk/web", f"{here}/www"),
+        ("/var/www/club;", f"{here}/www;"),
+        *(
+            [
+                ("rate=400r/s", f"rate={rate}r/s"),
+                ("rate=200r/s", f"rate={rate}r/s"),
+                ("burst=2000", f"burst={burst}"),
+                ("burst=1000", f"burst={burst}"),
+            ]
+            if rate
+            else []
+        ),
+        ("    listen [::]:443 ssl http2;\n", ""),
+        ("listen 443", f"listen 127.0.0.1:{front}"),
+    ]:
         check(old in site, "the repository's configuration has no", old)
         site = site.replace(old, new)
     name = f"{here}/nginx-{front}"
     pathlib.Path(f"{name}.site").write_text(site)
-    pathlib.Path(f"{name}.conf").write_text(f"user root;\npid {name}.pid;\nerror_log {here}/error.log;\nevents {{}}\n"
-                                            f"http {{ include {name}.site; }}\n")
+    pathlib.Path(f"{name}.conf").write_text(
+        f"user root;\npid {name}.pid;\nerror_log {here}/error.log;\nevents {{}}\n"
+        f"http {{ include {name}.site; }}\n"
+    )
     run_proxy(front)
     return front
 
@@ -85,7 +113,9 @@ PROXIES = {}  # by port
 
 
 def run_proxy(front):
-    PROXIES[front] = subprocess.Popen(["nginx", "-c", os.path.abspath(f"nginx-{front}.conf"), "-g", "daemon off;"])
+    PROXIES[front] = subprocess.Popen(
+        ["nginx", "-c", os.path.abspath(f"nginx-{front}.conf"), "-g", "daemon off;"]
+    )
     atexit.register(PROXIES[front].terminate)
     for _ in range(100):
         with contextlib.suppress(OSError), socket.create_connection(("127.0.0.1", front)):
@@ -109,7 +139,14 @@ def printed(*words, given=None):
 def refused(fault, *words, given=None, **variables):
     """Checks that a command ends with status 1, prints no output, and writes a line on standard error that matches `fault`."""
     found = desk.command(*words, text=given, env={**os.environ, **variables})
-    check(found[:2] == (1, "") and re.search(fault, found[2]), "a refusal", words, given, variables, found)
+    check(
+        found[:2] == (1, "") and re.search(fault, found[2]),
+        "a refusal",
+        words,
+        given,
+        variables,
+        found,
+    )
 
 
 def office(command, *words):
@@ -122,8 +159,18 @@ def narrowed(text, *lines):
 
 def fetched(front, path, *words):
     """Returns curl's output for a path behind the proxy."""
-    return printed("curl", "-sS", "--noproxy", "*", "--cacert", "certificate.pem", "--resolve", f"desk.example.org:{front}:127.0.0.1", *words,
-                   f"https://desk.example.org:{front}{path}")
+    return printed(
+        "curl",
+        "-sS",
+        "--noproxy",
+        "*",
+        "--cacert",
+        "certificate.pem",
+        "--resolve",
+        f"desk.example.org:{front}:127.0.0.1",
+        *words,
+        f"https://desk.example.org:{front}{path}",
+    )
 
 
 def rows(question, *values):
@@ -144,11 +191,39 @@ def make_club():
     office("credit", "carol", 9000)
     for name, _, *rest in FACILITIES:
         office("add-facility", name, *rest)
-    for place, (key, member) in enumerate([("amy-1", "amy"), ("amy-phone", "amy"), ("bob-1", "bob"), ("bob-2", "bob"), ("hall-screen", "hall"),
-                                           ("kill-1", "amy"), ("amy-son", "amy"), ("other", "amy"), ("carol-1", "carol"),
-                                           ("fails-1", "amy"), ("ends-1", "amy"), ("tabs-1", "amy"), ("browser-1", "amy"), ("full-1", "amy"), ("lists-1", "amy"), ("amy-lend-1", "amy"), ("amy-lend-2", "amy"),
-                                           ("hand-1", "amy"), ("counts-1", "amy"), ("engine-1", "amy"), ("engine-2", "amy"), ("more-1", "amy"),
-                                           *((f"{key}{place}", "amy") for place in range(3) for key in ("minute-", "minute-lend-")), ("engine-lend-1", "amy"), ("engine-lend-2", "amy")]):
+    for place, (key, member) in enumerate(
+        [
+            ("amy-1", "amy"),
+            ("amy-phone", "amy"),
+            ("bob-1", "bob"),
+            ("bob-2", "bob"),
+            ("hall-screen", "hall"),
+            ("kill-1", "amy"),
+            ("amy-son", "amy"),
+            ("other", "amy"),
+            ("carol-1", "carol"),
+            ("fails-1", "amy"),
+            ("ends-1", "amy"),
+            ("tabs-1", "amy"),
+            ("browser-1", "amy"),
+            ("full-1", "amy"),
+            ("lists-1", "amy"),
+            ("amy-lend-1", "amy"),
+            ("amy-lend-2", "amy"),
+            ("hand-1", "amy"),
+            ("counts-1", "amy"),
+            ("engine-1", "amy"),
+            ("engine-2", "amy"),
+            ("more-1", "amy"),
+            *(
+                (f"{key}{place}", "amy")
+                for place in range(3)
+                for key in ("minute-", "minute-lend-")
+            ),
+            ("engine-lend-1", "amy"),
+            ("engine-lend-2", "amy"),
+        ]
+    ):
         passes[key] = office("add-key", key, member, f"{place:02x}" + ROOT)
     return passes
 
@@ -156,7 +231,15 @@ def make_club():
 def club_list(titles):
     """Returns the club's list of facilities, which deploy/club_json makes with these titles."""
     pathlib.Path("titles").write_text(titles)
-    return printed("env", f"RULE={RULE}", "CLUB=Rowing & tennis", "TITLES=titles", f"{TOP}/deploy/club_json", "club", ZONE)
+    return printed(
+        "env",
+        f"RULE={RULE}",
+        "CLUB=Rowing & tennis",
+        "TITLES=titles",
+        f"{TOP}/deploy/club_json",
+        "club",
+        ZONE,
+    )
 
 
 # ---- The browser
@@ -188,18 +271,34 @@ const pressIn = (root, words) => {
 class BookingPage(Browser):
     helpers = HELPERS
 
-    def __init__(self, front, before="", language="en-US", words=(), zone="America/New_York", letters=16):
+    def __init__(
+        self, front, before="", language="en-US", words=(), zone="America/New_York", letters=16
+    ):
         self.front, self.address = front, f"https://desk.example.org:{front}/book.html"
-        super().__init__(rules="MAP desk.example.org 127.0.0.1, MAP * ~NOTFOUND", before=before, language=language,
-                         words=["ignore-certificate-errors", *words], letters=letters)
+        super().__init__(
+            rules="MAP desk.example.org 127.0.0.1, MAP * ~NOTFOUND",
+            before=before,
+            language=language,
+            words=["ignore-certificate-errors", *words],
+            letters=letters,
+        )
         self.driver.set_script_timeout(120)
         self.command("Emulation.setTimezoneOverride", timezoneId=zone)
 
     def when(self, condition, *what, limit=90):
-        found = self.driver.execute_async_script(self.helpers + f"""
+        found = self.driver.execute_async_script(
+            self.helpers
+            + f"""
             const done = arguments[0];
-            settled(() => {condition}, {limit * 1000}).then(done);""")
-        check(found, *what, condition, self.run("return document.body.innerText"), self.driver.get_log("browser"))
+            settled(() => {condition}, {limit * 1000}).then(done);"""
+        )
+        check(
+            found,
+            *what,
+            condition,
+            self.run("return document.body.innerText"),
+            self.driver.get_log("browser"),
+        )
 
     def visit(self, end, condition, *what):
         """Opens the page's address with `end` appended, and waits until the condition holds."""
@@ -221,7 +320,12 @@ class BookingPage(Browser):
 
     def offer(self, facility, hour):
         """Presses a slot's button as soon as the page has enabled it."""
-        self.when(f"!cellAt('{facility}', {hour}).button.disabled", "a slot that can be pressed", facility, hour)
+        self.when(
+            f"!cellAt('{facility}', {hour}).button.disabled",
+            "a slot that can be pressed",
+            facility,
+            hour,
+        )
         self.run("cellAt(...arguments).button.click()", facility, hour)
 
     def press(self, words, root="dialog"):
@@ -248,7 +352,10 @@ class BookingPage(Browser):
         return self.entries()[-1]
 
     def cancelled(self, number, *what):
-        self.run("offerCancellation(ownEntries().find((each) => each.number === arguments[0]), () => {})", number)
+        self.run(
+            "offerCancellation(ownEntries().find((each) => each.number === arguments[0]), () => {})",
+            number,
+        )
         self.press("Cancel the booking")
         self.comes("came back", "a cancellation", *what)
 
@@ -261,41 +368,65 @@ class BookingPage(Browser):
     def cancelled_at(self, entry, facility):
         """Cancels a booking with a request to the desk, as another browser with the same pass would."""
         text = self.run("return state.text")
-        fetched(self.front, f"/slots/{facility}/{entry['day']}/{entry['hour']:02}/bookings/{entry['number']}", "-X", "DELETE", "-H", f"Authorization: Bearer {text}")
+        fetched(
+            self.front,
+            f"/slots/{facility}/{entry['day']}/{entry['hour']:02}/bookings/{entry['number']}",
+            "-X",
+            "DELETE",
+            "-H",
+            f"Authorization: Bearer {text}",
+        )
 
     def cancelled_in_the_list(self, *what, asked="", words="came back"):
         """Cancels the first future booking in the page's list. The dialog's question must contain `asked`, and its answer must contain `words`."""
         self.view("bookings")
-        self.run("[...byName('to-come').querySelectorAll('.booked button, .listed button')].find((each) => each.textContent === 'Cancel').click()")
+        self.run(
+            "[...byName('to-come').querySelectorAll('.booked button, .listed button')].find((each) => each.textContent === 'Cancel').click()"
+        )
         check(asked in self.run("return dialogText()"), *what, self.run("return dialogText()"))
         self.press("Cancel the booking")
         self.comes(words, *what)
 
     def entries(self):
-        return self.driver.execute_async_script("""
+        return self.driver.execute_async_script(
+            """
             const done = arguments[0];
-            state.store.all().then((entries) => done(entries.sort((a, b) => a.asked - b.asked)));""")
+            state.store.all().then((entries) => done(entries.sort((a, b) => a.asked - b.asked)));"""
+        )
 
     def view(self, name):
         self.run("byName(`to-${arguments[0]}`).click()", name)
 
     def requests(self):
         """Returns the methods and addresses of the network requests since the last call."""
-        messages = [json.loads(entry["message"])["message"] for entry in self.driver.get_log("performance")]
-        sent = [each["params"]["request"] for each in messages if each["method"] == "Network.requestWillBeSent"]
+        messages = [
+            json.loads(entry["message"])["message"] for entry in self.driver.get_log("performance")
+        ]
+        sent = [
+            each["params"]["request"]
+            for each in messages
+            if each["method"] == "Network.requestWillBeSent"
+        ]
         return [(each["method"], each["url"]) for each in sent]
 
     def complaints(self):
         """Returns the lines of the browser's console, except those about refused requests and lost connections."""
-        return [each["message"] for each in self.driver.get_log("browser") if "the server responded with a status" not in each["message"]
-                and "net::ERR_" not in each["message"]]
+        return [
+            each["message"]
+            for each in self.driver.get_log("browser")
+            if "the server responded with a status" not in each["message"]
+            and "net::ERR_" not in each["message"]
+        ]
 
 
 def amounts(key):
     """Returns the bookings of a key in the file, by number. Each booking is a tuple of its facility, day, hour, guests, charge, places left,
     cancellation and refund."""
-    found = rows("SELECT number, facility, date(day * 86400, 'unixepoch'), hour, guests, charge, remains, cancelled, refund FROM bookings "
-                 "WHERE pass_key = ?", key)
+    found = rows(
+        "SELECT number, facility, date(day * 86400, 'unixepoch'), hour, guests, charge, remains, cancelled, refund FROM bookings "
+        "WHERE pass_key = ?",
+        key,
+    )
     return {number: tuple(rest) for number, *rest in found}
 
 
@@ -307,15 +438,30 @@ def recorded(entries, key):
         if each["key"] != key or "fault" in (each["book"] or {}):
             continue
         listed = each.get("listed", {})
-        said, gone = each["book"] if "charge" in each["book"] else listed, each.get("cancel") or listed
-        found[each["number"]] = (each["facility"], each["day"], each["hour"], each["guests"], said["charge"], said["left"],
-                                 int("cancel" in each or "refund" in listed), gone.get("refund", 0))
+        said, gone = (
+            each["book"] if "charge" in each["book"] else listed,
+            each.get("cancel") or listed,
+        )
+        found[each["number"]] = (
+            each["facility"],
+            each["day"],
+            each["hour"],
+            each["guests"],
+            said["charge"],
+            said["left"],
+            int("cancel" in each or "refund" in listed),
+            gone.get("refund", 0),
+        )
     return found
 
 
 def same_record(page, key):
     found, wanted = recorded(page.entries(), key), amounts(key)
-    check(found == wanted, "the record and the file differ", sorted(set(found.items()) ^ set(wanted.items())))
+    check(
+        found == wanted,
+        "the record and the file differ",
+        sorted(set(found.items()) ^ set(wanted.items())),
+    )
     return len(found)
 
 
@@ -329,7 +475,17 @@ def totals_are_sums():
 
 
 def curl(page, method, path, text, body=None):
-    return fetched(page.front, path, "-w", " %{http_code}", "-X", method, "-H", f"Authorization: Bearer {text}", *(["-d", body] if body else []))
+    return fetched(
+        page.front,
+        path,
+        "-w",
+        " %{http_code}",
+        "-X",
+        method,
+        "-H",
+        f"Authorization: Bearer {text}",
+        *(["-d", body] if body else []),
+    )
 
 
 def unasked(server, before):
@@ -341,13 +497,15 @@ def cancel_by_office(server, entry, key, member):
     """Cancels a booking in the file and refunds the whole charge, as deploy/office does."""
     server.kill()
     with contextlib.closing(sqlite3.connect("club")) as club:
-        club.executescript(f"""
+        club.executescript(
+            f"""
             BEGIN IMMEDIATE;
             UPDATE members SET used = used - {entry['book']['charge']} WHERE name = '{member}';
             UPDATE slots SET taken = taken - {entry['guests'] + 1} WHERE facility = '{entry['facility']}' AND day = strftime('%s', '{entry['day']}') / 86400
                 AND hour = {entry['hour']};
             UPDATE bookings SET cancelled = 1, refund = charge WHERE pass_key = '{key}' AND number = {entry['number']};
-            COMMIT;""")
+            COMMIT;"""
+        )
     server.start()
 
 
@@ -360,6 +518,7 @@ def page_date(text, year=False):
     its_day = datetime.strptime(text, "%Y-%m-%d")
     return f"{its_day:%A} {its_day.day} {its_day:%B}" + (f" {its_day.year}" if year else "")
 
+
 DAY_THERE = "document.getElementById('progress').hidden && shown('looked').includes(':')"
 
 
@@ -368,13 +527,21 @@ def slot_path(title, hour):
 
 
 def goes_to(engine, wanted):
-    engine.run("const field = document.getElementById('day-field'); field.value = arguments[0]; field.dispatchEvent(new Event('change'))", wanted)
-    engine.when(f"document.getElementById('day-field').value === '{wanted}' && {DAY_THERE}", "another day", wanted)
+    engine.run(
+        "const field = document.getElementById('day-field'); field.value = arguments[0]; field.dispatchEvent(new Event('change'))",
+        wanted,
+    )
+    engine.when(
+        f"document.getElementById('day-field').value === '{wanted}' && {DAY_THERE}",
+        "another day",
+        wanted,
+    )
 
 
 def engines():
     """Starts Firefox and then WebKitGTK. Yields the number of each browser, and the browser with the functions that the tests call in the page."""
     import page_engines
+
     for place, engine_of in enumerate((page_engines.Firefox, page_engines.WebKit)):
         with engine_of() as engine:
             engine.helpers = "const shown = (id) => document.getElementById(id).innerText.trim();"

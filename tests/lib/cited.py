@@ -74,7 +74,11 @@ class Contracts:
             *before, record = path.split("::")
             crate = before[0] if before else citation.crate
             found = self.defined(crate, record)
-            if not (found or self.texts_of_ghosts(crate, record)) or field and not any(field in it.parts for it in found):
+            if (
+                not (found or self.texts_of_ghosts(crate, record))
+                or field
+                and not any(field in it.parts for it in found)
+            ):
                 self.unknown.append(f"no definition {name}")
             yield name, self.with_ghosts(found)
 
@@ -84,7 +88,12 @@ class Contracts:
         while left:
             it = left.pop()
             if it.kind == "ghost":
-                new = {id(other): other for *_, below in self.book.standing_for(it) for other in below if id(other) not in found}
+                new = {
+                    id(other): other
+                    for *_, below in self.book.standing_for(it)
+                    for other in below
+                    if id(other) not in found
+                }
                 found |= new
                 left += new.values()
         return found.values()
@@ -93,7 +102,13 @@ class Contracts:
         return [file for key, file in self.book.code.items() if key.startswith(f"{crate}/")]
 
     def defined(self, crate, name):
-        specs = [it for file in self.book.specs.values() if file.crate == crate for it in (file.definitions.get(name),) if it]
+        specs = [
+            it
+            for file in self.book.specs.values()
+            if file.crate == crate
+            for it in (file.definitions.get(name),)
+            if it
+        ]
         return specs or [file.types[name] for file in self.files(crate) if name in file.types]
 
     def texts(self, crate, name, above, labels):
@@ -102,13 +117,24 @@ class Contracts:
         if " for " in name:
             return self.texts_of_implementation(crate, name)
         last = name.split("::")[-1]
-        places = self.places(crate, last, above) or (self.places(crate, last, None) if "::" not in name else [])
+        places = self.places(crate, last, above) or (
+            self.places(crate, last, None) if "::" not in name else []
+        )
         if places:
-            clauses = [(file, start, *clause[:2]) for file, start in places for clause in self.clauses(file, start)]
+            clauses = [
+                (file, start, *clause[:2])
+                for file, start in places
+                for clause in self.clauses(file, start)
+            ]
             found = [it for it in clauses if not labels or it[2] in labels or it[2] == "requires"]
             return None if set(labels) - {it[2] for it in found} else found
         if self.defined(crate, last):
-            return [(file, at, "", last) for file in self.files(crate) if last in file.types for at in (file.text.find(f" {last}"),)]
+            return [
+                (file, at, "", last)
+                for file in self.files(crate)
+                if last in file.types
+                for at in (file.text.find(f" {last}"),)
+            ]
         return self.texts_of_ghosts(crate, last)
 
     def places(self, crate, function, above):
@@ -117,13 +143,21 @@ class Contracts:
         for file in self.files(crate):
             for it in re.finditer(rf"{FUNCTION}{function}\b", file.text, re.MULTILINE):
                 head = file.block_around(it.start())[0]
-                if above is None or (above == file.place.split(".")[-1] if above[0].islower() else re.search(rf"\b{owner}\b", head)):
+                if above is None or (
+                    above == file.place.split(".")[-1]
+                    if above[0].islower()
+                    else re.search(rf"\b{owner}\b", head)
+                ):
                     found.append((file, it.start()))
         return found
 
     def behind_alias(self, crate, name):
         """If a `type` alias has this name, returns the name of the aliased type. Otherwise returns the name itself."""
-        found = [it[1] for file in self.files(crate) for it in re.finditer(rf"^pub type {name}\b[^=]*= (\w+)", file.text, re.MULTILINE)]
+        found = [
+            it[1]
+            for file in self.files(crate)
+            for it in re.finditer(rf"^pub type {name}\b[^=]*= (\w+)", file.text, re.MULTILINE)
+        ]
         return found[0] if found else name
 
     @staticmethod
@@ -131,28 +165,48 @@ class Contracts:
         """Yields (label, text) for each clause after a function's head."""
         inner = file.block_around(start)[0]
         body = file.text.find("\n    {\n" if inner else "\n{\n", start)
-        following = re.compile(f"{FUNCTION}\\w", re.MULTILINE).search(file.text, file.text.find("(", start))
-        stop = min(it for it in (body, following.start() if following else -1, len(file.text)) if it > 0)
+        following = re.compile(f"{FUNCTION}\\w", re.MULTILINE).search(
+            file.text, file.text.find("(", start)
+        )
+        stop = min(
+            it for it in (body, following.start() if following else -1, len(file.text)) if it > 0
+        )
         at = start
         while it := re.compile(r"(requires|ensures)( [a-z_0-9]+)? \{").search(file.text, at, stop):
             at = file.block_end(it.end() - 1)
-            yield "requires" if it[1] == "requires" else (it[2] or "").strip(), file.text[it.end() : at - 1]
+            yield "requires" if it[1] == "requires" else (it[2] or "").strip(), file.text[
+                it.end() : at - 1
+            ]
 
     def texts_of_implementation(self, crate, name):
         trait, owner = name.split(" for ")
         found = None
         for file in self.files(crate):
-            for it in re.finditer(rf"^impl\b[^{{]*\b{trait}\b[^{{]* for [^{{]*\b{owner}\b[^{{]*\{{", file.text, re.MULTILINE):
+            for it in re.finditer(
+                rf"^impl\b[^{{]*\b{trait}\b[^{{]* for [^{{]*\b{owner}\b[^{{]*\{{",
+                file.text,
+                re.MULTILINE,
+            ):
                 block = file.text[it.start() : file.block_end(it.start())]
                 found = found or []
-                found += [(file, it.start() + ghost.start(), ghost[1], ghost[2])
-                          for ghost in re.finditer(r"\bghost (\w+) = \{\s*(.*?)\s*\};", block, re.DOTALL)]
-                found += [(file, it.start() + function.start(), *clause) for function in re.finditer(f"{FUNCTION}\\w", block, re.MULTILINE)
-                          for clause in self.clauses(file, it.start() + function.start())]
+                found += [
+                    (file, it.start() + ghost.start(), ghost[1], ghost[2])
+                    for ghost in re.finditer(r"\bghost (\w+) = \{\s*(.*?)\s*\};", block, re.DOTALL)
+                ]
+                found += [
+                    (file, it.start() + function.start(), *clause)
+                    for function in re.finditer(f"{FUNCTION}\\w", block, re.MULTILINE)
+                    for clause in self.clauses(file, it.start() + function.start())
+                ]
         return found
 
     def texts_of_ghosts(self, crate, name):
         """Returns the type of a trait's ghost with this name, and the values that types give to the ghost."""
-        found = [(file, it.start(), name, it[1]) for file in self.files(crate)
-                 for it in re.finditer(rf"\bghost {name}(?: =|:) \{{\s*(.*?)\s*\}}[;,]", file.text, re.DOTALL)]
+        found = [
+            (file, it.start(), name, it[1])
+            for file in self.files(crate)
+            for it in re.finditer(
+                rf"\bghost {name}(?: =|:) \{{\s*(.*?)\s*\}}[;,]", file.text, re.DOTALL
+            )
+        ]
         return found or None

@@ -6,7 +6,17 @@ nor built in. Callers can report these words."""
 import re
 from functools import cached_property
 
-from spec_files import CRATES, Definition, ROOT, Scope, SpecsFile, Walk, imports_in, tokens_of, without_comments
+from spec_files import (
+    CRATES,
+    Definition,
+    ROOT,
+    Scope,
+    SpecsFile,
+    Walk,
+    imports_in,
+    tokens_of,
+    without_comments,
+)
 
 
 class CodeFile:
@@ -20,14 +30,25 @@ class CodeFile:
         self.raw = path.read_text(encoding="utf-8")
         self.text = without_comments(self.raw, "//")
         self.types = {}
-        for found in re.finditer(r"^(?: *)(?:pub(?:\([a-z]+\))? )?(struct|enum|trait|type) (\w+)([^\n]*)", self.text, re.MULTILINE):
+        for found in re.finditer(
+            r"^(?: *)(?:pub(?:\([a-z]+\))? )?(struct|enum|trait|type) (\w+)([^\n]*)",
+            self.text,
+            re.MULTILINE,
+        ):
             self.types[found[2]] = self.type_at(found)
 
     def type_at(self, found):
         kind, name = found[1], found[2]
         end = self.block_end(found.start())
-        text = self.text[found.start():end]
-        it = Definition(f"{self.crate}.specs.declared.{self.place}.{name}", name, "type", self.path, self.line_of(found.start()), text)
+        text = self.text[found.start() : end]
+        it = Definition(
+            f"{self.crate}.specs.declared.{self.place}.{name}",
+            name,
+            "type",
+            self.path,
+            self.line_of(found.start()),
+            text,
+        )
         it.rust_kind = kind
         if kind == "trait":
             # Each ghost of a trait has a separate definition.
@@ -55,10 +76,12 @@ class CodeFile:
     def block_around(self, at):
         """Returns the `impl` or `trait` around a place, as (head, text). Returns two empty texts if the place is at the top level of the file."""
         best = ("", "")
-        for found in re.finditer(r"^(?:pub(?:\([a-z]+\))? )?(?:impl|trait)\b[^{]*\{", self.text, re.MULTILINE):
+        for found in re.finditer(
+            r"^(?:pub(?:\([a-z]+\))? )?(?:impl|trait)\b[^{]*\{", self.text, re.MULTILINE
+        ):
             end = self.block_end(found.start())
             if found.start() < at < end:
-                best = (found[0], self.text[found.start():end])
+                best = (found[0], self.text[found.start() : end])
         return best
 
     def scope_at(self, at):
@@ -83,7 +106,9 @@ class CodeFile:
     def uses(self):
         """Returns a dict of the names that `use` imports. The key is the name in this file, and the value is (crate, name in the crate)."""
         found = {}
-        for line in re.finditer(r"^(?:pub(?:\([a-z]+\))? )?use ((?:[^;])*);", self.text, re.MULTILINE):
+        for line in re.finditer(
+            r"^(?:pub(?:\([a-z]+\))? )?use ((?:[^;])*);", self.text, re.MULTILINE
+        ):
             for crate, name, here in flat(line[1]):
                 found[here] = (self.crate if crate in ("crate", "self", "super") else crate, name)
         return found
@@ -98,12 +123,20 @@ class CodeFile:
             return self.types[name]
         if name in self.uses:
             crate, there = self.uses[name]
-            return self.book.type_named(crate, there) if crate in self.book.crates else self.book.look(crate, there)
+            return (
+                self.book.type_named(crate, there)
+                if crate in self.book.crates
+                else self.book.look(crate, there)
+            )
         return self.book.constant(self, name)
 
     def clauses(self, name, owner=None):
         """Returns the place of a function's `fn` line, and the function's clauses as (`requires` or `ensures`, label, text, place)."""
-        for found in re.finditer(rf"^ *(?:pub(?:\([a-z]+\))? )?(?:final )?(?:extern \"C\" )?fn {name}\b", self.text, re.MULTILINE):
+        for found in re.finditer(
+            rf"^ *(?:pub(?:\([a-z]+\))? )?(?:final )?(?:extern \"C\" )?fn {name}\b",
+            self.text,
+            re.MULTILINE,
+        ):
             head = self.block_around(found.start())[0]
             if owner and not re.search(rf"\b{owner}\b", head.split(" for ")[-1]):
                 continue
@@ -113,12 +146,14 @@ class CodeFile:
             body = re.compile(r"(requires|ensures)( [a-z_0-9]+)? \{").search
             clauses = []
             stop = self.text.find("\n    {\n", at) if head else self.text.find("\n{\n", at)
-            while (it := body(self.text, at, stop if stop > 0 else len(self.text))):
+            while it := body(self.text, at, stop if stop > 0 else len(self.text)):
                 depth, end = 1, it.end()
                 while depth:
                     depth += (self.text[end] == "{") - (self.text[end] == "}")
                     end += 1
-                clauses.append((it[1], (it[2] or "").strip(), self.text[it.end():end - 1], it.start()))
+                clauses.append(
+                    (it[1], (it[2] or "").strip(), self.text[it.end() : end - 1], it.start())
+                )
                 at = end
             return found.start(), clauses
         raise KeyError(f"{self.path}: no function {name}")
@@ -149,8 +184,10 @@ class CodeFile:
                     if ghost:
                         walk.cited.append(ghost)
         walk.scopes[0].update(bounds)
-        signature = self.text[self.text.find("(", at):]
-        walk.scopes[0].update(re.findall(r"\b(?:mut )?([a-z_]+):", signature[: signature.find("ensures")]))
+        signature = self.text[self.text.find("(", at) :]
+        walk.scopes[0].update(
+            re.findall(r"\b(?:mut )?([a-z_]+):", signature[: signature.find("ensures")])
+        )
         # `⟦<TYPE as TRAIT>⟧.GHOST`
         for trait, name in re.findall(r"⟦<[^⟧]* as (\w+)>⟧\.(\w+)", text):
             walk.cited.append(self.book.ghost(self.rust_type(trait), name))
@@ -183,7 +220,9 @@ class Book:
 
     def __init__(self):
         self.specs, self.code, self.libraries, self.ghosts = {}, {}, {}, {}
-        self.crates = re.findall(r"^(\w+)[ :]", (ROOT / "crates.txt").read_text(encoding="utf-8"), re.MULTILINE)
+        self.crates = re.findall(
+            r"^(\w+)[ :]", (ROOT / "crates.txt").read_text(encoding="utf-8"), re.MULTILINE
+        )
         for crate in self.crates:
             for path in sorted((CRATES / crate / "specs").rglob("*.antt")):
                 it = SpecsFile(self, path)
@@ -234,11 +273,16 @@ class Book:
         return self.variant(it, name) if "TheVariants" in parts else it
 
     def constant(self, file, name):
-        found = re.search(rf"^(?:pub(?:\([a-z]+\))? )?(?:const|static) {name}\b[^;]*;", file.text, re.MULTILINE)
+        found = re.search(
+            rf"^(?:pub(?:\([a-z]+\))? )?(?:const|static) {name}\b[^;]*;", file.text, re.MULTILINE
+        )
         if not found:
             return None
         module = f"{file.crate}.specs.declared.{file.place}"
-        return self.ghosts.setdefault((module, name), Definition(module, name, "type", file.path, file.line_of(found.start()), found[0]))
+        return self.ghosts.setdefault(
+            (module, name),
+            Definition(module, name, "type", file.path, file.line_of(found.start()), found[0]),
+        )
 
     def variant(self, it, name):
         return Definition(it.module, name, "constructor", it.path, it.line, owner=it)
@@ -260,14 +304,23 @@ class Book:
         start = re.search(rf"^pub trait {trait.name}\b", file.text, re.MULTILINE)
         if not start:
             return None
-        found = re.compile(rf"^    ghost {name}: \{{", re.MULTILINE).search(file.text, start.start(), file.block_end(start.start()))
+        found = re.compile(rf"^    ghost {name}: \{{", re.MULTILINE).search(
+            file.text, start.start(), file.block_end(start.start())
+        )
         if not found:
             return None
         end = file.block_end(found.start())
-        it = Definition(trait.module, f"{trait.name}.{name}", "ghost", file.path, file.line_of(found.start()), file.text[found.start():end])
+        it = Definition(
+            trait.module,
+            f"{trait.name}.{name}",
+            "ghost",
+            file.path,
+            file.line_of(found.start()),
+            file.text[found.start() : end],
+        )
         self.ghosts[key] = it
         walk = Walk(file.scope_at(found.end()))
-        walk.expression(tokens_of(file.text[found.end():end - 1]))
+        walk.expression(tokens_of(file.text[found.end() : end - 1]))
         it.cited, it.unknown = walk.cited, walk.unknown
         return it
 
@@ -275,22 +328,31 @@ class Book:
         """Yields (type, file, value, definitions) for each of our own types that gives the ghost a value. The value depends on these definitions."""
         trait, name = ghost.name.split(".")
         for key, file in self.code.items():
-            if key.split("/")[0].endswith("_tests") or key.split("/")[0] in ("test_kit", "club_bench"):
+            if key.split("/")[0].endswith("_tests") or key.split("/")[0] in (
+                "test_kit",
+                "club_bench",
+            ):
                 continue
-            for found in re.finditer(rf"^impl\b[^{{]*\b{trait}(?:<[^{{]*>)? for (\w+)[^{{]*\{{", file.text, re.MULTILINE):
-                block = file.text[found.start():file.block_end(found.start())]
+            for found in re.finditer(
+                rf"^impl\b[^{{]*\b{trait}(?:<[^{{]*>)? for (\w+)[^{{]*\{{", file.text, re.MULTILINE
+            ):
+                block = file.text[found.start() : file.block_end(found.start())]
                 value = re.search(rf"\bghost {name} = \{{\s*(.*?)\s*\}};", block, re.DOTALL)
                 if value:
-                    yield found[1], file, value[1], closure(file.cited_by(found.start() + value.start(), value[1])[0])
+                    yield found[1], file, value[1], closure(
+                        file.cited_by(found.start() + value.start(), value[1])[0]
+                    )
 
     def resolve_type(self, file, it):
         """Finds the definitions that a type cites. If `Model` gives the type a value in contracts, these are the definitions in this value.
         Otherwise, these are the types of the fields."""
         if it.rust_kind == "trait":
             return
-        model = re.search(rf"^impl(?:<[^>]*>)? Model for {it.name}\b[^{{]*\{{", file.text, re.MULTILINE)
+        model = re.search(
+            rf"^impl(?:<[^>]*>)? Model for {it.name}\b[^{{]*\{{", file.text, re.MULTILINE
+        )
         if model:
-            block = file.text[model.start():file.block_end(model.start())]
+            block = file.text[model.start() : file.block_end(model.start())]
             scope = file.scope_at(model.end())
             for found in re.finditer(r"ghost (Value|view|invariant) = \{", block):
                 depth, end = 1, found.end()
@@ -298,7 +360,7 @@ class Book:
                     depth += (block[end] == "{") - (block[end] == "}")
                     end += 1
                 walk = Walk(scope)
-                walk.expression(tokens_of(block[found.end():end - 1]))
+                walk.expression(tokens_of(block[found.end() : end - 1]))
                 it.cited += walk.cited
                 it.unknown += walk.unknown
             if re.search(r"ghost Value = \{ [^}]*\}", block):

@@ -39,7 +39,10 @@ def library(name, folder):
     """Builds a library from its source in tests/lib, and returns the path for LD_PRELOAD."""
     path = Path(folder, name)
     if not path.exists():
-        subprocess.run(["cc", "-shared", "-fPIC", "-O1", "-o", path, TESTS / "lib" / f"{name}.c", "-ldl"], check=True)
+        subprocess.run(
+            ["cc", "-shared", "-fPIC", "-O1", "-o", path, TESTS / "lib" / f"{name}.c", "-ldl"],
+            check=True,
+        )
     return str(path)
 
 
@@ -50,7 +53,12 @@ def refused_in_turn(run, folder, step=1):
     counted, preload = Path(folder, "counted"), {"LD_PRELOAD": library("refused_memory", folder)}
     run(ALLOCATIONS_COUNTED=str(counted), **preload)
     with ThreadPoolExecutor(len(os.sched_getaffinity(0))) as pool:
-        return list(pool.map(lambda number: run(REFUSED_ALLOCATION=str(number), **preload), range(1, int(counted.read_text()) + 1, step)))
+        return list(
+            pool.map(
+                lambda number: run(REFUSED_ALLOCATION=str(number), **preload),
+                range(1, int(counted.read_text()) + 1, step),
+            )
+        )
 
 
 def limit_files(size):
@@ -66,12 +74,35 @@ class Server:
     `words` are additional options, and `by` is a command that runs the server. `variables` are additional environment variables, and `given` is the
     file that the server gets as its standard input. `file_limit` is the greatest size of the server's files, in bytes. After a block without an
     exception, the server's status must be `status`, unless the test killed the server. If `count` is None, the end of the block kills the server. The
-    file `log` has the server's standard error. If the block ends with an exception, the context manager prints the log."""
+    file `log` has the server's standard error. If the block ends with an exception, the context manager prints the log.
+    """
 
     killed_by = signal.SIGKILL
 
-    def __init__(self, desk, file, count, *words, variables=None, given="/dev/null", file_limit=None, status=0, port=0, by=()):
-        self.command = [*by, desk, "serve", str(file), "--port", str(port), "--count", str(count or 1_000_000), *words]
+    def __init__(
+        self,
+        desk,
+        file,
+        count,
+        *words,
+        variables=None,
+        given="/dev/null",
+        file_limit=None,
+        status=0,
+        port=0,
+        by=(),
+    ):
+        self.command = [
+            *by,
+            desk,
+            "serve",
+            str(file),
+            "--port",
+            str(port),
+            "--count",
+            str(count or 1_000_000),
+            *words,
+        ]
         self.log = Path(f"{file}.log")
         self.variables, self.given = {**os.environ, **(variables or {})}, given
         self.limits = (lambda: limit_files(file_limit)) if file_limit else None
@@ -79,8 +110,15 @@ class Server:
 
     def __enter__(self):
         with open(self.log, "ab") as log, open(self.given, "rb") as given:
-            self.process = subprocess.Popen(self.command, stdout=subprocess.PIPE, stderr=log, stdin=given,
-                                            env=self.variables, preexec_fn=self.limits, restore_signals=False)
+            self.process = subprocess.Popen(
+                self.command,
+                stdout=subprocess.PIPE,
+                stderr=log,
+                stdin=given,
+                env=self.variables,
+                preexec_fn=self.limits,
+                restore_signals=False,
+            )
         line = self.process.stdout.readline().decode()
         if not line.startswith("listening on 127.0.0.1:"):
             raise AssertionError(f"no server: status {self.process.wait()}, {self.log.read_text()}")
@@ -160,7 +198,9 @@ def exchange(port, data, seconds=30):
 
 def command(desk, *words, text=None, **more):
     """Runs `clubdesk`, or another program, with `text` as its input. Returns the status, the output and the standard error."""
-    done = subprocess.run([desk, *map(str, words)], capture_output=True, input=text, text=True, check=False, **more)
+    done = subprocess.run(
+        [desk, *map(str, words)], capture_output=True, input=text, text=True, check=False, **more
+    )
     return done.returncode, done.stdout, done.stderr
 
 
@@ -208,7 +248,8 @@ def add_past_bookings(file, count, root):
     Each total stays the sum of its rows."""
     thousand = "WITH n(i) AS (SELECT 0 UNION ALL SELECT i + 1 FROM n WHERE i < 999)"
     with opened(file) as database:
-        database.executescript(f"""BEGIN;
+        database.executescript(
+            f"""BEGIN;
             {thousand} INSERT INTO members SELECT printf('x%03d', i), 900000, 99, 0 FROM n;
             {thousand} INSERT INTO keys SELECT printf('x%03d', i), printf('x%03d', i), x'{root}', 0 FROM n;
             INSERT INTO facilities VALUES ('old-court', 'court', 50, 1, 0, 24);
@@ -216,7 +257,8 @@ def add_past_bookings(file, count, root):
                 SELECT printf('x%03d', i % 1000), i / 1000 + 1, 'old-court', 10957 + i / 48, i / 2 % 24, 1, 2, 46, 0, 0 FROM n;
             INSERT INTO slots SELECT facility, day, hour, 0, sum(guests + 1) FROM bookings WHERE facility = 'old-court' GROUP BY 1, 2, 3;
             UPDATE members SET used = (SELECT coalesce(sum(charge - refund), 0) FROM bookings JOIN keys ON keys.name = pass_key WHERE member = members.name);
-            COMMIT""")
+            COMMIT"""
+        )
 
 
 def paced(whole, step, what):

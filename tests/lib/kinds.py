@@ -90,10 +90,21 @@ def command(words, **ended):
 def join(member, quota, points):
     """Returns commands that add a member with a quota, points and a key."""
     credit = [command(f"credit {member} {points}")] if points else []
-    return [command(f"add-member {member} {quota}"), *credit, command(f"add-key {member}-1 {member} {ROOT}", printed=text(key_pass(f"{member}-1")) + "\n")]
+    return [
+        command(f"add-member {member} {quota}"),
+        *credit,
+        command(
+            f"add-key {member}-1 {member} {ROOT}", printed=text(key_pass(f"{member}-1")) + "\n"
+        ),
+    ]
 
 
-COMMANDS = [command("add-facility court-1 court 4 200 8 22"), command("add-facility room-1 room 1 601 8 22"), *join("amy", 5, 10_000), *join("bob", 5, 10_000)]
+COMMANDS = [
+    command("add-facility court-1 court 4 200 8 22"),
+    command("add-facility room-1 room 1 601 8 22"),
+    *join("amy", 5, 10_000),
+    *join("bob", 5, 10_000),
+]
 
 
 def slot(hour="18", day="01", facility="court-1"):
@@ -126,7 +137,16 @@ def account(balance=10_000, opened=0, row=ACCOUNT):
 
 def shown(taken, hour=18, closed=False, row=None):
     row = row or view(slot(f"{hour:02}"))
-    return row.serves(facility="court-1", day="2026-05-01", hour=hour, kind="court", price=200, places=4, taken=taken, closed=closed)
+    return row.serves(
+        facility="court-1",
+        day="2026-05-01",
+        hour=hour,
+        kind="court",
+        price=200,
+        places=4,
+        taken=taken,
+        closed=closed,
+    )
 
 
 BOOK = booked(book(7, THREE), 600, 1)
@@ -134,57 +154,146 @@ CANCEL = cancel(7).serves(booking="amy-1/7", refund=600)
 
 SCENES = {}
 for form in passes.FORMS:
-    SCENES[f"the known booking in {form}"] = [BOOK.under(text(AMY, form=form)), account(9400, 1).under(text(AMY, form=form))]
+    SCENES[f"the known booking in {form}"] = [
+        BOOK.under(text(AMY, form=form)),
+        account(9400, 1).under(text(AMY, form=form)),
+    ]
 SCENES["repeats"] = [
-    BOOK, BOOK.at(BEGUN), book(7, TWO).gets(13), account(9400, 1), shown(3), cancel(7, slot("19")).gets(13),
-    CANCEL, BOOK, CANCEL.at(BEGUN), BOOK.at(BEGUN), account(), shown(0),
+    BOOK,
+    BOOK.at(BEGUN),
+    book(7, TWO).gets(13),
+    account(9400, 1),
+    shown(3),
+    cancel(7, slot("19")).gets(13),
+    CANCEL,
+    BOOK,
+    CANCEL.at(BEGUN),
+    BOOK.at(BEGUN),
+    account(),
+    shown(0),
 ]
 LIMITED = text(AMY, "spend <= 600")
-SCENES["a limit on points"] = [it.under(LIMITED) for it in (
-    BOOK, book(8, ONE, slot("19")).gets(12, 1), CANCEL, booked(book(8, ONE, slot("19")), 200, 3))]
-for moment, refund in (("2026-04-30T18:00", 601), ("2026-04-30T18:01", 300), ("2026-05-01T17:59", 300), ("2026-05-01T18:00", None)):
+SCENES["a limit on points"] = [
+    it.under(LIMITED)
+    for it in (
+        BOOK,
+        book(8, ONE, slot("19")).gets(12, 1),
+        CANCEL,
+        booked(book(8, ONE, slot("19")), 200, 3),
+    )
+]
+for moment, refund in (
+    ("2026-04-30T18:00", 601),
+    ("2026-04-30T18:01", 300),
+    ("2026-05-01T17:59", 300),
+    ("2026-05-01T18:00", None),
+):
     late = cancel(8, ROOM).at(moment)
-    SCENES[f"a cancellation at {moment}"] = [booked(book(8, ONE, ROOM), 601, 0), cancel(9, ROOM).gets(15),
-                                             late.gets(21) if refund is None else late.serves(booking="amy-1/8", refund=refund)]
+    SCENES[f"a cancellation at {moment}"] = [
+        booked(book(8, ONE, ROOM), 601, 0),
+        cancel(9, ROOM).gets(15),
+        late.gets(21) if refund is None else late.serves(booking="amy-1/8", refund=refund),
+    ]
 CHANGED = text(AMY)[:-1] + "g"
 SCENES["passes that aren't verified"] = [
-    *(ACCOUNT.under(it).gets(9) for it in (
-        text(key_pass("zed-1")), CHANGED, text(passes.minted(bytes.fromhex(ROOT), b"amy-1")), text(key_pass("amy-1", ROOT + "00")))),
-    command("revoke-key amy-1"), ACCOUNT.gets(10), ACCOUNT.under(CHANGED).gets(9)]
+    *(
+        ACCOUNT.under(it).gets(9)
+        for it in (
+            text(key_pass("zed-1")),
+            CHANGED,
+            text(passes.minted(bytes.fromhex(ROOT), b"amy-1")),
+            text(key_pass("amy-1", ROOT + "00")),
+        )
+    ),
+    command("revoke-key amy-1"),
+    ACCOUNT.gets(10),
+    ACCOUNT.under(CHANGED).gets(9),
+]
 
 # Amy gets the same replies in three clubs. In the first club, no other member does anything. In the second club, other members are busy. In the third
 # club, bob has a place in Amy's slot.
 TOLD = [account(9400, 1), CANCEL]
 SCENES["others do nothing"] = [BOOK, *TOLD]
 SCENES["others are busy"] = [
-    *join("cy", 99, 100_000), command("credit bob 5"), command(f"add-key bob-2 bob {ROOT}", printed=text(key_pass("bob-2")) + "\n"),
-    command("revoke-key bob-2"), *(booked(book(day, ONE, slot(day=f"{1 + day:02}"), text(CY)), 200, 3, "cy-1") for day in range(1, 21)), BOOK, *TOLD]
-SCENES["others have a place"] = [booked(book(1, ONE, passed=text(BOB)), 200, 3, "bob-1"), booked(book(7, THREE), 600, 0), *TOLD]
+    *join("cy", 99, 100_000),
+    command("credit bob 5"),
+    command(f"add-key bob-2 bob {ROOT}", printed=text(key_pass("bob-2")) + "\n"),
+    command("revoke-key bob-2"),
+    *(
+        booked(book(day, ONE, slot(day=f"{1 + day:02}"), text(CY)), 200, 3, "cy-1")
+        for day in range(1, 21)
+    ),
+    BOOK,
+    *TOLD,
+]
+SCENES["others have a place"] = [
+    booked(book(1, ONE, passed=text(BOB)), 200, 3, "bob-1"),
+    booked(book(7, THREE), 600, 0),
+    *TOLD,
+]
 
 SCENES["the day sheet"] = [
-    BOOK, booked(book(2, ONE, passed=text(BOB)), 200, 0, "bob-1"), command("sheet 2026-05-01", printed="""Day sheet 2026-05-01
+    BOOK,
+    booked(book(2, ONE, passed=text(BOB)), 200, 0, "bob-1"),
+    command(
+        "sheet 2026-05-01",
+        printed="""Day sheet 2026-05-01
 court-1                  18:00 amy-1                            7  3    600
 court-1                  18:00 bob-1                            2  1    200
 Total bookings 2, persons 4, charge 800
-"""), command("sheet 2026-05-02", printed="Day sheet 2026-05-02\nNo bookings.\n")]
-for moment, hour, is_booked in (("2026-03-02T18:00", "18", True), ("2026-03-02T17:59", "18", False), ("2026-05-01T17:59", "18", True),
-                                ("2026-05-01T18:00", "18", False), (NOON, "21", True), (NOON, "22", False), (NOON, "08", True), (NOON, "07", False)):
+""",
+    ),
+    command("sheet 2026-05-02", printed="Day sheet 2026-05-02\nNo bookings.\n"),
+]
+for moment, hour, is_booked in (
+    ("2026-03-02T18:00", "18", True),
+    ("2026-03-02T17:59", "18", False),
+    ("2026-05-01T17:59", "18", True),
+    ("2026-05-01T18:00", "18", False),
+    (NOON, "21", True),
+    (NOON, "22", False),
+    (NOON, "08", True),
+    (NOON, "07", False),
+):
     row = book(7, THREE, slot(hour)).at(moment)
-    SCENES[f"{hour} o'clock, booked at {moment}"] = [booked(row, 600, 1) if is_booked else row.gets(16)]
+    SCENES[f"{hour} o'clock, booked at {moment}"] = [
+        booked(row, 600, 1) if is_booked else row.gets(16)
+    ]
 SCENES["places, points and quota"] = [
-    BOOK, book(1, TWO, passed=text(BOB)).gets(18), *join("cy", 1, 100), book(1, ONE, passed=text(CY)).gets(20),
-    *join("di", 0, 0), book(1, ONE, passed=text(DI)).gets(19)]
+    BOOK,
+    book(1, TWO, passed=text(BOB)).gets(18),
+    *join("cy", 1, 100),
+    book(1, ONE, passed=text(CY)).gets(20),
+    *join("di", 0, 0),
+    book(1, ONE, passed=text(DI)).gets(19),
+]
 SCENES["a closed slot"] = [
-    BOOK, command("close-slot court-1 2026-05-01 18", printed="", refusal="refused: slot in use"), CANCEL, command("close-slot court-1 2026-05-01 18"),
-    command("close-slot court-1 2026-05-01 18", printed="", refusal="refused: exists"), book(8, ONE).gets(17), shown(0, closed=True)]
+    BOOK,
+    command("close-slot court-1 2026-05-01 18", printed="", refusal="refused: slot in use"),
+    CANCEL,
+    command("close-slot court-1 2026-05-01 18"),
+    command("close-slot court-1 2026-05-01 18", printed="", refusal="refused: exists"),
+    book(8, ONE).gets(17),
+    shown(0, closed=True),
+]
 DOUBTED = text(AMY, "guests <= 0", "shoe = red")
-SCENES["two caveats"] = [book(7, THREE, passed=DOUBTED).gets(12, 1), book(7, ONE, passed=DOUBTED).gets(11, 2)]
+SCENES["two caveats"] = [
+    book(7, THREE, passed=DOUBTED).gets(12, 1),
+    book(7, ONE, passed=DOUBTED).gets(11, 2),
+]
 SCENES["a caveat"] = [ACCOUNT.under(text(AMY, "facility = court-1")).gets(12, 1)]
 for moment, hour, fault, caveat in (
-        (NOON, 18, None, "hours = 18-20"), (NOON, 19, None, "hours = 18-20"), (NOON, 20, 12, "hours = 18-20"),
-        ("2026-05-01T17:59", 18, None, "until < 2026-05-01T18:00"), ("2026-05-01T18:00", 18, 12, "until < 2026-05-01T18:00"),
-        (NOON, 18, 11, "hours = 20-18"), (NOON, 18, 11, "hours = 8-10"), (NOON, 18, 11, "guests <= 01"), (NOON, 18, 11, "guests <= 50"),
-        (NOON, 18, 11, "days = 2026-02-29..2026-03-01")):
+    (NOON, 18, None, "hours = 18-20"),
+    (NOON, 19, None, "hours = 18-20"),
+    (NOON, 20, 12, "hours = 18-20"),
+    ("2026-05-01T17:59", 18, None, "until < 2026-05-01T18:00"),
+    ("2026-05-01T18:00", 18, 12, "until < 2026-05-01T18:00"),
+    (NOON, 18, 11, "hours = 20-18"),
+    (NOON, 18, 11, "hours = 8-10"),
+    (NOON, 18, 11, "guests <= 01"),
+    (NOON, 18, 11, "guests <= 50"),
+    (NOON, 18, 11, "days = 2026-02-29..2026-03-01"),
+):
     row = shown(0, hour).at(moment).under(text(AMY, caveat))
     SCENES["a caveat"].append(row.gets(fault, 1) if fault else row)
 
@@ -192,7 +301,9 @@ for moment, hour, fault, caveat in (
 # Texts of passes with a wrong signature of 32 zero bytes. The desk checks the form of a pass before it checks the signature.
 def unsigned_v2(caveats=b"", more=b""):
     head = b"\x02" + passes.v2_field(passes.IDENTIFIER, b"key:amy-1") + b"\0"
-    return passes.to_base64(head + caveats + b"\0" + passes.v2_field(passes.SIGNATURE, bytes(32)) + more).decode()
+    return passes.to_base64(
+        head + caveats + b"\0" + passes.v2_field(passes.SIGNATURE, bytes(32)) + more
+    ).decode()
 
 
 def guests(count):
@@ -200,46 +311,143 @@ def guests(count):
 
 
 FOREIGN = passes.v2_field(passes.IDENTIFIER, b"a") + passes.v2_field(passes.VERIFIER, b"b") + b"\0"
-FOREIGN_V1 = passes.to_base64(b"".join(passes.packet(*it) for it in (
-    (b"location", b"club-desk"), (b"identifier", b"key:amy-1"), (b"cid", b"a"), (b"vid", b"b"), (b"cl", b"c"), (b"signature", bytes(32))))).decode()
-FOREIGN_JSON = '{"c":[{"i":"a","v64":"Yg"}],"i":"key:amy-1","s64":"%s","v":2}' % passes.to_base64(bytes(32)).decode()
-SCENES["third-party caveats, and many"] = [ACCOUNT.under(it).gets(fault) for it, fault in (
-    (unsigned_v2(FOREIGN), 7), (FOREIGN_V1, 7), (FOREIGN_JSON, 7), (unsigned_v2(guests(64)), 9), (unsigned_v2(guests(65)), 8),
-    (unsigned_v2(guests(64) + FOREIGN), 7), (unsigned_v2(guests(65), b"x"), 6))] + [shown(0).under(text(AMY, *["guests <= 1"] * 64))]
+FOREIGN_V1 = passes.to_base64(
+    b"".join(
+        passes.packet(*it)
+        for it in (
+            (b"location", b"club-desk"),
+            (b"identifier", b"key:amy-1"),
+            (b"cid", b"a"),
+            (b"vid", b"b"),
+            (b"cl", b"c"),
+            (b"signature", bytes(32)),
+        )
+    )
+).decode()
+FOREIGN_JSON = (
+    '{"c":[{"i":"a","v64":"Yg"}],"i":"key:amy-1","s64":"%s","v":2}'
+    % passes.to_base64(bytes(32)).decode()
+)
+SCENES["third-party caveats, and many"] = [
+    ACCOUNT.under(it).gets(fault)
+    for it, fault in (
+        (unsigned_v2(FOREIGN), 7),
+        (FOREIGN_V1, 7),
+        (FOREIGN_JSON, 7),
+        (unsigned_v2(guests(64)), 9),
+        (unsigned_v2(guests(65)), 8),
+        (unsigned_v2(guests(64) + FOREIGN), 7),
+        (unsigned_v2(guests(65), b"x"), 6),
+    )
+] + [shown(0).under(text(AMY, *["guests <= 1"] * 64))]
 
 # Example passes of other programs. The form of these passes is valid, but the club has no key with their identifier and root.
-BANK = ("MDAxY2xvY2F0aW9uIGh0dHA6Ly9teWJhbmsvCjAwMjZpZGVudGlmaWVyIHdlIHVzZWQgb3VyIHNlY3JldCBrZXkKMDAxNmNpZCB0ZXN0ID0gY2F2ZWF0CjAw"
-        "MmZzaWduYXR1cmUgGXusegRK8zMyhluSZuJtSTvdZopmDkTYjOGpmMI9vWcK")
+BANK = (
+    "MDAxY2xvY2F0aW9uIGh0dHA6Ly9teWJhbmsvCjAwMjZpZGVudGlmaWVyIHdlIHVzZWQgb3VyIHNlY3JldCBrZXkKMDAxNmNpZCB0ZXN0ID0gY2F2ZWF0CjAw"
+    "MmZzaWduYXR1cmUgGXusegRK8zMyhluSZuJtSTvdZopmDkTYjOGpmMI9vWcK"
+)
 EXAMPLE = "AgETaHR0cDovL2V4YW1wbGUub3JnLwIFa2V5aWQAAAYgfN7nklEcW8b1KEhYBd_psk54XijiqZMB-dcRxgnjjvc"
 STANDARD = EXAMPLE.replace("-", "+").replace("_", "/")
-SCENES["forms"] = [ACCOUNT.under(it).gets(9) for it in (
-    BANK, EXAMPLE, STANDARD, STANDARD + "=", '{"c":[],"i":"keyid","l":"http://example.org/","s64":"fN7nklEcW8b1KEhYBd_psk54XijiqZMB-dcRxgnjjvc","v":2}')]
-SCENES["forms"] += [ACCOUNT.under(it).gets(6) for it in (
-    EXAMPLE.replace("-", "+"), STANDARD + "==", EXAMPLE[:-1] + "d",
-    *(passes.to_base64(it).decode() for it in (passes.from_base64(EXAMPLE.encode()) + b"x", passes.from_base64(BANK.encode()) + b"x", b"\2\2\x85\0", b"0003")),
-    "x", *(BANK[:end] for end in range(1, len(BANK))), "A" * 8192)] + [ACCOUNT.under("A" * 8193).gets(5)]
+SCENES["forms"] = [
+    ACCOUNT.under(it).gets(9)
+    for it in (
+        BANK,
+        EXAMPLE,
+        STANDARD,
+        STANDARD + "=",
+        '{"c":[],"i":"keyid","l":"http://example.org/","s64":"fN7nklEcW8b1KEhYBd_psk54XijiqZMB-dcRxgnjjvc","v":2}',
+    )
+]
+SCENES["forms"] += [
+    ACCOUNT.under(it).gets(6)
+    for it in (
+        EXAMPLE.replace("-", "+"),
+        STANDARD + "==",
+        EXAMPLE[:-1] + "d",
+        *(
+            passes.to_base64(it).decode()
+            for it in (
+                passes.from_base64(EXAMPLE.encode()) + b"x",
+                passes.from_base64(BANK.encode()) + b"x",
+                b"\2\2\x85\0",
+                b"0003",
+            )
+        ),
+        "x",
+        *(BANK[:end] for end in range(1, len(BANK))),
+        "A" * 8192,
+    )
+] + [ACCOUNT.under("A" * 8193).gets(5)]
 
 SCENES["bad requests"] = [
-    Row(raw=b"").gets(1), Row(raw=BOOK.data[:-1]).gets(1), book(7, '{"guests":50}').gets(1), ACCOUNT.under("").gets(4),
-    ACCOUNT.under(None).but(fields=("Authorization: Bearer",)).gets(4), ACCOUNT.but(fields=(f"Authorization: Bearer {text(AMY)}",)).gets(4)]
-SCENES["unknown paths"] = [Row("GET", path).gets(2) for path in (
-    "/", "/accounts", "/account/", "/account?x=1", "/slots/court-1", slot("9"), slot("24"), slot() + "/", slot() + "/bookings/07",
-    slot(facility="Court-1"))]
+    Row(raw=b"").gets(1),
+    Row(raw=BOOK.data[:-1]).gets(1),
+    book(7, '{"guests":50}').gets(1),
+    ACCOUNT.under("").gets(4),
+    ACCOUNT.under(None).but(fields=("Authorization: Bearer",)).gets(4),
+    ACCOUNT.but(fields=(f"Authorization: Bearer {text(AMY)}",)).gets(4),
+]
+SCENES["unknown paths"] = [
+    Row("GET", path).gets(2)
+    for path in (
+        "/",
+        "/accounts",
+        "/account/",
+        "/account?x=1",
+        "/slots/court-1",
+        slot("9"),
+        slot("24"),
+        slot() + "/",
+        slot() + "/bookings/07",
+        slot(facility="Court-1"),
+    )
+]
 SCENES["methods that the path doesn't allow"] = [
     Row(method, path, passed=passed, body=THREE if method == "PUT" else None).gets(3, allow=allow)
-    for path, allow, passed in (("/account", "GET", text(AMY)), (slot(), "GET", None), (slot() + "/bookings/7", "PUT, DELETE", text(AMY)))
-    for method in ("GET", "HEAD", "POST", "PUT", "DELETE", "OPTIONS", "PATCH") if method not in allow]
+    for path, allow, passed in (
+        ("/account", "GET", text(AMY)),
+        (slot(), "GET", None),
+        (slot() + "/bookings/7", "PUT, DELETE", text(AMY)),
+    )
+    for method in ("GET", "HEAD", "POST", "PUT", "DELETE", "OPTIONS", "PATCH")
+    if method not in allow
+]
 
 # Refusals of each action: for a bad request, an unknown facility, a refused pass, a caveat, a revoked key, and a damaged row.
-ACTIONS = {"a view": view(), "a booking": book(7, THREE), "a cancellation": cancel(7), "an account": ACCOUNT}
+ACTIONS = {
+    "a view": view(),
+    "a booking": book(7, THREE),
+    "a cancellation": cancel(7),
+    "an account": ACCOUNT,
+}
 for name, row in ACTIONS.items():
     SCENES[f"{name} that is refused"] = [
         row.but(fields=("Transfer-Encoding: identity",)).gets(1),
-        *(row.but(path=row.path.replace(*it)).gets(fault) for it, fault in ((("/18", "/24"), 2), (("court-1", "court-2"), 14)) if it[0] in row.path),
-        *(row.under(passed).gets(fault) for passed, fault in (
-            (None, 4), ("A" * 8193, 5), ("x", 6), (unsigned_v2(FOREIGN), 7), (unsigned_v2(guests(65)), 8), (unsigned_v2(), 9))),
-        *(row.under(text(AMY, caveat)).gets(fault, 1) for caveat, fault in (("shoe = red", 11), (f"until < {NOON}", 12))),
-        command("revoke-key amy-1"), row.gets(10), Sql("UPDATE keys SET revoked = 0, root = x'00'"), row.gets(22)]
+        *(
+            row.but(path=row.path.replace(*it)).gets(fault)
+            for it, fault in ((("/18", "/24"), 2), (("court-1", "court-2"), 14))
+            if it[0] in row.path
+        ),
+        *(
+            row.under(passed).gets(fault)
+            for passed, fault in (
+                (None, 4),
+                ("A" * 8193, 5),
+                ("x", 6),
+                (unsigned_v2(FOREIGN), 7),
+                (unsigned_v2(guests(65)), 8),
+                (unsigned_v2(), 9),
+            )
+        ),
+        *(
+            row.under(text(AMY, caveat)).gets(fault, 1)
+            for caveat, fault in (("shoe = red", 11), (f"until < {NOON}", 12))
+        ),
+        command("revoke-key amy-1"),
+        row.gets(10),
+        Sql("UPDATE keys SET revoked = 0, root = x'00'"),
+        row.gets(22),
+    ]
 
 # In the first step, the server's files may have at most 512 bytes. The server can open its log, but can't write a booking. The server refuses the
 # request and books nothing. In the last step, a server without this limit carries out the same request.

@@ -27,25 +27,35 @@ SCENARIOS = "scenarios"
 TEST = re.compile(r"^test: (\w+) ([\w:]+)$", re.MULTILINE)
 # The message of the compiler, rattle, about a goal with a counterexample. The message is on the line that reports the goal, or on the line that
 # reports a missing answer. An answer is a handwritten proof.
-FALSE = re.compile(r"the facts known there allow values at which this goal is false|may be false: the known facts allow")
+FALSE = re.compile(
+    r"the facts known there allow values at which this goal is false|may be false: the known facts allow"
+)
 # The messages of rattle about a proof file with an unknown name, and about proofs that depend on this file.
 NAMES = re.compile(r"has no field|is not in scope|has no `|was not admitted|no item `")
 # Messages that rattle continues on the next line because a record's name is long.
 WRAPPED = re.compile(r"\n +(has no |is not in scope|was not admitted)")
-FAULT = re.compile(r"(?:note: )?(?:\./)?((?:src|specs|proofs)/\S+?):(\d+):\d+: (error: .*|it is not proved .*)")
+FAULT = re.compile(
+    r"(?:note: )?(?:\./)?((?:src|specs|proofs)/\S+?):(\d+):\d+: (error: .*|it is not proved .*)"
+)
 WANTED = re.compile(r"no proof: expected answers in (?:\./)?(\S+);")
 HEAD = re.compile(r"(?:pub )?([^\s:]+) : ")
 # The first line of a function, and of a block that contains functions, in the layout of `rt fmt`.
-FUNCTION = re.compile(r"(?P<indent> {4})?(?:pub(?:\([^)]*\))? )?(?:const )?(?:extern \"C\" )?fn (?P<name>\w+)")
+FUNCTION = re.compile(
+    r"(?P<indent> {4})?(?:pub(?:\([^)]*\))? )?(?:const )?(?:extern \"C\" )?fn (?P<name>\w+)"
+)
 # The first line of a constant at the top level of a file, and of a declaration in a proof file.
 CONSTANT = re.compile(r"(?:pub(?:\([^)]*\))? )?(?:const|static) (?P<name>\w+)")
 DECLARATION = re.compile(r"\s*(?:pub )?([^\s:]+) : ")
 # The message of rattle about declarations that it didn't check because they depend on another declaration.
 UNCHECKED = re.compile(r"declarations? that depends? on")
-BLOCK = re.compile(r"(?:impl(?:<.*?>)? |(?:pub(?:\([^)]*\))? )?trait )(?:(?:\w+::)*(?P<trait>\w+)(?:<.*?>)? for )?(?:\w+::)*(?P<type>\w+)")
+BLOCK = re.compile(
+    r"(?:impl(?:<.*?>)? |(?:pub(?:\([^)]*\))? )?trait )(?:(?:\w+::)*(?P<trait>\w+)(?:<.*?>)? for )?(?:\w+::)*(?P<type>\w+)"
+)
 AT_ONCE = 30  # the most edits that one check tries
 # The message of rattle when it reaches its own limit and gives no verdict.
-LIMIT = re.compile(r"antt ran out of (stack|the (steps|memory) that the check of one declaration may)|outgrew the memory limit|stopped at the step limit")
+LIMIT = re.compile(
+    r"antt ran out of (stack|the (steps|memory) that the check of one declaration may)|outgrew the memory limit|stopped at the step limit"
+)
 
 
 class NoVerdict(Exception):
@@ -54,6 +64,7 @@ class NoVerdict(Exception):
 
 class Edit(NamedTuple):
     """A mutant: its name, the crate's folder or file that contains it, and its text."""
+
     name: str
     place: str
     text: str
@@ -64,7 +75,9 @@ def edits_of(crate):
     for path in sorted((crate / FOLDER).glob("*.edit")):
         yield Edit(path.stem, FOLDER, path.read_text(encoding="utf-8"))
     if (crate / FILE).exists():
-        for part in re.split(r"^edit: ", (crate / FILE).read_text(encoding="utf-8"), flags=re.MULTILINE)[1:]:
+        for part in re.split(
+            r"^edit: ", (crate / FILE).read_text(encoding="utf-8"), flags=re.MULTILINE
+        )[1:]:
             name, _, text = part.partition("\n")
             yield Edit(name.strip(), FILE, text)
 
@@ -101,7 +114,14 @@ def function_at(path, text, offset):
         return None
     head = FUNCTION.match(lines[first])
     indent = head["indent"] or ""
-    begin = next((it for it in range(first, len(lines)) if lines[it] == indent + "{" or re.match(rf"{indent}\S.* {{$", lines[it])), len(lines))
+    begin = next(
+        (
+            it
+            for it in range(first, len(lines))
+            if lines[it] == indent + "{" or re.match(rf"{indent}\S.* {{$", lines[it])
+        ),
+        len(lines),
+    )
     last = next((it for it in range(begin, len(lines)) if lines[it] == indent + "}"), -1)
     if not begin < place < last:
         return None
@@ -132,7 +152,14 @@ def edited_item(crate, edit):
     for path, old, _ in changes_of(edit):
         text = (crate / path).read_text(encoding="utf-8")
         offset = text.index(old) if path.startswith("src/") and text.count(old) == 1 else None
-        found.add((path, None if offset is None else function_at(path, text, offset) or constant_at(text, offset)))
+        found.add(
+            (
+                path,
+                None
+                if offset is None
+                else function_at(path, text, offset) or constant_at(text, offset),
+            )
+        )
     path, item = found.pop() if len(found) == 1 else (None, None)
     return (path, item) if item else None
 
@@ -143,7 +170,14 @@ def groups_of(crate, edits):
     groups = []
     for edit in edits:
         place = edited_item(crate, edit)
-        open_one = next((it for it in groups if place and None not in it and place not in it and len(it) < AT_ONCE), None)
+        open_one = next(
+            (
+                it
+                for it in groups
+                if place and None not in it and place not in it and len(it) < AT_ONCE
+            ),
+            None,
+        )
         if open_one is None:
             groups.append(open_one := {})
         open_one[place] = edit
@@ -152,22 +186,34 @@ def groups_of(crate, edits):
 
 def check(crate):
     """Checks the crate. Returns the lines of the check, and whether the crate is proved."""
-    ran = subprocess.run(["rt", "check", "--jobs", "1"], cwd=crate, stdin=subprocess.DEVNULL, stdout=subprocess.PIPE,
-                         stderr=subprocess.STDOUT, text=True, errors="replace", check=False)
+    ran = subprocess.run(
+        ["rt", "check", "--jobs", "1"],
+        cwd=crate,
+        stdin=subprocess.DEVNULL,
+        stdout=subprocess.PIPE,
+        stderr=subprocess.STDOUT,
+        text=True,
+        errors="replace",
+        check=False,
+    )
     lines = WRAPPED.sub(r" \1", ran.stdout).split("\n")
     reached = [line for line in lines if line.startswith("logic=")]
     if reached:
         return lines, reached[-1].startswith("logic=proved")
     if limit := next(filter(LIMIT.search, lines), None):
         raise NoVerdict("limit", limit)
-    raise NoVerdict("bad", next((line for line in lines if "error" in line), "the check did not end"))
+    raise NoVerdict(
+        "bad", next((line for line in lines if "error" in line), "the check did not end")
+    )
 
 
 def faults_in(lines):
     """Yields (text, file, line, whether it is an error, whether a name is missing) for each fault that a check reports."""
     for line in lines:
         if found := FAULT.match(line):
-            yield line, found[1], int(found[2]), found[3].startswith("error"), bool(NAMES.search(found[3]))
+            yield line, found[1], int(found[2]), found[3].startswith("error"), bool(
+                NAMES.search(found[3])
+            )
 
 
 def without_answers(crate, lines):
@@ -190,7 +236,12 @@ def without_answers(crate, lines):
                 name = None
             (declarations[-1][1] if name else kept).append((number, line))
         lost = [one for one in declarations if numbers & {number for number, _ in one[1]}]
-        left = [line for one in declarations if one not in lost for line in [*(text for _, text in one[1]), ""]]
+        left = [
+            line
+            for one in declarations
+            if one not in lost
+            for line in [*(text for _, text in one[1]), ""]
+        ]
         # If only a `use` line has an unknown name, the new text of the whole file is empty.
         texts[path] = "\n".join([text for _, text in kept] + left) if lost else ""
     return texts
@@ -199,8 +250,19 @@ def without_answers(crate, lines):
 def open_goal(lines, gone):
     """Returns the line of a goal that is open for a reason other than a missing name. An answer is a handwritten proof of a goal. Either the goal's
     answer fails, or the goal has no answer although no answer was removed from its file."""
-    failing = {line for line, path, _, is_error, is_name in faults_in(lines) if path.startswith("proofs/") and is_error and not is_name}
-    return next((line for line in lines if line in failing or (wanted := WANTED.search(line)) and wanted[1] not in gone), None)
+    failing = {
+        line
+        for line, path, _, is_error, is_name in faults_in(lines)
+        if path.startswith("proofs/") and is_error and not is_name
+    }
+    return next(
+        (
+            line
+            for line in lines
+            if line in failing or (wanted := WANTED.search(line)) and wanted[1] not in gone
+        ),
+        None,
+    )
 
 
 def declaration_at(text, number):
@@ -222,7 +284,11 @@ def lines_about(crate, constant, others, lines):
     found = []
     for line, path, number, *_ in faults_in(lines):
         if path.startswith("proofs/") and not UNCHECKED.search(line):
-            cited = set(re.findall(r"\w+", declaration_at((crate / path).read_text(encoding="utf-8"), number)))
+            cited = set(
+                re.findall(
+                    r"\w+", declaration_at((crate / path).read_text(encoding="utf-8"), number)
+                )
+            )
             if constant in cited and not cited & others:
                 found.append(line)
     return found
@@ -233,8 +299,14 @@ def lines_of(crate, path, function, lines):
     module."""
     words, first, last = function
     before, own = (r"(\w+/)*", words[-2:]) if words[-2:][0][0].isupper() else ("", words)
-    proofs, head = re.compile(f"proofs/{before}{'/'.join(own)}/"), re.compile(f"fn {crate.name}::{before.replace('/', '::')}{'::'.join(own)}:")
-    found = {line for line, where, number, _, _ in faults_in(lines) if proofs.match(where) or where == path and first <= number <= last}
+    proofs, head = re.compile(f"proofs/{before}{'/'.join(own)}/"), re.compile(
+        f"fn {crate.name}::{before.replace('/', '::')}{'::'.join(own)}:"
+    )
+    found = {
+        line
+        for line, where, number, _, _ in faults_in(lines)
+        if proofs.match(where) or where == path and first <= number <= last
+    }
     return [line for line in lines if line in found or head.match(line)]
 
 
@@ -276,8 +348,16 @@ class Trial:
         front, words = f"test {test} ...", ["--test", "--", test]
         if crate == SCENARIOS:
             front, words = f"{test}.txt:", ["--data", f"{test}.txt=data/{test}.txt"]
-        ran = subprocess.run(["rt", "try", *words], cwd=self.crate.parent / crate, stdin=subprocess.DEVNULL,
-                             stdout=subprocess.PIPE, stderr=subprocess.STDOUT, text=True, errors="replace", check=False)
+        ran = subprocess.run(
+            ["rt", "try", *words],
+            cwd=self.crate.parent / crate,
+            stdin=subprocess.DEVNULL,
+            stdout=subprocess.PIPE,
+            stderr=subprocess.STDOUT,
+            text=True,
+            errors="replace",
+            check=False,
+        )
         line = next((line for line in ran.stdout.split("\n") if line.startswith(front)), None)
         if line is None:
             raise NoVerdict("bad", f"no test {crate} {test}: {ran.stdout.strip()[-100:]}")
@@ -296,7 +376,11 @@ class Trial:
         told, constants = {}, {words[1] for _, (words, *_) in group if words[0] == "const"}
         for (path, item), edit in group.items():
             kind, name = item[0][0], item[0][-1]
-            own = lines_about(self.crate, name, constants - {name}, lines) if kind == "const" else lines_of(self.crate, path, item, lines)
+            own = (
+                lines_about(self.crate, name, constants - {name}, lines)
+                if kind == "const"
+                else lines_of(self.crate, path, item, lines)
+            )
             if any(is_name for *_, is_name in faults_in(own)):
                 continue
             if false := next(filter(FALSE.search, own), None):
@@ -307,7 +391,9 @@ class Trial:
             # One of these edits may have stopped the check, so the program tries each half of the group.
             items = list(group.items())
             middle = len(items) // 2
-            told = self.told_together(dict(items[:middle])) | self.told_together(dict(items[middle:]))
+            told = self.told_together(dict(items[:middle])) | self.told_together(
+                dict(items[middle:])
+            )
         return told
 
     def verdict(self, edit):
@@ -335,7 +421,10 @@ class Trial:
             self.put(fewer)
             lines, proved = check(self.crate)
             if proved:
-                return "proved", "the crate is proved without the answers whose names the edit removed"
+                return (
+                    "proved",
+                    "the crate is proved without the answers whose names the edit removed",
+                )
         if left := open_goal(lines, gone):
             return "goal", left
         return "names", next((line for line in lines if FAULT.match(line)), lines[0])
@@ -350,7 +439,14 @@ def link_or_copy(source, target):
 
 def crates_below(names):
     """Returns all crates that these crates depend on, directly or through other crates, according to crates.txt."""
-    uses = {name: used.split() for name, used in re.findall(r"^(\w+)[^:#\n]*:([^#\n]*)", (ROOT / "crates.txt").read_text(encoding="utf-8"), re.MULTILINE)}
+    uses = {
+        name: used.split()
+        for name, used in re.findall(
+            r"^(\w+)[^:#\n]*:([^#\n]*)",
+            (ROOT / "crates.txt").read_text(encoding="utf-8"),
+            re.MULTILINE,
+        )
+    }
     below, left = set(), list(names)
     while left:
         for used in uses.get(left.pop(), []):
@@ -364,7 +460,10 @@ def take_libraries(copy, names):
     """Puts the built libraries of this tree into the copy, so that rt doesn't build them again. For the crates that the tried crates depend on, the
     copy has hard links, because no check writes to these libraries."""
     below = crates_below(names) - set(names)
-    for crates, parts, copies in ((below, ("rlib",), link_or_copy), (names, ("rlib", "incremental"), shutil.copy2)):
+    for crates, parts, copies in (
+        (below, ("rlib",), link_or_copy),
+        (names, ("rlib", "incremental"), shutil.copy2),
+    ):
         for crate in crates:
             for part in (Path("crates", crate, "out", it) for it in parts):
                 if (ROOT / part).is_dir():
@@ -387,7 +486,9 @@ def main(words):
     wanted = defaultdict(set)
     for name, _, edit in (word.partition("/") for word in words):
         wanted[name] |= {edit} if edit else set()
-    names = sorted({it.parent.name for place in (FOLDER, FILE) for it in (ROOT / "crates").glob(f"*/{place}")})
+    names = sorted(
+        {it.parent.name for place in (FOLDER, FILE) for it in (ROOT / "crates").glob(f"*/{place}")}
+    )
     lacking = [name for name in wanted if name not in names]
     if lacking:
         print(f"{lacking[0]}: not a crate with edits", file=sys.stderr)
@@ -395,7 +496,9 @@ def main(words):
     counts = Counter()
     with tempfile.TemporaryDirectory(prefix="more-edits-") as folder:
         copy = Path(folder)
-        shutil.copytree(ROOT, copy, dirs_exist_ok=True, ignore=shutil.ignore_patterns("out", ".git"))
+        shutil.copytree(
+            ROOT, copy, dirs_exist_ok=True, ignore=shutil.ignore_patterns("out", ".git")
+        )
         tried = [name for name in names if not wanted or name in wanted]
         take_libraries(copy, tried)
         for name in tried:

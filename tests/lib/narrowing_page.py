@@ -23,8 +23,12 @@ ROOM = tempfile.TemporaryDirectory()
 PICTURES = sys.argv[1] if sys.argv[1:] else ROOM.name
 PASSES, SPOILED, CAVEATS = 1000, 2000, 2000
 FORMS = list(passes.FORMS)
-FAULTS = {"This text is too long for a pass.": 1, "This text isn't a complete pass.": 2, "This pass has a third-party caveat.": 3,
-          "This pass has too many limits.": 4}
+FAULTS = {
+    "This text is too long for a pass.": 1,
+    "This text isn't a complete pass.": 2,
+    "This pass has a third-party caveat.": 3,
+    "This pass has too many limits.": 4,
+}
 # The names of the page's choices. The page adds their caveats in this order.
 CHOICES = ["kind", "facility", "actions", "days", "weekday", "hours", "until", "guests", "spend"]
 AMY = "AgEJY2x1Yi1kZXNrAglrZXk6YW15LTEAAAYgDsU-vMVpq3Ex5_BQk6D5VX6TimC0IfCk7Dn6nv7TIJk"
@@ -44,7 +48,15 @@ def written(form, it):
 
 def amys(form, *caveats):
     """Returns the text of a pass for Amy's key with these caveats. The pass has 32 zero bytes as its signature."""
-    return written(form, Pass(b"", b"key:amy-1", [it if isinstance(it, bytes) else it.encode() for it in caveats], bytes(32)))
+    return written(
+        form,
+        Pass(
+            b"",
+            b"key:amy-1",
+            [it if isinstance(it, bytes) else it.encode() for it in caveats],
+            bytes(32),
+        ),
+    )
 
 
 # ---- What passtool answers
@@ -72,7 +84,10 @@ def reading_by_tool(text):
     values = [line.partition(" ")[2] for line in output.splitlines()]
     key = re.fullmatch("key:([a-z0-9][a-z0-9-]{0,23})", values[2])
     facts = {"Name": key[1]} if key else {"Identifier": values[2] or "(empty)"}
-    facts |= {"Form": values[0].upper(), "Location": f"{values[1]} (a hint that nobody checks)" if values[1] else "none"}
+    facts |= {
+        "Form": values[0].upper(),
+        "Location": f"{values[1]} (a hint that nobody checks)" if values[1] else "none",
+    }
     return facts, [value.partition(" ")[2] or "(empty)" for value in values[3:-1]]
 
 
@@ -148,7 +163,9 @@ def drawn_bytes(most):
     if kind == 0:
         return draw.randbytes(size)
     if kind == 1:
-        mark = draw.choice(["", "", "", "\ufeff"])  # the page must treat a byte order mark as an ordinary character
+        mark = draw.choice(
+            ["", "", "", "\ufeff"]
+        )  # the page must treat a byte order mark as an ordinary character
         return (mark + "".join(draw.choices('é"\\/\n\t\x00\x1f\x7f\u2028😀 aä€', k=size))).encode()
     return "".join(draw.choices("abcdefgh :/-=<0123456789", k=size)).encode()
 
@@ -170,9 +187,12 @@ def drawn_line(choice):
     hours, days = sorted(draw.sample(range(25), 2)), sorted([drawn_day(), drawn_day()])
     return {
         "kind": "kind = " + draw.choice(["court", "boat", "room"]),
-        "facility": "facility = " + ",".join(drawn_name() for _ in range(draw.choice([1, 1, 2, 3, 8]))),
-        "actions": "actions = " + some_of(ACTIONS), "weekday": "weekday = " + some_of(WEEKDAYS),
-        "days": f"days = {days[0]}..{days[1]}", "hours": f"hours = {hours[0]:02}-{hours[1]:02}",
+        "facility": "facility = "
+        + ",".join(drawn_name() for _ in range(draw.choice([1, 1, 2, 3, 8]))),
+        "actions": "actions = " + some_of(ACTIONS),
+        "weekday": "weekday = " + some_of(WEEKDAYS),
+        "days": f"days = {days[0]}..{days[1]}",
+        "hours": f"hours = {hours[0]:02}-{hours[1]:02}",
         "until": f"until < {drawn_day()}T{draw.randrange(24):02}:{draw.randrange(60):02}",
         "guests": f"guests <= {draw.choice([0, 1, 9, 10, 49, draw.randrange(50)])}",
         "spend": f"spend <= {draw.choice([0, 7, 600, 10**9 - 1, draw.randrange(10**9)])}",
@@ -215,7 +235,9 @@ def drawn_spelling(form, drawn):
             names["i64"] = unpadded(drawn.identifier)
             names.pop("i", None)
         shuffled = dict(draw.sample([*names.items()], len(names)))
-        text = json.dumps(shuffled, ensure_ascii=draw.random() < 0.5, indent=draw.choice([None, None, 1]))
+        text = json.dumps(
+            shuffled, ensure_ascii=draw.random() < 0.5, indent=draw.choice([None, None, 1])
+        )
         return draw.choice([text, text, re.sub("=", "", base64.b64encode(text.encode()).decode())])
     if draw.random() < 0.3:
         text += "=" * (-len(text) % 4)

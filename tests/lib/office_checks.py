@@ -35,7 +35,13 @@ def asked(server, text, method, path, body=None):
 
 
 def book(server, text, facility, hour, number, guests=0, on=DAY):
-    return asked(server, text, "PUT", f"/slots/{facility}/{on}/{hour:02d}/bookings/{number}", f'{{"guests":{guests}}}')
+    return asked(
+        server,
+        text,
+        "PUT",
+        f"/slots/{facility}/{on}/{hour:02d}/bookings/{number}",
+        f'{{"guests":{guests}}}',
+    )
 
 
 def slot(server, text, facility, hour):
@@ -57,4 +63,8 @@ def changed_meanwhile(words, shown, change):
         same("the shown line", command.stdout.readline(), f"{shown}\n")
         change()
         _, errors = command.communicate("y\n")
-    same(f"a change before the answer: {words}", (command.returncode, "has changed since" in errors), (1, True))
+    same(
+        f"a change before the answer: {words}",
+        (command.returncode, "has changed since" in errors),
+        (1, True),
+    )

@@ -22,7 +22,17 @@ import psutil
 from desk import SUMS, TESTS, free_port, opened, command
 
 if "OFFICE_ROOM" not in os.environ:
-    os.execv("/bin/sh", ["sh", str(TESTS / "lib" / "office_room.sh"), sys.executable, "-B", os.path.abspath(sys.argv[0]), *sys.argv[1:]])
+    os.execv(
+        "/bin/sh",
+        [
+            "sh",
+            str(TESTS / "lib" / "office_room.sh"),
+            sys.executable,
+            "-B",
+            os.path.abspath(sys.argv[0]),
+            *sys.argv[1:],
+        ],
+    )
 ROOM = Path(os.environ["ROOM"])
 HOME = Path("/var/lib/clubdesk")
 CLUB = HOME / "club"
@@ -72,8 +82,24 @@ class Service:
     def __init__(self, port=0, at=NOON, club="club"):
         self.port, self.is_wanted, self.starts = port or free_port(), True, 0
         self.named = ROOM / "services" / f"clubdesk@{club}.service"
-        line = ["setpriv", "--reuid", "clubdesk", "--regid", "clubdesk", "--clear-groups", "clubdesk", "serve", HOME / club, "--port", str(self.port)]
-        self.keeper = threading.Thread(target=self.keep, args=([*line, "--count", "1000000", "--at", at, "--log"],), daemon=True)
+        line = [
+            "setpriv",
+            "--reuid",
+            "clubdesk",
+            "--regid",
+            "clubdesk",
+            "--clear-groups",
+            "clubdesk",
+            "serve",
+            HOME / club,
+            "--port",
+            str(self.port),
+        ]
+        self.keeper = threading.Thread(
+            target=self.keep,
+            args=([*line, "--count", "1000000", "--at", at, "--log"],),
+            daemon=True,
+        )
         self.keeper.start()
         self.is_heard()
 
@@ -89,7 +115,9 @@ class Service:
     def is_heard(self):
         """Waits until the server listens, for about half a minute at most. Returns whether the server listens."""
         for _ in range(1500):
-            with contextlib.suppress(OSError), socket.create_connection(("127.0.0.1", self.port), 5):
+            with contextlib.suppress(OSError), socket.create_connection(
+                ("127.0.0.1", self.port), 5
+            ):
                 return True
             time.sleep(0.02)
         return False
@@ -104,7 +132,9 @@ class Service:
         """Repeats a request with the pass `text` until the server gives a complete reply with a status below 500. Returns the reply's status and
         body."""
         for _ in range(200):
-            with contextlib.closing(http.client.HTTPConnection("127.0.0.1", self.port, timeout=30)) as client:
+            with contextlib.closing(
+                http.client.HTTPConnection("127.0.0.1", self.port, timeout=30)
+            ) as client:
                 with contextlib.suppress(OSError, http.client.HTTPException):
                     client.request(method, path, body, {"Authorization": f"Bearer {text}"})
                     reply = client.getresponse()
@@ -117,8 +147,15 @@ class Service:
 
 def begun(*words):
     """Starts a command of the office in a new session."""
-    return subprocess.Popen(["runuser", "-u", "anna", "--", "office", "club", *words], stdin=subprocess.PIPE, stdout=subprocess.PIPE, stderr=subprocess.PIPE,
-                            text=True, cwd="/home/anna", start_new_session=True)
+    return subprocess.Popen(
+        ["runuser", "-u", "anna", "--", "office", "club", *words],
+        stdin=subprocess.PIPE,
+        stdout=subprocess.PIPE,
+        stderr=subprocess.PIPE,
+        text=True,
+        cwd="/home/anna",
+        start_new_session=True,
+    )
 
 
 def kill(command, chance=None):
@@ -144,7 +181,9 @@ def copied():
     copy = ROOM / "copied"
     for _ in range(5):
         copy.unlink(missing_ok=True)
-        made = subprocess.run(["/usr/lib/clubdesk/back_up", CLUB, copy], capture_output=True, text=True, check=False)
+        made = subprocess.run(
+            ["/usr/lib/clubdesk/back_up", CLUB, copy], capture_output=True, text=True, check=False
+        )
         if made.returncode == 0:
             return opened(copy)
     raise RuntimeError(made.stderr)
@@ -168,7 +207,10 @@ def everything():
 
 def configure(**more):
     lines = {"FILE": CLUB, "ZONE": "UTC0", "PORT": "8080", **more}
-    Path("/etc/clubdesk/club.conf").write_text("# A club.\n" + "".join(f"{key}={value}\n" for key, value in lines.items()), encoding="ascii")
+    Path("/etc/clubdesk/club.conf").write_text(
+        "# A club.\n" + "".join(f"{key}={value}\n" for key, value in lines.items()),
+        encoding="ascii",
+    )
 
 
 def mode(file):

@@ -27,10 +27,21 @@ class Browser:
 
     def __init__(self, rules="MAP * ~NOTFOUND", before="", language="en-US", words=(), letters=16):
         options = webdriver.ChromeOptions()
-        for word in ["headless=new", "no-sandbox", "disable-gpu", "disable-dev-shm-usage", f"lang={language}", f"host-resolver-rules={rules}",
-                     "disable-features=HttpsUpgrades,HttpsFirstBalancedMode,HttpsFirstBalancedModeAutoEnable", *words]:
+        for word in [
+            "headless=new",
+            "no-sandbox",
+            "disable-gpu",
+            "disable-dev-shm-usage",
+            f"lang={language}",
+            f"host-resolver-rules={rules}",
+            "disable-features=HttpsUpgrades,HttpsFirstBalancedMode,HttpsFirstBalancedModeAutoEnable",
+            *words,
+        ]:
             options.add_argument(f"--{word}")
-        options.add_experimental_option("prefs", {"intl.accept_languages": language, "webkit.webprefs.default_font_size": letters})
+        options.add_experimental_option(
+            "prefs",
+            {"intl.accept_languages": language, "webkit.webprefs.default_font_size": letters},
+        )
         options.set_capability("goog:loggingPrefs", {"browser": "ALL", "performance": "ALL"})
         self.driver = webdriver.Chrome(options=options, service=Service("/usr/bin/chromedriver"))
         self.driver.set_script_timeout(60)
@@ -56,16 +67,19 @@ class Browser:
 
     def each(self, function, items):
         """Calls a helper function in the page for each item, and returns the results."""
-        script = self.helpers + f"""
+        script = (
+            self.helpers
+            + f"""
             const [items, done] = arguments;
             (async () => {{
               const answers = [];
               for (const item of items) answers.push(await {function}(item));
               done(answers);
             }})();"""
+        )
         answers = []
         for place in range(0, len(items), self.batch):
-            answers += self.driver.execute_async_script(script, items[place:place + self.batch])
+            answers += self.driver.execute_async_script(script, items[place : place + self.batch])
         return answers
 
     def press(self, *keys):
@@ -78,8 +92,17 @@ class Browser:
         return self.run("return document.activeElement.id || document.activeElement.value")
 
     def sees(self, width, scheme, height=900):
-        self.command("Emulation.setEmulatedMedia", features=[{"name": "prefers-color-scheme", "value": scheme}])
-        self.command("Emulation.setDeviceMetricsOverride", width=width, height=height, deviceScaleFactor=1, mobile=width < 600)
+        self.command(
+            "Emulation.setEmulatedMedia",
+            features=[{"name": "prefers-color-scheme", "value": scheme}],
+        )
+        self.command(
+            "Emulation.setDeviceMetricsOverride",
+            width=width,
+            height=height,
+            deviceScaleFactor=1,
+            mobile=width < 600,
+        )
 
     def fits(self, width, scheme, height=900, *what):
         """Checks that the page doesn't scroll sideways at this width."""
@@ -98,13 +121,28 @@ class Browser:
 
     def is_named(self, roles, live, *what):
         """Checks that each focusable element, and each element with one of these roles, has a name for screen readers. The elements with the ids
-        `live` must announce their changes to screen readers. Returns the nodes of the page's accessibility tree."""
-        tree = [node for node in self.command("Accessibility.getFullAXTree")["nodes"] if not node["ignored"]]
+        `live` must announce their changes to screen readers. Returns the nodes of the page's accessibility tree.
+        """
+        tree = [
+            node
+            for node in self.command("Accessibility.getFullAXTree")["nodes"]
+            if not node["ignored"]
+        ]
         for node in tree:
-            properties = {each["name"]: each["value"].get("value") for each in node.get("properties", [])}
+            properties = {
+                each["name"]: each["value"].get("value") for each in node.get("properties", [])
+            }
             if properties.get("focusable") or node["role"]["value"] in roles:
-                check(node["name"]["value"].strip(), "no name for a screen reader", *what, node["role"], node.get("description"))
-        heard = self.run("return [...document.querySelectorAll('[role=status], [role=alert], [aria-live]')].map((each) => each.id)")
+                check(
+                    node["name"]["value"].strip(),
+                    "no name for a screen reader",
+                    *what,
+                    node["role"],
+                    node.get("description"),
+                )
+        heard = self.run(
+            "return [...document.querySelectorAll('[role=status], [role=alert], [aria-live]')].map((each) => each.id)"
+        )
         check(live <= set(heard), "elements that announce changes to a screen reader", heard)
         return tree
 
@@ -128,33 +166,60 @@ class Browser:
 
     def focus_is_seen(self, *what):
         """Checks that the focused element has an outline. A date field needs no outline, because the browser marks a part of the date."""
-        outline = self.run("""const style = getComputedStyle(document.activeElement);
-            return document.activeElement.type === "date" || [style.outlineStyle, style.outlineWidth];""")
-        check(outline in (True, ["solid", "3px"]), "an invisible focus", *what, self.focused(), outline)
+        outline = self.run(
+            """const style = getComputedStyle(document.activeElement);
+            return document.activeElement.type === "date" || [style.outlineStyle, style.outlineWidth];"""
+        )
+        check(
+            outline in (True, ["solid", "3px"]),
+            "an invisible focus",
+            *what,
+            self.focused(),
+            outline,
+        )
 
     def side_by_side(self, pictures, width, height):
         """Returns a picture that shows several pictures side by side."""
         self.open("about:blank")
         self.sees(width, "light", height)
-        self.driver.execute_script("""document.body.style.cssText = "margin: 0; display: flex; gap: 20px; background: #c9d0ca";
+        self.driver.execute_script(
+            """document.body.style.cssText = "margin: 0; display: flex; gap: 20px; background: #c9d0ca";
             const [pictures, height] = arguments;
             for (const it of pictures) document.body.append(Object.assign(new Image(), { height, src: "data:image/png;base64," + it }));
-            return Promise.all([...document.images].map((image) => image.decode()));""", pictures, height)
+            return Promise.all([...document.images].map((image) => image.decode()));""",
+            pictures,
+            height,
+        )
         return self.command("Page.captureScreenshot")["data"]
 
     def picture(self, top=0, height=None):
         """Returns a PNG in base64 of the whole page, or of the part that begins at `top` and has the height `height`."""
-        width, whole = self.run("const { offsetWidth, offsetHeight } = document.documentElement; return [offsetWidth, offsetHeight];")
+        width, whole = self.run(
+            "const { offsetWidth, offsetHeight } = document.documentElement; return [offsetWidth, offsetHeight];"
+        )
         clip = {"x": 0, "y": top, "width": width, "height": height or whole, "scale": 1}
         return self.command("Page.captureScreenshot", captureBeyondViewport=True, clip=clip)["data"]
 
     def sent_nothing(self, page):
         """Checks that the browser loaded only the page, and that the console has no messages."""
-        check(self.run("return performance.getEntriesByType('resource').length") == 0, "the page loads something")
-        messages = [json.loads(entry["message"])["message"] for entry in self.driver.get_log("performance")]
-        asked = [each["params"]["request"]["url"] for each in messages if each["method"] == "Network.requestWillBeSent"]
+        check(
+            self.run("return performance.getEntriesByType('resource').length") == 0,
+            "the page loads something",
+        )
+        messages = [
+            json.loads(entry["message"])["message"] for entry in self.driver.get_log("performance")
+        ]
+        asked = [
+            each["params"]["request"]["url"]
+            for each in messages
+            if each["method"] == "Network.requestWillBeSent"
+        ]
         others = [address for address in asked if not address.startswith((page, "about:", "data:"))]
-        check(any(address.startswith(page) for address in asked) and not others, "the page requests", others)
+        check(
+            any(address.startswith(page) for address in asked) and not others,
+            "the page requests",
+            others,
+        )
         complaints = self.driver.get_log("browser")
         check(not complaints, "the console says", complaints)
 
@@ -170,12 +235,31 @@ def policy_holds(page, more, calls, *links):
         found = re.findall(f"<{tag}>(.*?)</{tag}>", text, re.DOTALL)
         check(len(found) == 1 and text.count(f"<{tag}") == 1, f"one {tag}", len(found))
         digest = base64.b64encode(hashlib.sha256(found[0].encode()).digest()).decode()
-        check(rules[f"{tag}-src"] == f"'sha256-{digest}'", f"the policy's hash of the {tag} should be", f"sha256-{digest}")
-    wanted = {"default-src": "'none'", "base-uri": "'none'", "img-src": "data:", "form-action": "'none'", **more}
+        check(
+            rules[f"{tag}-src"] == f"'sha256-{digest}'",
+            f"the policy's hash of the {tag} should be",
+            f"sha256-{digest}",
+        )
+    wanted = {
+        "default-src": "'none'",
+        "base-uri": "'none'",
+        "img-src": "data:",
+        "form-action": "'none'",
+        **more,
+    }
     check("unsafe" not in policy and wanted.items() <= rules.items(), "a strict policy", policy)
     outside = re.sub("<(script|style)>.*?</", "", text, flags=re.DOTALL)
-    check(not re.search(r'\s(on[a-z]+|style|src|action|srcset)=', outside), "attributes that load or run something")
-    check(all(link.startswith("data:") or link in links for link in re.findall('href="([^"]*)"', outside)), "links")
+    check(
+        not re.search(r"\s(on[a-z]+|style|src|action|srcset)=", outside),
+        "attributes that load or run something",
+    )
+    check(
+        all(
+            link.startswith("data:") or link in links
+            for link in re.findall('href="([^"]*)"', outside)
+        ),
+        "links",
+    )
     misplaced = rf"innerHTML|outerHTML|insertAdjacentHTML|document\.write|eval\(|XMLHttpRequest|WebSocket|{calls}"
     check(not re.search(misplaced, text), "forbidden calls")
     check(not re.search(r"url\(|@import", text), "styles that load something")

@@ -19,10 +19,19 @@ from page_browser import Browser, check
 
 MINI_BROWSER = "/usr/lib/x86_64-linux-gnu/webkit2gtk-4.1/MiniBrowser"
 PREFERENCES = {
-    "marionette.port": None, "intl.accept_languages": "en-US", "network.dns.localDomains": "desk.example.org", "app.update.enabled": False,
-    "datareporting.policy.dataSubmissionEnabled": False, "network.captive-portal-service.enabled": False, "network.connectivity-service.enabled": False,
-    "browser.safebrowsing.malware.enabled": False, "browser.safebrowsing.phishing.enabled": False, "services.settings.server": "data:,",
-    "browser.shell.checkDefaultBrowser": False, "extensions.getAddons.cache.enabled": False, "dom.serviceWorkers.enabled": True,
+    "marionette.port": None,
+    "intl.accept_languages": "en-US",
+    "network.dns.localDomains": "desk.example.org",
+    "app.update.enabled": False,
+    "datareporting.policy.dataSubmissionEnabled": False,
+    "network.captive-portal-service.enabled": False,
+    "network.connectivity-service.enabled": False,
+    "browser.safebrowsing.malware.enabled": False,
+    "browser.safebrowsing.phishing.enabled": False,
+    "services.settings.server": "data:,",
+    "browser.shell.checkDefaultBrowser": False,
+    "extensions.getAddons.cache.enabled": False,
+    "dom.serviceWorkers.enabled": True,
 }
 WIDTH, HEIGHT = 400, 820
 
@@ -46,7 +55,13 @@ class Engine:
         """Waits until a condition holds in the page."""
         end = time.monotonic() + limit
         while not self.get(f"return Boolean({condition})"):
-            check(time.monotonic() < end, self.name, *what, condition, self.run("return document.body.innerText"))
+            check(
+                time.monotonic() < end,
+                self.name,
+                *what,
+                condition,
+                self.run("return document.body.innerText"),
+            )
             time.sleep(0.1)
 
     def code(self, place):
@@ -56,14 +71,21 @@ class Engine:
             for _ in range(20):
                 time.sleep(0.2)  # the browser draws the element soon after the scrolling
                 Path(file.name).write_bytes(self.picture())
-                text = subprocess.run(["zbarimg", "-q", "--raw", file.name], capture_output=True, text=True, check=False).stdout.strip()
+                text = subprocess.run(
+                    ["zbarimg", "-q", "--raw", file.name],
+                    capture_output=True,
+                    text=True,
+                    check=False,
+                ).stdout.strip()
                 if text:
                     return text
         return ""
 
     def press(self, words, root):
         """Presses the button that is in the element `root` and has these words."""
-        self.tap(f"//*[@id='{root}']//button[normalize-space()=\"{words}\" or @aria-label=\"{words}\"]")
+        self.tap(
+            f'//*[@id=\'{root}\']//button[normalize-space()="{words}" or @aria-label="{words}"]'
+        )
 
     def press_in_card(self, words):
         """Presses the button that belongs to the first future booking and has these words."""
@@ -76,7 +98,10 @@ class Chromium(Engine):
     name, host = "chromium", "desk.example.org"
 
     def __init__(self, words=()):
-        self.browser = Browser(rules="MAP desk.example.org 127.0.0.1, EXCLUDE localhost, MAP * ~NOTFOUND", words=["ignore-certificate-errors", *words])
+        self.browser = Browser(
+            rules="MAP desk.example.org 127.0.0.1, EXCLUDE localhost, MAP * ~NOTFOUND",
+            words=["ignore-certificate-errors", *words],
+        )
         self.browser.sees(WIDTH, "light", HEIGHT)
         self.version = self.browser.driver.capabilities["browserVersion"]
 
@@ -108,10 +133,27 @@ class Firefox(Engine):
         self.folder = tempfile.TemporaryDirectory(ignore_cleanup_errors=True)
         port, self.count, self.rest = desk.free_port(), 0, b""
         preferences = {**PREFERENCES, "marionette.port": port}
-        Path(self.folder.name, "user.js").write_text("".join(f"user_pref({json.dumps(name)}, {json.dumps(value)});\n" for name, value in preferences.items()), encoding="utf-8")
+        Path(self.folder.name, "user.js").write_text(
+            "".join(
+                f"user_pref({json.dumps(name)}, {json.dumps(value)});\n"
+                for name, value in preferences.items()
+            ),
+            encoding="utf-8",
+        )
         size = {"MOZ_HEADLESS_WIDTH": str(WIDTH), "MOZ_HEADLESS_HEIGHT": str(HEIGHT)}
-        self.process = subprocess.Popen(["firefox-esr", "--headless", "--marionette", "--no-remote", "--profile", self.folder.name],
-                                        stdout=subprocess.DEVNULL, stderr=subprocess.DEVNULL, env={**os.environ, "HOME": self.folder.name, **size})
+        self.process = subprocess.Popen(
+            [
+                "firefox-esr",
+                "--headless",
+                "--marionette",
+                "--no-remote",
+                "--profile",
+                self.folder.name,
+            ],
+            stdout=subprocess.DEVNULL,
+            stderr=subprocess.DEVNULL,
+            env={**os.environ, "HOME": self.folder.name, **size},
+        )
         end = time.monotonic() + 60
         while True:
             try:
@@ -122,7 +164,9 @@ class Firefox(Engine):
                     raise
                 time.sleep(0.2)
         self.received()
-        self.version = self.command("WebDriver:NewSession", acceptInsecureCerts=True)["capabilities"]["browserVersion"]
+        self.version = self.command("WebDriver:NewSession", acceptInsecureCerts=True)[
+            "capabilities"
+        ]["browserVersion"]
         self.command("WebDriver:SetWindowRect", width=WIDTH, height=HEIGHT)
 
     def received(self):
@@ -132,7 +176,7 @@ class Firefox(Engine):
         length, _, self.rest = self.rest.partition(b":")
         while len(self.rest) < int(length):
             self.rest += self.come()
-        message, self.rest = self.rest[:int(length)], self.rest[int(length):]
+        message, self.rest = self.rest[: int(length)], self.rest[int(length) :]
         return json.loads(message)
 
     def come(self):
@@ -156,10 +200,14 @@ class Firefox(Engine):
 
     def run(self, script, *words):
         """Runs a script in the page. The script can use the page's functions, but not its constants."""
-        return self.command("WebDriver:ExecuteScript", script=script, args=list(words), sandbox=None)["value"]
+        return self.command(
+            "WebDriver:ExecuteScript", script=script, args=list(words), sandbox=None
+        )["value"]
 
     def found(self, path):
-        return next(iter(self.command("WebDriver:FindElement", using="xpath", value=path)["value"].values()))
+        return next(
+            iter(self.command("WebDriver:FindElement", using="xpath", value=path)["value"].values())
+        )
 
     def tap(self, path):
         self.command("WebDriver:ElementClick", id=self.found(path))
@@ -183,7 +231,12 @@ class WebKit(Engine):
 
     def __init__(self):
         read, write = os.pipe()
-        self.display = subprocess.Popen(["Xvfb", "-displayfd", str(write), "-screen", "0", "1280x900x24"], pass_fds=[write], stdout=subprocess.DEVNULL, stderr=subprocess.DEVNULL)
+        self.display = subprocess.Popen(
+            ["Xvfb", "-displayfd", str(write), "-screen", "0", "1280x900x24"],
+            pass_fds=[write],
+            stdout=subprocess.DEVNULL,
+            stderr=subprocess.DEVNULL,
+        )
         os.close(write)
         with os.fdopen(read) as come:
             number = come.readline().strip()
@@ -191,8 +244,12 @@ class WebKit(Engine):
         options.binary_location = MINI_BROWSER
         options.add_argument("--automation")
         options.set_capability("acceptInsecureCerts", True)
-        os.environ.update(DISPLAY=f":{number}", WEBKIT_DISABLE_SANDBOX_THIS_IS_DANGEROUS="1")  # the driver passes these variables to the browser
-        self.driver = webdriver.WebKitGTK(executable_path="/usr/bin/WebKitWebDriver", options=options)
+        os.environ.update(
+            DISPLAY=f":{number}", WEBKIT_DISABLE_SANDBOX_THIS_IS_DANGEROUS="1"
+        )  # the driver passes these variables to the browser
+        self.driver = webdriver.WebKitGTK(
+            executable_path="/usr/bin/WebKitWebDriver", options=options
+        )
         self.version = self.driver.capabilities.get("browserVersion", "")
         self.driver.set_window_size(WIDTH, HEIGHT)
 

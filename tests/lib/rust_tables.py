@@ -7,11 +7,20 @@ from functools import cache
 from pathlib import Path
 
 CRATES = Path(__file__).resolve().parents[2] / "crates"
-TOKEN = re.compile(r"""\s+|//[^\n]*|(?P<raw>b?r(?P<fence>\#*)"[\s\S]*?"(?P=fence))
+TOKEN = re.compile(
+    r"""\s+|//[^\n]*|(?P<raw>b?r(?P<fence>\#*)"[\s\S]*?"(?P=fence))
                    |(?P<string>b?"(?:\\[\s\S]|[^"\\])*")|(?P<byte>b'(?:\\.[^']*|[^'\\])')|(?P<number>\d[\d_]*(?:\.\d+)?)(?:u8|u16|u32|u64|usize|i64)?
-                   |(?P<name>r?[A-Za-z_]\w*(?:::[A-Za-z_]\w*)*)|(?P<sign>\.\.|->|::|[\[\](){}<>,;:=&*+.'|!?#-])""", re.VERBOSE)
+                   |(?P<name>r?[A-Za-z_]\w*(?:::[A-Za-z_]\w*)*)|(?P<sign>\.\.|->|::|[\[\](){}<>,;:=&*+.'|!?#-])""",
+    re.VERBOSE,
+)
 METHODS = {"len": len, "as_bytes": str.encode}
-BOUNDS = {"u8::MAX": 2**8 - 1, "u16::MAX": 2**16 - 1, "u32::MAX": 2**32 - 1, "u64::MAX": 2**64 - 1, "usize::MAX": 2**64 - 1}
+BOUNDS = {
+    "u8::MAX": 2**8 - 1,
+    "u16::MAX": 2**16 - 1,
+    "u32::MAX": 2**32 - 1,
+    "u64::MAX": 2**64 - 1,
+    "usize::MAX": 2**64 - 1,
+}
 
 
 class NotRead(Exception):
@@ -39,7 +48,11 @@ def unescaped(text):
     """Returns the value of a string literal. A backslash at the end of a line removes the line break and the spaces after it."""
     text = re.sub(r"\\\n\s*", "", text)
     simple = {"n": "\n", "r": "\r", "t": "\t", "0": "\0", '"': '"', "'": "'", "\\": "\\"}
-    return re.sub(r"\\(?:x([0-9a-f]{2})|u\{([0-9a-f]+)\}|(.))", lambda it: chr(int(it[1] or it[2], 16)) if it[1] or it[2] else simple[it[3]], text)
+    return re.sub(
+        r"\\(?:x([0-9a-f]{2})|u\{([0-9a-f]+)\}|(.))",
+        lambda it: chr(int(it[1] or it[2], 16)) if it[1] or it[2] else simple[it[3]],
+        text,
+    )
 
 
 def tokens_of(text):
@@ -47,7 +60,7 @@ def tokens_of(text):
     while at < len(text):
         it = TOKEN.match(text, at)
         if not it:
-            raise NotRead(text[at:at + 40])
+            raise NotRead(text[at : at + 40])
         at = it.end()
         if it.lastgroup:
             found.append((it.lastgroup, it[it.lastgroup]))
@@ -116,13 +129,17 @@ class Expression:
             value = unescaped(text[2:-1] if text.startswith("b") else text[1:-1])
             return value.encode("latin-1") if text.startswith("b") else value
         if kind == "raw":
-            value = text[text.index('"') + 1:text.rindex('"')]
+            value = text[text.index('"') + 1 : text.rindex('"')]
             return value.encode("latin-1") if text.startswith("b") else value
         if kind == "byte":
             return ord(unescaped(text[2:-1]))
         if text == "(":
             values = self.listed(")")
-            return values[0] if len(values) == 1 and self.tokens[self.at - 2][1] != "," else tuple(values)
+            return (
+                values[0]
+                if len(values) == 1 and self.tokens[self.at - 2][1] != ","
+                else tuple(values)
+            )
         if text == "[":
             return self.listed("]")
         if kind == "name":
@@ -180,18 +197,20 @@ class File:
         self.text = path.read_text(encoding="utf-8")
         self.crate = path.relative_to(CRATES).parts[0]
         self.items = {it[1]: it.end() for it in ITEM.finditer(self.text)}
-        self.used = dict(leaf for it in USE.findall(self.text) for leaf in leaves(" ".join(it.split())))
+        self.used = dict(
+            leaf for it in USE.findall(self.text) for leaf in leaves(" ".join(it.split()))
+        )
         self.kept = {}
 
     def expression(self, name):
         """Returns the tokens of an item from its `=` to its end."""
-        rest = self.text[self.items[name]:]
+        rest = self.text[self.items[name] :]
         end, depth, is_begun = 0, 0, False
         tokens = []
         while end < len(rest):
             it = TOKEN.match(rest, end)
             if not it:
-                raise NotRead(rest[end:end + 40])
+                raise NotRead(rest[end : end + 40])
             end = it.end()
             if not it.lastgroup:
                 continue
@@ -224,7 +243,11 @@ class File:
             if home is not None and path[-1] in home.used:
                 return home.value(path[-1])
             if home is None or not rest:
-                return Node(short("::".join(path[-2:])) if path[-2:-1] and path[-2][:1].isupper() else short(name))
+                return Node(
+                    short("::".join(path[-2:]))
+                    if path[-2:-1] and path[-2][:1].isupper()
+                    else short(name)
+                )
         return Node(short(name))
 
     def statics(self):
@@ -261,7 +284,9 @@ def file_at(path):
 
 def beside(file, module):
     """Returns the path of the file for a module that another file declares."""
-    return (file.path.parent if file.path.stem == "lib" else file.path.with_suffix("")) / f"{module}.rt"
+    return (
+        file.path.parent if file.path.stem == "lib" else file.path.with_suffix("")
+    ) / f"{module}.rt"
 
 
 def home_of(file, path):

@@ -14,7 +14,9 @@ from scenario_lines import Crash, Listing, Office, Request
 from scenario_players import Rules, listing
 
 NO_FIELD = re.compile(rb"Host: club\r\n|Content-Length: 0\r\n(?=\r\n$)")
-PLAIN_PASS = re.compile(rb"(?i)(Authorization:? Bearer )[\w-]+(?=\r?\n)|(Authorization: Bearer )\{\"c\":.*?\}(?=\r?\n)")
+PLAIN_PASS = re.compile(
+    rb"(?i)(Authorization:? Bearer )[\w-]+(?=\r?\n)|(Authorization: Bearer )\{\"c\":.*?\}(?=\r?\n)"
+)
 
 
 class Fact(NamedTuple):
@@ -42,17 +44,28 @@ def looked_at(ask, text):
     front = next((it for it, _ in caveats.LINES if text.startswith(it.encode())), None)
     slot = ask.slot
     if front in ("facility = ", "kind = ", "hours = ", "days = ", "weekday = "):
-        found = {"facility = ": slot and slot[0], "kind = ": ask.kind, "hours = ": slot and slot[2], "days = ": slot and slot[1],
-                 "weekday = ": slot and slot[1]}[front]
+        found = {
+            "facility = ": slot and slot[0],
+            "kind = ": ask.kind,
+            "hours = ": slot and slot[2],
+            "days = ": slot and slot[1],
+            "weekday = ": slot and slot[1],
+        }[front]
         return found if slot else "no slot"
-    return {"until < ": ask.moment, "guests <= ": ask.guests if ask.action == "book" else "no booking",
-            "spend <= ": (ask.owed, ask.spent) if ask.owed else "nothing owed", "actions = ": ask.action}.get(front, "")
+    return {
+        "until < ": ask.moment,
+        "guests <= ": ask.guests if ask.action == "book" else "no booking",
+        "spend <= ": (ask.owed, ask.spent) if ask.owed else "nothing owed",
+        "actions = ": ask.action,
+    }.get(front, "")
 
 
 def caveat_fact(text, ask):
     test = caveats.test_of(text)
     verdict = "not understood" if test is None else "allows" if test(ask) else "denies"
-    return Fact("caveat", (text.decode("latin-1"), "" if test is None else looked_at(ask, text)), verdict)
+    return Fact(
+        "caveat", (text.decode("latin-1"), "" if test is None else looked_at(ask, text)), verdict
+    )
 
 
 def understood(text):
@@ -94,7 +107,18 @@ def state_of(club, name, request, moment):
     if request.action == "account":
         return "account", member, *account, club.spent(name)
     if request.action == "view":
-        return ("view", *request.slot, facility.kind, *numbers[:2], club.taken(request.slot), request.slot in club.closed) if facility else ("view", None)
+        return (
+            (
+                "view",
+                *request.slot,
+                facility.kind,
+                *numbers[:2],
+                club.taken(request.slot),
+                request.slot in club.closed,
+            )
+            if facility
+            else ("view", None)
+        )
     booking = club.bookings[name].get(request.number)
     if booking:
         return recorded(request, booking, minutes_to(booking.slot, moment))
@@ -102,13 +126,29 @@ def state_of(club, name, request, moment):
         return "cancel", "no booking", facility is not None
     if facility is None:
         return "book", None
-    return "book", numbers, request.slot[2], minutes_to(request.slot, moment), request.guests, club.taken(request.slot), request.slot in club.closed, *account
+    return (
+        "book",
+        numbers,
+        request.slot[2],
+        minutes_to(request.slot, moment),
+        request.guests,
+        club.taken(request.slot),
+        request.slot in club.closed,
+        *account,
+    )
 
 
 def recorded(request, booking, minutes):
     is_same = booking.slot == request.slot
     if request.action == "book":
-        return "book again", is_same and booking.guests == request.guests, booking.charge, booking.left, booking.is_cancelled, minutes > 0
+        return (
+            "book again",
+            is_same and booking.guests == request.guests,
+            booking.charge,
+            booking.left,
+            booking.is_cancelled,
+            minutes > 0,
+        )
     return "cancel", is_same, booking.charge, booking.is_cancelled, booking.refund, minutes
 
 
@@ -129,12 +169,15 @@ def asked_facts(club, text, request, moment, reply):
 def signed_facts(club, name, texts, request, moment, reply):
     ask = club.ask_of(name, request, moment)
     fault = caveats.first_fault(texts, ask)
-    tested = texts[:fault[1]] if fault else texts
+    tested = texts[: fault[1]] if fault else texts
     facts = [it for text in tested for it in (caveat_fact(text, ask), understood(text))]
     if fault:
         about = tuple((text.decode("latin-1"), looked_at(ask, text)) for text in tested)
         return [*facts, Fact("caveats", about, answer_of(reply, request.action))]
-    return [*facts, Fact("decision", state_of(club, name, request, moment), answer_of(reply, request.action))]
+    return [
+        *facts,
+        Fact("decision", state_of(club, name, request, moment), answer_of(reply, request.action)),
+    ]
 
 
 # ---- bytes
@@ -185,7 +228,11 @@ class Before:
 
     def facts(self, reply):
         last = self.made[-1]
-        return [*self.made[:-1], last._replace(answer=answer_of(reply, self.action))] if last.kind != "root" else self.made
+        return (
+            [*self.made[:-1], last._replace(answer=answer_of(reply, self.action))]
+            if last.kind != "root"
+            else self.made
+        )
 
 
 # ---- the office
@@ -212,14 +259,23 @@ def command_state(club, words):
         return values[1] in club.members, values[0] in club.keys
     if name == "cancel-booking":
         booking = club.bookings.get(values[0], {}).get(values[1])
-        return values[0] in club.keys, booking and (booking.charge, booking.is_cancelled, booking.refund)
+        return values[0] in club.keys, booking and (
+            booking.charge,
+            booking.is_cancelled,
+            booking.refund,
+        )
     key = club.keys.get(values[0])
     is_known = key and ("revoked" if key.is_revoked else "known")
     if name == "revoke-key":
         return (is_known,)
     if name == "rotate-key":
         return is_known, bool(key) and key.root == values[1]
-    return slot_state(club.facilities.get(values[0]), values[2], tuple(values) in club.closed, club.taken(tuple(values)))
+    return slot_state(
+        club.facilities.get(values[0]),
+        values[2],
+        tuple(values) in club.closed,
+        club.taken(tuple(values)),
+    )
 
 
 def slot_state(facility, hour, is_closed, taken):
@@ -238,7 +294,13 @@ def command_facts(club, words, form="v2"):
     facts = [Fact("command", asked, "done")]
     if words[0] in lines.OF_KEYS:
         root = words[lines.OF_KEYS[words[0]] + 1]
-        facts.append(Fact("printed", (words[0], words[1], root.hex()), passes.text_of(passes.minted(root, b"key:" + words[1].encode()), form).decode()))
+        facts.append(
+            Fact(
+                "printed",
+                (words[0], words[1], root.hex()),
+                passes.text_of(passes.minted(root, b"key:" + words[1].encode()), form).decode(),
+            )
+        )
     return facts
 
 

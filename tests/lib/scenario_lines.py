@@ -20,11 +20,17 @@ REFUSALS = ("exists", "unknown", "out of range", "slot in use")
 # COMMANDS has the kinds of each command's values. OF_KEYS has the commands that print a key's pass. The number in OF_KEYS is the position of the
 # root among the command's values.
 COMMANDS = {
-    "add-member": ("name", "number"), "credit": ("name", "number"), "debit": ("name", "number"), "set-quota": ("name", "number"),
+    "add-member": ("name", "number"),
+    "credit": ("name", "number"),
+    "debit": ("name", "number"),
+    "set-quota": ("name", "number"),
     "add-facility": ("name", "kind", "number", "number", "number", "number"),
     "set-facility": ("name", "number", "number", "number", "number"),
-    "add-key": ("name", "name", "root"), "revoke-key": ("name",), "rotate-key": ("name", "root", "moment"),
-    "close-slot": ("name", "day", "hour"), "open-slot": ("name", "day", "hour"),
+    "add-key": ("name", "name", "root"),
+    "revoke-key": ("name",),
+    "rotate-key": ("name", "root", "moment"),
+    "close-slot": ("name", "day", "hour"),
+    "open-slot": ("name", "day", "hour"),
     "cancel-booking": ("name", "number"),
 }
 OF_KEYS = {"add-key": 2, "rotate-key": 1}
@@ -58,10 +64,18 @@ class Pass:
     location: bytes = b"club-desk"
 
     def given(self):
-        made = passes.minted(bytes.fromhex(self.root), b"key:" + self.key.encode() if self.identifier is None else self.identifier, self.location)
+        made = passes.minted(
+            bytes.fromhex(self.root),
+            b"key:" + self.key.encode() if self.identifier is None else self.identifier,
+            self.location,
+        )
         for caveat in self.caveats:
             made = made.narrowed(caveat)
-        return replace(made, signature=made.signature[:31] + bytes([made.signature[31] ^ 1])) if self.is_forged else made
+        return (
+            replace(made, signature=made.signature[:31] + bytes([made.signature[31] ^ 1]))
+            if self.is_forged
+            else made
+        )
 
     def text(self, form):
         return passes.text_of(self.given(), self.form or form)
@@ -91,7 +105,9 @@ class Reply:
         return wire.bytes_with(self.status, self.body, self.methods)
 
     def __str__(self):
-        return f"{self.status} {self.body.decode()}" + (f"  allows {' and '.join(self.methods.split(', '))}" if self.methods else "")
+        return f"{self.status} {self.body.decode()}" + (
+            f"  allows {' and '.join(self.methods.split(', '))}" if self.methods else ""
+        )
 
 
 @dataclass(frozen=True)
@@ -176,14 +192,29 @@ def inner(event):
     return event.event if isinstance(event, Crash) else event
 
 
-READERS = {"name": str, "number": int, "kind": str, "root": bytes.fromhex, "moment": caveats.moment_of, "day": caveats.day_of, "hour": caveats.hour_of}
-SHAPES = {"name": NAME, "number": r"0|[1-9]\d{0,8}", "kind": "court|boat|room", "root": "(?:[0-9a-f]{2}){16,64}"}
+READERS = {
+    "name": str,
+    "number": int,
+    "kind": str,
+    "root": bytes.fromhex,
+    "moment": caveats.moment_of,
+    "day": caveats.day_of,
+    "hour": caveats.hour_of,
+}
+SHAPES = {
+    "name": NAME,
+    "number": r"0|[1-9]\d{0,8}",
+    "kind": "court|boat|room",
+    "root": "(?:[0-9a-f]{2}){16,64}",
+}
 
 
 def unescaped(text):
     """Returns the bytes of a text, with its escapes replaced."""
     out = bytearray()
-    for plain, simple, code, odd in re.findall(r"([^\\]+)|\\([rnt\\])|\\x([0-9a-f]{2})|(\\.?)", text):
+    for plain, simple, code, odd in re.findall(
+        r"([^\\]+)|\\([rnt\\])|\\x([0-9a-f]{2})|(\\.?)", text
+    ):
         if odd:
             raise ValueError(f"{odd} isn't an escape")
         out += plain.encode() or ESCAPES.get(simple) or bytes.fromhex(code)
@@ -229,7 +260,7 @@ class Reader:
     def below(self):
         """Returns the lines that belong to the current line: the following lines that begin with a space."""
         found = []
-        for line in self.lines[self.at:]:
+        for line in self.lines[self.at :]:
             if not line.startswith(" "):
                 break
             found.append(line.strip())
@@ -238,11 +269,25 @@ class Reader:
     def line(self, line):
         if line.startswith(" "):
             raise ValueError("an indented line belongs to no other line")
-        known = {"club": self.read_club, "root": self.read_root, "text": self.read_text, "at": self.read_at, "bytes": self.read_bytes,
-                 "office": self.read_office, "sheet": self.read_sheet, "account": self.read_account, "slot": self.read_slot,
-                 "crash": self.read_crash, "reopen": self.read_reopen}
+        known = {
+            "club": self.read_club,
+            "root": self.read_root,
+            "text": self.read_text,
+            "at": self.read_at,
+            "bytes": self.read_bytes,
+            "office": self.read_office,
+            "sheet": self.read_sheet,
+            "account": self.read_account,
+            "slot": self.read_slot,
+            "crash": self.read_crash,
+            "reopen": self.read_reopen,
+        }
         word, _, rest = line.rstrip().partition(" ")
-        columns = [word, *filter(None, re.split(" {2,}", rest.strip()))] if word in known else re.split(" {2,}", line.rstrip())
+        columns = (
+            [word, *filter(None, re.split(" {2,}", rest.strip()))]
+            if word in known
+            else re.split(" {2,}", line.rstrip())
+        )
         below = self.below()
         known.get(columns[0], self.read_request)(columns, below)
         self.at += len(below)
@@ -262,7 +307,11 @@ class Reader:
         if self.club is None:
             raise ValueError("no club before this one")
         self.keys = {}
-        commands = [] if self.club == "empty" else [it for part in self.club.split("; ") for it in self.part_of_club(part)]
+        commands = (
+            []
+            if self.club == "empty"
+            else [it for part in self.club.split("; ") for it in self.part_of_club(part)]
+        )
         scenario = Scenario(self.place, commands)
         made(scenario)
         self.scenarios.append(scenario)
@@ -277,17 +326,31 @@ class Reader:
         return [self.facility(it) for it in part.split(", ")]
 
     def member(self, text):
-        name, quota, points = self.matched(text, rf"({NAME}) (\d+) (\d+)", "a member has a name, a quota and points")
+        name, quota, points = self.matched(
+            text, rf"({NAME}) (\d+) (\d+)", "a member has a name, a quota and points"
+        )
         points = int(points)
-        credits = [MOST_CREDIT] * (points // MOST_CREDIT) + [points % MOST_CREDIT] * (points % MOST_CREDIT > 0)
+        credits = [MOST_CREDIT] * (points // MOST_CREDIT) + [points % MOST_CREDIT] * (
+            points % MOST_CREDIT > 0
+        )
         return [("add-member", name, quota), *(("credit", name, str(it)) for it in credits)]
 
     def facility(self, text):
-        return ("add-facility", *self.matched(text, rf"({NAME}) ({SHAPES['kind']}) (\d+) (\d+) (\d+)-(\d+)",
-                                              "a facility has a name, a kind, places, a price and hours"))
+        return (
+            "add-facility",
+            *self.matched(
+                text,
+                rf"({NAME}) ({SHAPES['kind']}) (\d+) (\d+) (\d+)-(\d+)",
+                "a facility has a name, a kind, places, a price and hours",
+            ),
+        )
 
     def key(self, text):
-        name, member, root = self.matched(text, rf"({NAME})(?: of ({NAME}))?(?: under (\S+))?", "a key has a name, a member and a root")
+        name, member, root = self.matched(
+            text,
+            rf"({NAME})(?: of ({NAME}))?(?: under (\S+))?",
+            "a key has a name, a member and a root",
+        )
         self.keys[name] = self.root(root or "first")
         return ("add-key", name, member or name.rpartition("-")[0], self.keys[name])
 
@@ -299,19 +362,23 @@ class Reader:
 
     def root(self, text):
         root = self.roots.get(text, text)
-        self.matched(root, f"({SHAPES['root']})", "a root has 16 to 64 bytes in hexadecimal, or a name")
+        self.matched(
+            root, f"({SHAPES['root']})", "a root has 16 to 64 bytes in hexadecimal, or a name"
+        )
         return root
 
     def read_root(self, columns, below):
         self.none_below(below)
-        name, root = self.matched(" ".join(columns[1:]), r"(\S+) (\S+)", "a root has a name and its bytes")
+        name, root = self.matched(
+            " ".join(columns[1:]), r"(\S+) (\S+)", "a root has a name and its bytes"
+        )
         self.roots[name] = self.root(root)
 
     def read_text(self, columns, below):
         """Reads one of two kinds of lines: the definition of a text, or a request that has a defined text in place of a pass."""
         if len(columns) > 2:
             return self.read_request([f"text {columns[1]}", *columns[2:]], below)
-        name, = self.matched(" ".join(columns[1:]), rf"({NAME})", "a text has a name")
+        (name,) = self.matched(" ".join(columns[1:]), rf"({NAME})", "a text has a name")
         self.texts[name] = b"".join(self.repeated(it) for it in below)
 
     def repeated(self, text):
@@ -332,7 +399,9 @@ class Reader:
             raise ValueError("no club before it")
         if self.crashes and isinstance(event, (Listing, Reopen)):
             raise ValueError("a crash must be followed by a request or a command")
-        self.scenarios[-1].events.append(Crash(event.place, event.moment, event) if self.crashes else event)
+        self.scenarios[-1].events.append(
+            Crash(event.place, event.moment, event) if self.crashes else event
+        )
         self.crashes = False
 
     def asked(self, pieces, columns):
@@ -345,8 +414,14 @@ class Reader:
         if len(columns) < 2:
             raise ValueError(f"not understood: {' '.join(columns)}")
         passed = self.holder(columns[0])
-        method, path, body = self.matched(columns[1], r"(\S+) (\S+)(?: (.+))?", "a request has a method, a path and perhaps a body")
-        path = path if path.startswith("/") else f"/{path}" if path == "account" else f"/slots/{path}"
+        method, path, body = self.matched(
+            columns[1],
+            r"(\S+) (\S+)(?: (.+))?",
+            "a request has a method, a path and perhaps a body",
+        )
+        path = (
+            path if path.startswith("/") else f"/{path}" if path == "account" else f"/slots/{path}"
+        )
         body = (body or "").encode()
         pieces = [f"{method} {path} HTTP/1.1\r\nHost: club\r\n".encode()]
         pieces += [b"Authorization: Bearer ", passed, b"\r\n"] if passed else []
@@ -369,7 +444,11 @@ class Reader:
             if text[5:] not in self.texts:
                 raise ValueError(f"undefined: {text}")
             return Text(self.texts[text[5:]])
-        key, parts = self.matched(text, rf"({NAME})(?: \[(.*)\])?", "a line begins with a keyword, or with a key and parts of its pass")
+        key, parts = self.matched(
+            text,
+            rf"({NAME})(?: \[(.*)\])?",
+            "a line begins with a keyword, or with a key and parts of its pass",
+        )
         parts = parts.split("; ") if parts else []
         if ("unknown" in parts) == (key in self.keys):
             raise ValueError(f"the key {key} is {'known' if key in self.keys else 'unknown'}")
@@ -399,11 +478,20 @@ class Reader:
         """Returns the reply that a line states, or None if the line states no reply."""
         if not columns:
             return None
-        status, body = self.matched(columns[0], r"(\d{3}) (\S.*)", "a reply has a status and a body")
+        status, body = self.matched(
+            columns[0], r"(\d{3}) (\S.*)", "a reply has a status and a body"
+        )
         if int(status) not in wire.PHRASES:
             raise ValueError(f"not a status of the desk: {status}")
         json.loads(body)
-        methods = next((it.removeprefix("allows ").replace(" and ", ", ") for it in columns[1:] if it.startswith("allows ")), None)
+        methods = next(
+            (
+                it.removeprefix("allows ").replace(" and ", ", ")
+                for it in columns[1:]
+                if it.startswith("allows ")
+            ),
+            None,
+        )
         if (methods is not None) != (status == "405"):
             raise ValueError("a reply has the path's methods if and only if its status is 405")
         reply = Reply(int(status), body.encode(), methods)
@@ -414,7 +502,9 @@ class Reader:
 
     def has_length(self, reply, text):
         for count in text.split(", "):
-            number, what = self.matched(count, r"(\d+) (bytes|in all)", "only counts of its bytes may follow a reply")
+            number, what = self.matched(
+                count, r"(\d+) (bytes|in all)", "only counts of its bytes may follow a reply"
+            )
             found = len(reply.body if what == "bytes" else reply.data)
             if int(number) != found:
                 raise ValueError(f"{found}, not {number} {what}")
@@ -425,12 +515,16 @@ class Reader:
         kinds = COMMANDS.get(name)
         if kinds is None or len(values) not in (len(kinds), len(kinds) + 2 * (name in OF_KEYS)):
             raise ValueError(f"not a command: {' '.join(columns[1:2])}")
-        values = [self.value(kind, it) for kind, it in zip(kinds, values)] + values[len(kinds):]
+        values = [self.value(kind, it) for kind, it in zip(kinds, values)] + values[len(kinds) :]
         if name == "add-key":
             self.keys.setdefault(values[0], values[2])
         outcomes = tuple(columns[2].split(" or ")) if len(columns) > 2 else ()
         for it in outcomes:
-            self.matched(it, rf"(done|prints \S+|refused: (?:{'|'.join(REFUSALS)}))", "not an outcome of a command")
+            self.matched(
+                it,
+                rf"(done|prints \S+|refused: (?:{'|'.join(REFUSALS)}))",
+                "not an outcome of a command",
+            )
         self.happens(Office(self.place, self.moment, (name, *values), outcomes))
 
     def value(self, kind, text):
@@ -444,23 +538,43 @@ class Reader:
 
     def read_sheet(self, columns, below):
         day = self.value("day", " ".join(columns[1:]))
-        self.happens(Listing(self.place, self.moment, ("sheet", day), (f"Day sheet {day}", *below) if below else None))
+        self.happens(
+            Listing(
+                self.place,
+                self.moment,
+                ("sheet", day),
+                (f"Day sheet {day}", *below) if below else None,
+            )
+        )
 
     def read_account(self, columns, below):
         self.none_below(below)
         if self.moment is None:
             raise ValueError("no moment before it")
-        self.listed(("show-account", columns[1] if len(columns) > 1 else ""), ("name",), columns[2:])
+        self.listed(
+            ("show-account", columns[1] if len(columns) > 1 else ""), ("name",), columns[2:]
+        )
 
     def read_slot(self, columns, below):
         self.none_below(below)
-        self.listed(("show-slot", *(columns[1].split(" ") if len(columns) > 1 else ())), ("name", "day", "hour"), columns[2:])
+        self.listed(
+            ("show-slot", *(columns[1].split(" ") if len(columns) > 1 else ())),
+            ("name", "day", "hour"),
+            columns[2:],
+        )
 
     def listed(self, words, kinds, columns):
         if len(words) != 1 + len(kinds):
             raise ValueError("wrong number of words")
         values = tuple(self.value(kind, it) for kind, it in zip(kinds, words[1:]))
-        self.happens(Listing(self.place, self.moment, (words[0], *values), tuple(columns[0].split(", ")) if columns else None))
+        self.happens(
+            Listing(
+                self.place,
+                self.moment,
+                (words[0], *values),
+                tuple(columns[0].split(", ")) if columns else None,
+            )
+        )
 
     def read_crash(self, columns, below):
         self.none_below(below)
@@ -470,7 +584,11 @@ class Reader:
 
     def read_reopen(self, columns, below):
         self.none_below(below)
-        version, = self.matched(" ".join(columns[1:]), r"(?:as version (1))?", "a reopen line may only have `as version 1`")
+        (version,) = self.matched(
+            " ".join(columns[1:]),
+            r"(?:as version (1))?",
+            "a reopen line may only have `as version 1`",
+        )
         self.happens(Reopen(self.place, self.moment, version and int(version)))
 
 
@@ -492,7 +610,9 @@ def made(scenario, plant=None):
         try:
             club.command(Office(scenario.place, None, command, ()).command)
         except rules.CommandRefused as refusal:
-            raise Fault(f"{scenario.place}: can't make the club: {' '.join(command)}: refused: {refusal}") from refusal
+            raise Fault(
+                f"{scenario.place}: can't make the club: {' '.join(command)}: refused: {refusal}"
+            ) from refusal
     return club
 
 

@@ -20,7 +20,9 @@ from scenario_lines import Crash, Fault, Listing, Office, Reopen, Request
 
 KILLS = 4  # how often the test kills the program for a line after `crash`
 # The SQL that changes the tables to their format of version 1, which had no older roots and no index of bookings by key.
-AS_VERSION_1 = "DROP TABLE old_roots; DROP INDEX IF EXISTS bookings_by_key; UPDATE desk SET version = 1"
+AS_VERSION_1 = (
+    "DROP TABLE old_roots; DROP INDEX IF EXISTS bookings_by_key; UPDATE desk SET version = 1"
+)
 
 
 class Difference(AssertionError):
@@ -36,7 +38,13 @@ def compare(event, wanted, found):
 
 
 def shown(value):
-    return value.decode(errors="backslashreplace").replace("\r\n", "|") if isinstance(value, bytes) else " / ".join(value) if isinstance(value, tuple) else str(value)
+    return (
+        value.decode(errors="backslashreplace").replace("\r\n", "|")
+        if isinstance(value, bytes)
+        else " / ".join(value)
+        if isinstance(value, tuple)
+        else str(value)
+    )
 
 
 def printed(event):
@@ -46,7 +54,10 @@ def printed(event):
     if name not in lines.OF_KEYS:
         return "done"
     form = values[-1] if "--form" in values else "v2"
-    return passes.text_of(passes.minted(bytes.fromhex(values[lines.OF_KEYS[name]]), b"key:" + values[0].encode()), form).decode()
+    return passes.text_of(
+        passes.minted(bytes.fromhex(values[lines.OF_KEYS[name]]), b"key:" + values[0].encode()),
+        form,
+    ).decode()
 
 
 def wanted_of(event, number=0):
@@ -109,23 +120,44 @@ def listing(club, event):
     command, *words = event.words
     if command == "sheet":
         rows = club.sheet(caveats.day_of(words[0]))
-        found = [f"{facility:<24} {hour:02d}:00 {key:<24} {number:9d} {persons:2d} {charge:6d}" for facility, hour, key, number, persons, charge in rows]
+        found = [
+            f"{facility:<24} {hour:02d}:00 {key:<24} {number:9d} {persons:2d} {charge:6d}"
+            for facility, hour, key, number, persons, charge in rows
+        ]
         total = f"Total bookings {len(rows)}, persons {sum(it[4] for it in rows)}, charge {sum(it[5] for it in rows)}"
-        return (f"Day sheet {words[0]}", *found, total) if rows else (f"Day sheet {words[0]}", "No bookings.")
+        return (
+            (f"Day sheet {words[0]}", *found, total)
+            if rows
+            else (f"Day sheet {words[0]}", "No bookings.")
+        )
     if command == "show-account":
         key = club.keys.get(words[0])
         if key is None:
             return ("refused: unknown",)
         older = f"until {spelled_moment(key.older[1])}" if key.older else "none"
-        return (f"member {key.member}", f"balance {club.balance(key.member)}", f"quota {club.members[key.member].quota}",
-                f"open {club.open_count(key.member, event.moment, words[0])}", f"spent {club.spent(words[0])}",
-                f"revoked {'yes' if key.is_revoked else 'no'}", f"older root {older}")
+        return (
+            f"member {key.member}",
+            f"balance {club.balance(key.member)}",
+            f"quota {club.members[key.member].quota}",
+            f"open {club.open_count(key.member, event.moment, words[0])}",
+            f"spent {club.spent(words[0])}",
+            f"revoked {'yes' if key.is_revoked else 'no'}",
+            f"older root {older}",
+        )
     slot = (words[0], caveats.day_of(words[1]), int(words[2]))
     facility = club.facilities.get(words[0])
     if facility is None:
         return ("refused: unknown",)
-    return (f"facility {slot[0]}", f"day {words[1]}", f"hour {slot[2]}", f"kind {facility.kind}", f"price {facility.price}", f"places {facility.places}",
-            f"taken {club.taken(slot)}", f"closed {'yes' if slot in club.closed else 'no'}")
+    return (
+        f"facility {slot[0]}",
+        f"day {words[1]}",
+        f"hour {slot[2]}",
+        f"kind {facility.kind}",
+        f"price {facility.price}",
+        f"places {facility.places}",
+        f"taken {club.taken(slot)}",
+        f"closed {'yes' if slot in club.closed else 'no'}",
+    )
 
 
 class Programs:
@@ -176,7 +208,9 @@ class Programs:
                 self.carry_out(scenario, file, ("credit", member, str(count)))
             else:
                 with programs.opened(file) as database:
-                    database.execute("UPDATE members SET credited = ? WHERE name = ?", (count, member))
+                    database.execute(
+                        "UPDATE members SET credited = ? WHERE name = ?", (count, member)
+                    )
 
     def carry_out(self, scenario, file, words):
         status, _, fault = programs.command(self.desk, words[0], file, *words[1:])
@@ -233,7 +267,11 @@ class Programs:
                 server.kill()
 
     def kill_command(self, event):
-        with subprocess.Popen([self.desk, event.words[0], str(self.file), *event.words[1:]], stdout=subprocess.DEVNULL, stderr=subprocess.DEVNULL) as command:
+        with subprocess.Popen(
+            [self.desk, event.words[0], str(self.file), *event.words[1:]],
+            stdout=subprocess.DEVNULL,
+            stderr=subprocess.DEVNULL,
+        ) as command:
             time.sleep(self.draw.choice((0, 0.001, 0.003, 0.01)))
             with suppress(ProcessLookupError):
                 command.kill()
@@ -243,7 +281,12 @@ def runs(events):
     """Groups neighbouring requests of the same moment. An event that isn't a request is alone in its group."""
     found = []
     for event in events:
-        if found and isinstance(event, Request) and isinstance(found[-1][0], Request) and found[-1][0].moment == event.moment:
+        if (
+            found
+            and isinstance(event, Request)
+            and isinstance(found[-1][0], Request)
+            and found[-1][0].moment == event.moment
+        ):
             found[-1].append(event)
         else:
             found.append([event])

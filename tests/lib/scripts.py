@@ -35,7 +35,10 @@ SECONDS_TO_INSTALL = 360  # the limit for downloading missing packages
 BUILT = {
     "clubdesk": ["crates/clubdesk/out/clubdesk"],
     "passtool": ["crates/passtool/out/passtool"],
-    "pass_c": ["crates/pass_c/out/libpass_c-x86-64-v2.a", "crates/pass_c/out/libpass_c-x86-64-v3.a"],
+    "pass_c": [
+        "crates/pass_c/out/libpass_c-x86-64-v2.a",
+        "crates/pass_c/out/libpass_c-x86-64-v3.a",
+    ],
 }
 
 
@@ -84,7 +87,13 @@ def head_of(path):
         line = re.sub(r"\n# *", "\n", listed[1])
         for it in ast.parse(line).body[0].value.elts:
             call = it if isinstance(it, ast.Call) else ast.Call(func=it, args=[], keywords=[])
-            marks.append((call.func.attr, list(map(ast.literal_eval, call.args)), {word.arg: ast.literal_eval(word.value) for word in call.keywords}))
+            marks.append(
+                (
+                    call.func.attr,
+                    list(map(ast.literal_eval, call.args)),
+                    {word.arg: ast.literal_eval(word.value) for word in call.keywords},
+                )
+            )
     if path.suffix == ".py":
         return ast.get_docstring(ast.parse(text)) or "", marks
     comment = re.match(r".*\n((?:#(?! pytestmark = ).*\n)*)", text)[1]
@@ -96,7 +105,7 @@ def shown_by(head):
     after it."""
     paragraph = re.match(r"(?:(?!- |  ).+\n?)+", head)[0]
     if paragraph.rstrip().endswith(":"):
-        items = re.match(r"(?:(?:- |  ).*\n?)*", head[len(paragraph):])[0]
+        items = re.match(r"(?:(?:- |  ).*\n?)*", head[len(paragraph) :])[0]
         paragraph += re.sub(r"^- ", "", items, flags=re.MULTILINE)
     return " ".join(paragraph.split()).removesuffix(" Not part of the gate.").removesuffix(".")
 
@@ -121,7 +130,18 @@ def tests_of(path):
         if "-m pytest" in path.read_text(encoding="utf-8").partition("\n")[0]:
             packages.append("python3-pytest")
         seconds = wanted.get("timeout", SECONDS_OF_QUICK if "quick" in names else SECONDS)
-        found.append(Test(f"{path.stem}-{further}" if found else path.stem, path, words, names, others, wanted.get("needs", "").split(), packages, seconds))
+        found.append(
+            Test(
+                f"{path.stem}-{further}" if found else path.stem,
+                path,
+                words,
+                names,
+                others,
+                wanted.get("needs", "").split(),
+                packages,
+                seconds,
+            )
+        )
     return found
 
 
@@ -138,7 +158,11 @@ def every_test():
 @functools.cache
 def planted_tests():
     """Returns a run for each planted fault of each test."""
-    return [replace(it, name=name, plant=name) for it in every_test() for name in planted.plants_of(it.name)]
+    return [
+        replace(it, name=name, plant=name)
+        for it in every_test()
+        for name in planted.plants_of(it.name)
+    ]
 
 
 # ---- packages
@@ -148,14 +172,22 @@ def missing(packages):
     """Returns the Debian packages that aren't installed. If dpkg-query is missing, returns all packages."""
     if not packages or not shutil.which("dpkg-query"):
         return list(packages)
-    found = subprocess.run(["dpkg-query", "-Wf", "${Package} ${db:Status-Status}\n", *packages], capture_output=True, text=True, check=False).stdout
+    found = subprocess.run(
+        ["dpkg-query", "-Wf", "${Package} ${db:Status-Status}\n", *packages],
+        capture_output=True,
+        text=True,
+        check=False,
+    ).stdout
     return [it for it in packages if f"{it} installed\n" not in found]
 
 
 def prepare(packages):
     """Installs the missing packages, if the caller is root and the system has apt-get. Stops downloading after SECONDS_TO_INSTALL seconds."""
     OUT.mkdir(parents=True, exist_ok=True)
-    (OUT / "apt.conf").write_text('DPkg::Lock::Timeout "600";\nAcquire::Retries "1";\nAcquire::http::Timeout "20";\n', encoding="utf-8")
+    (OUT / "apt.conf").write_text(
+        'DPkg::Lock::Timeout "600";\nAcquire::Retries "1";\nAcquire::http::Timeout "20";\n',
+        encoding="utf-8",
+    )
     if os.geteuid() != 0 or not shutil.which("apt-get"):
         return
     ends = time.monotonic() + SECONDS_TO_INSTALL
@@ -165,8 +197,22 @@ def prepare(packages):
             """Runs apt-get, and returns whether it succeeds. With a limit in seconds, kills apt-get when the time is over."""
             with suppress(subprocess.TimeoutExpired):
                 seconds = limit and max(1, min(limit, ends - time.monotonic()))
-                return subprocess.run(["apt-get", "-o", "DPkg::Lock::Timeout=120", *words], stdin=subprocess.DEVNULL, stdout=log, stderr=log, check=False,
-                                      env={**os.environ, "APT_CONFIG": str(OUT / "apt.conf"), "DEBIAN_FRONTEND": "noninteractive"}, timeout=seconds).returncode == 0
+                return (
+                    subprocess.run(
+                        ["apt-get", "-o", "DPkg::Lock::Timeout=120", *words],
+                        stdin=subprocess.DEVNULL,
+                        stdout=log,
+                        stderr=log,
+                        check=False,
+                        env={
+                            **os.environ,
+                            "APT_CONFIG": str(OUT / "apt.conf"),
+                            "DEBIAN_FRONTEND": "noninteractive",
+                        },
+                        timeout=seconds,
+                    ).returncode
+                    == 0
+                )
             return False
 
         lacking = missing(packages)
@@ -175,7 +221,11 @@ def prepare(packages):
         # First tries all packages together, then each one alone, because one unavailable package stops a joint installation.
         for some in (lacking, *([it] for it in lacking)):
             install = ["install", "-y", "--no-install-recommends", *some]
-            if missing(some) and time.monotonic() < ends and apt(*install, "--download-only", limit=SECONDS_TO_INSTALL):
+            if (
+                missing(some)
+                and time.monotonic() < ends
+                and apt(*install, "--download-only", limit=SECONDS_TO_INSTALL)
+            ):
                 apt(*install)
 
 
@@ -208,7 +258,9 @@ def end(process):
         os.killpg(process.pid, signal.SIGTERM)
     with suppress(subprocess.TimeoutExpired):
         process.wait(SECONDS_TO_CLEAR_UP)
-    for it, _ in (begun | begun_by(process.pid)) & {(it, start) for it, (_, _, start) in processes().items()}:
+    for it, _ in (begun | begun_by(process.pid)) & {
+        (it, start) for it, (_, _, start) in processes().items()
+    }:
         with suppress(ProcessLookupError):
             os.kill(it, signal.SIGKILL)
 
@@ -221,15 +273,32 @@ def lacks(test, is_built):
     packages = missing(test.packages)
     if packages:
         return f"needs the packages {' '.join(packages)}"
-    unbuilt = [it for it in test.needs if not os.environ.get(it.upper()) and not all((ROOT / file).exists() for file in BUILT[it])]
+    unbuilt = [
+        it
+        for it in test.needs
+        if not os.environ.get(it.upper()) and not all((ROOT / file).exists() for file in BUILT[it])
+    ]
     return f"needs {' '.join(unbuilt)}, not built yet" if is_built and unbuilt else ""
 
 
 def status_of(test, output, root, variables, seconds):
     """Runs a test in a new session, and returns its status. If the test takes too long, ends the test and all processes that it began."""
-    environment = {**os.environ, "APT_CONFIG": str(OUT / "apt.conf"), "DEBIAN_FRONTEND": "noninteractive", "PYTHONDONTWRITEBYTECODE": "1", **variables}
-    with subprocess.Popen([root / test.path.relative_to(ROOT), *test.words], cwd=root, stdin=subprocess.DEVNULL, stdout=output, stderr=output,
-                          env=environment, start_new_session=True) as process:
+    environment = {
+        **os.environ,
+        "APT_CONFIG": str(OUT / "apt.conf"),
+        "DEBIAN_FRONTEND": "noninteractive",
+        "PYTHONDONTWRITEBYTECODE": "1",
+        **variables,
+    }
+    with subprocess.Popen(
+        [root / test.path.relative_to(ROOT), *test.words],
+        cwd=root,
+        stdin=subprocess.DEVNULL,
+        stdout=output,
+        stderr=output,
+        env=environment,
+        start_new_session=True,
+    ) as process:
         try:
             return process.wait(seconds)
         except subprocess.TimeoutExpired:
@@ -237,7 +306,10 @@ def status_of(test, output, root, variables, seconds):
         finally:
             if process.returncode is None:
                 end(process)
-                output.write(b"\nkilled with its child processes: a run may take %g minutes\n" % (test.seconds / 60))
+                output.write(
+                    b"\nkilled with its child processes: a run may take %g minutes\n"
+                    % (test.seconds / 60)
+                )
 
 
 def status_with_fault(test, output, seconds):
@@ -257,17 +329,30 @@ def run(test, is_built=False, has_timer=False):
     OUT.mkdir(parents=True, exist_ok=True)
     begun, log = time.monotonic(), OUT / f"{test.name}.log"
     seconds = None if has_timer else test.seconds
-    variables = {it.upper(): str(ROOT / BUILT[it][0]) for it in test.needs if is_built and it != "pass_c" and not os.environ.get(it.upper())}
+    variables = {
+        it.upper(): str(ROOT / BUILT[it][0])
+        for it in test.needs
+        if is_built and it != "pass_c" and not os.environ.get(it.upper())
+    }
     with open(log, "wb") as output:
         reason = lacks(test, is_built)
         if reason:
             output.write(f"{reason}\n".encode())
             status = SKIPPED
         else:
-            status = status_with_fault(test, output, seconds) if test.plant else status_of(test, output, ROOT, variables, seconds)
+            status = (
+                status_with_fault(test, output, seconds)
+                if test.plant
+                else status_of(test, output, ROOT, variables, seconds)
+            )
     result = {0: "passed", SKIPPED: "skipped"}.get(status, "failed")
     last = "".join(log.read_text(encoding="utf-8", errors="replace").strip().splitlines()[-1:])
-    return {"result": result, "status": status, "seconds": round(time.monotonic() - begun, 1), "last": last}
+    return {
+        "result": result,
+        "status": status,
+        "seconds": round(time.monotonic() - begun, 1),
+        "last": last,
+    }
 
 
 class Results:
@@ -283,7 +368,9 @@ class Results:
 
     def write(self):
         OUT.mkdir(parents=True, exist_ok=True)
-        (OUT / "results.json").write_text(json.dumps(self.all, indent=1, sort_keys=True) + "\n", encoding="utf-8")
+        (OUT / "results.json").write_text(
+            json.dumps(self.all, indent=1, sort_keys=True) + "\n", encoding="utf-8"
+        )
 
     def count(self, result):
         return sum(1 for it in self.all.values() if it["result"] == result)

@@ -11,16 +11,34 @@ CRATES = ROOT / "crates"
 WORD = r"""[^\s(){};,."λ]+(?:\.[^\s(){};,."λ]+)*"""
 TOKEN = re.compile(rf'"(?:\\.|[^"\\])*"|(?<=[)}}])\.{WORD}|λ|{WORD}|[(){{}};,.]')
 # Keywords and built-in names of specs/ and of clauses, and the signs in types and propositions.
-BUILT_IN = set("""
+BUILT_IN = set(
+    """
     : = | → ← × Type Unit Bool tt refl record data if then else let in do where of by pub abbrev unfoldable opaque module ⊥ ⊤ ¬ ∥ ∥₁ _ λ ↔ ≡
     now old new entry result self Self true false fields
-""".split())
+""".split()
+)
 # The page that lists the computing definitions, and the functions whose contracts use these definitions.
 COMPUTED = ROOT / "docs" / "COMPUTED.md"
 # The kinds of definitions in specs/.
 OF_SPECS = ("definition", "record", "data")
 # Constructors of std that may appear in a pattern.
-PATTERNS = {"[]", "∷", "Some", "None", "Ok", "Err", "true", "false", "zero", "suc", "tt", "now", "ready", "inl", "inr"}
+PATTERNS = {
+    "[]",
+    "∷",
+    "Some",
+    "None",
+    "Ok",
+    "Err",
+    "true",
+    "false",
+    "zero",
+    "suc",
+    "tt",
+    "now",
+    "ready",
+    "inl",
+    "inr",
+}
 
 
 @cache
@@ -31,7 +49,10 @@ def computing():
         if line.startswith("## "):
             crate = line.strip("#` ")
         elif line.startswith("| "):
-            found |= {(crate, name) for name in re.findall(r"`(\w+)`", line.split("|")[1].partition(" by ")[2])}
+            found |= {
+                (crate, name)
+                for name in re.findall(r"`(\w+)`", line.split("|")[1].partition(" by ")[2])
+            }
     return found
 
 
@@ -50,7 +71,9 @@ class Definition:
     owner: "Definition" = None  # the data type, if this is a constructor
     cited: list = field(default_factory=list)
     unknown: list = field(default_factory=list)
-    parts: dict = field(default_factory=dict)  # for each field or constructor, the definitions that it cites
+    parts: dict = field(
+        default_factory=dict
+    )  # for each field or constructor, the definitions that it cites
 
     def __repr__(self):
         return f"{self.module}.{self.name}"
@@ -102,16 +125,28 @@ def spelled_out(text):
         modules = {}
         for module, name in names_of(line[2]):
             modules.setdefault(module, []).append(name)
-        return "".join(f"{line[1]}{module}.{{{', '.join(names)}}}{line[3]}\n" for module, names in modules.items())
+        return "".join(
+            f"{line[1]}{module}.{{{', '.join(names)}}}{line[3]}\n"
+            for module, names in modules.items()
+        )
 
-    return re.sub(r"^( *(?:unfoldable )?(?:pub )?(?:ghost )?use )(Rattle\.[^;{\n]*\{[^;\n]*[.{][^;\n]*\})(;?)\n", flat, text, flags=re.MULTILINE)
+    return re.sub(
+        r"^( *(?:unfoldable )?(?:pub )?(?:ghost )?use )(Rattle\.[^;{\n]*\{[^;\n]*[.{][^;\n]*\})(;?)\n",
+        flat,
+        text,
+        flags=re.MULTILINE,
+    )
 
 
 def imports_in(text, word):
     """Returns the imports in a text, each as (module, name in the module, name in the text). If the text imports the module itself, the second
     value is None and the third is the alias."""
     found = []
-    for line in re.finditer(rf"^ *(pub )?{word} Rattle\.([\w.-]+?)(?:\.\{{([^}}]*)\}}|;|$| as ([\w◌]+))", spelled_out(text), re.MULTILINE):
+    for line in re.finditer(
+        rf"^ *(pub )?{word} Rattle\.([\w.-]+?)(?:\.\{{([^}}]*)\}}|;|$| as ([\w◌]+))",
+        spelled_out(text),
+        re.MULTILINE,
+    ):
         module, names, alias = line[2], line[3], line[4]
         if names is None:
             found.append((module, None, alias))
@@ -164,7 +199,11 @@ class Walk:
         return any(word.split(".")[0] in it for it in self.scopes)
 
     def cite(self, word):
-        if word.startswith(('"', ".")) or re.fullmatch(r"\d[\w.]*|0x\w+|\d+(\.\d+)*", word) or self.is_bound(word):
+        if (
+            word.startswith(('"', "."))
+            or re.fullmatch(r"\d[\w.]*|0x\w+|\d+(\.\d+)*", word)
+            or self.is_bound(word)
+        ):
             return
         found = self.scope.find(word)
         if found:
@@ -179,8 +218,18 @@ class Walk:
             if token in "(){},;_":
                 continue
             found = self.scope.find(token)
-            is_applied = at and tokens[at - 1] == "(" and at + 1 < len(tokens) and tokens[at + 1] not in "),"
-            if token in PATTERNS or found and (found.kind == "constructor" or found.kind == "library" and (is_applied or token[0].isupper())):
+            is_applied = (
+                at and tokens[at - 1] == "(" and at + 1 < len(tokens) and tokens[at + 1] not in "),"
+            )
+            if (
+                token in PATTERNS
+                or found
+                and (
+                    found.kind == "constructor"
+                    or found.kind == "library"
+                    and (is_applied or token[0].isupper())
+                )
+            ):
                 self.cite(token)
             elif not token.startswith('"') and not token.isdigit():
                 self.scopes[-1].add(token)
@@ -194,7 +243,11 @@ class Walk:
         token = tokens[at]
         if token in "({":
             group = at + 1
-            while group < len(tokens) and re.fullmatch(r"[^\W\d][\w'-]*|[^\W\d]\w*", tokens[group]) and tokens[group] not in ("record", "if", "let"):
+            while (
+                group < len(tokens)
+                and re.fullmatch(r"[^\W\d][\w'-]*|[^\W\d]\w*", tokens[group])
+                and tokens[group] not in ("record", "if", "let")
+            ):
                 group += 1
             if at + 1 < group < len(tokens) and tokens[group] == ":":
                 self.scopes.append(set())
@@ -265,7 +318,9 @@ def top_level(tokens, sign):
 class SpecsFile:
     """A module of specs/."""
 
-    HEAD = re.compile(r"(?:(?:abbrev|unfoldable|opaque) )*(?:pub )?(?:(record|data) )?(\S+)(?= :| [({]|$)")
+    HEAD = re.compile(
+        r"(?:(?:abbrev|unfoldable|opaque) )*(?:pub )?(?:(record|data) )?(\S+)(?= :| [({]|$)"
+    )
 
     def __init__(self, book, path):
         self.book, self.path = book, path
@@ -306,7 +361,11 @@ class SpecsFile:
                 outer.pop()
             base = outer[-1][2] if outer else 0
             end = at + 1
-            while end < len(lines) and (not lines[end].strip() or indent_of(lines[end]) > base or lines[end].startswith(" " * base + "}")):
+            while end < len(lines) and (
+                not lines[end].strip()
+                or indent_of(lines[end]) > base
+                or lines[end].startswith(" " * base + "}")
+            ):
                 end += 1
             chunk = "\n".join(lines[at:end]).rstrip()
             words = chunk.split()
@@ -316,19 +375,34 @@ class SpecsFile:
                 within = next((indent_of(it) for it in lines[at:] if it.strip()), 0)
                 outer.append((indent, re.sub(r"^\s*module _|where$", "", head), within))
                 continue
-            if words[0] in ("use", "mod", "infixl", "infixr", "infix") or words[:2] in (["pub", "use"], ["pub", "mod"]):
+            if words[0] in ("use", "mod", "infixl", "infixr", "infix") or words[:2] in (
+                ["pub", "use"],
+                ["pub", "mod"],
+            ):
                 at = end
                 continue
             telescope = " ".join(it[1] for it in outer)
             found = self.HEAD.match(chunk.strip())
-            is_new = found and (found[1] or re.match(r"\s*:(?!=)", chunk.strip()[found.end():])) and not chunk.strip().startswith("(")
+            is_new = (
+                found
+                and (found[1] or re.match(r"\s*:(?!=)", chunk.strip()[found.end() :]))
+                and not chunk.strip().startswith("(")
+            )
             if is_new:
                 comment = []
                 above = at - 1
                 while above >= 0 and raw[above].lstrip().startswith("--"):
                     comment.insert(0, raw[above].strip()[3:])
                     above -= 1
-                last = Definition(self.module, found[2], found[1] or "definition", self.path, at + 1, chunk, " ".join(comment))
+                last = Definition(
+                    self.module,
+                    found[2],
+                    found[1] or "definition",
+                    self.path,
+                    at + 1,
+                    chunk,
+                    " ".join(comment),
+                )
                 last.telescope, last.indent = telescope, base
                 self.definitions[last.name] = last
             elif last:
@@ -337,7 +411,9 @@ class SpecsFile:
         for it in list(self.definitions.values()):
             if it.kind == "data":
                 for name in re.findall(r"^ +(\S+) :", it.text, re.MULTILINE):
-                    self.definitions[name] = Definition(self.module, name, "constructor", self.path, it.line, owner=it)
+                    self.definitions[name] = Definition(
+                        self.module, name, "constructor", self.path, it.line, owner=it
+                    )
 
     @cached_property
     def scope(self):
@@ -356,7 +432,12 @@ class SpecsFile:
         # Each equation of a definition begins at the definition's own indentation.
         pieces, piece = [], []
         for line in it.text.splitlines():
-            if piece and line.strip() and indent_of(line) == it.indent and not line.lstrip().startswith("}"):
+            if (
+                piece
+                and line.strip()
+                and indent_of(line) == it.indent
+                and not line.lstrip().startswith("}")
+            ):
                 pieces.append("\n".join(piece))
                 piece = []
             piece.append(line)
@@ -369,7 +450,13 @@ class SpecsFile:
             else:
                 sign = top_level(tokens, "=")
                 left = tokens[:sign] if sign is not None else tokens
-                walk.pattern([token for at, token in enumerate(left) if token != it.name and token not in it.name.split("◌")])
+                walk.pattern(
+                    [
+                        token
+                        for at, token in enumerate(left)
+                        if token != it.name and token not in it.name.split("◌")
+                    ]
+                )
                 if sign is not None:
                     walk.expression(tokens[sign + 1 :])
             it.cited += walk.cited
@@ -387,10 +474,12 @@ class SpecsFile:
         where = tokens.index("where") if "where" in tokens else len(tokens)
         walk = self.walk(it)
         walk.expression(tokens[start:where])
-        body = it.text[re.search(r"\bwhere\b", it.text).end():] if "where" in tokens else ""
+        body = it.text[re.search(r"\bwhere\b", it.text).end() :] if "where" in tokens else ""
         fields = []
         for line in body.splitlines():
-            if re.match(r" +(pub )?\S+ :", line) and (not fields or indent_of(line) == fields[0][0]):
+            if re.match(r" +(pub )?\S+ :", line) and (
+                not fields or indent_of(line) == fields[0][0]
+            ):
                 fields.append((indent_of(line), [line]))
             elif line.strip() and fields:
                 fields[-1][1].append(line)

@@ -27,12 +27,29 @@ import psutil
 
 sys.path[:0] = [str(Path(__file__).resolve().parents[1] / it) for it in ("lib", "")]
 from office_checks import book_lines, lines, refused
-from office_room import HOME, ROOM, Service, begun, configure, done, kill, leave, office, rows, same, whole
+from office_room import (
+    HOME,
+    ROOM,
+    Service,
+    begun,
+    configure,
+    done,
+    kill,
+    leave,
+    office,
+    rows,
+    same,
+    whole,
+)
 
 # The server's clock shows today's date, because the office uses the machine's clock.
 TODAY = datetime.date.today()
 PASSES = {}
-PROGRAMS = {"clubdesk": Path("/usr/bin/clubdesk"), "back_up": Path("/usr/lib/clubdesk/back_up"), "systemctl": Path("/usr/bin/systemctl")}
+PROGRAMS = {
+    "clubdesk": Path("/usr/bin/clubdesk"),
+    "back_up": Path("/usr/lib/clubdesk/back_up"),
+    "systemctl": Path("/usr/bin/systemctl"),
+}
 STOPPER = f"""#!/bin/sh
 # This script replaces a program that the office calls. At the Nth call, the script waits before or after the real program, so that the test can kill
 # the office.
@@ -96,7 +113,15 @@ def killed_at_its_output(words):
     os.set_blocking(writer, True)
     line = ["runuser", "-u", "anna", "--", "office", "club", *words]
     before = len(lines("log"))
-    with subprocess.Popen(line, stdin=subprocess.DEVNULL, stdout=writer, stderr=subprocess.PIPE, text=True, cwd="/home/anna", start_new_session=True) as command:
+    with subprocess.Popen(
+        line,
+        stdin=subprocess.DEVNULL,
+        stdout=writer,
+        stderr=subprocess.PIPE,
+        text=True,
+        cwd="/home/anna",
+        start_new_session=True,
+    ) as command:
         while command.poll() is None and len(lines("log")) == before:
             time.sleep(0.01)
         time.sleep(0.3)
@@ -140,7 +165,9 @@ class Reopening(Correction):
 
     def made(self):
         day = str(TODAY + datetime.timedelta(self.number))
-        self.sql = f"SELECT hour FROM slots WHERE date(day * 86400, 'unixepoch') = '{day}' AND closed = 1"
+        self.sql = (
+            f"SELECT hour FROM slots WHERE date(day * 86400, 'unixepoch') = '{day}' AND closed = 1"
+        )
         for hour in ("10", "12"):
             done("close-slot", "court-1", day, hour)
         return ["reopen-slot", "court-1", day, "10-13"], []
@@ -152,7 +179,12 @@ class Prices(Correction):
     sql = "SELECT * FROM facilities WHERE name = 'court-1'"
 
     def made(self):
-        return ["set-facility", "court-1", f"--price={self.number}", f"--hours=7-{10 + self.number}"], [("court-1", "court", 4, self.number, 7, 10 + self.number)]
+        return [
+            "set-facility",
+            "court-1",
+            f"--price={self.number}",
+            f"--hours=7-{10 + self.number}",
+        ], [("court-1", "court", 4, self.number, 7, 10 + self.number)]
 
 
 class Debit(Correction):
@@ -195,7 +227,12 @@ class Raining(OfBookings):
     court, booked = "court-3", 2000
 
     def words(self):
-        return ["rain", self.day, "court-3", "9-12"], [(10, 1, 0, 0), (11, 1, 0, 0), (10, 0, 0, 1), (11, 0, 0, 1)]
+        return ["rain", self.day, "court-3", "9-12"], [
+            (10, 1, 0, 0),
+            (11, 1, 0, 0),
+            (10, 0, 0, 1),
+            (11, 0, 0, 1),
+        ]
 
 
 class Closing(OfBookings):
@@ -209,8 +246,11 @@ class Closing(OfBookings):
         return ["close", self.day, "10-13", "court-4", "--why", f"cup-{self.number}"], wanted
 
     def hold_reasons(self):
-        same("the reasons of closed slots, each once", [it["why"] for it in json.loads((HOME / "club-reasons").read_text(encoding="utf-8"))],
-             [f"cup-{number}" for number in range(1, self.number + 1)])
+        same(
+            "the reasons of closed slots, each once",
+            [it["why"] for it in json.loads((HOME / "club-reasons").read_text(encoding="utf-8"))],
+            [f"cup-{number}" for number in range(1, self.number + 1)],
+        )
 
 
 class Leaving(Correction):
@@ -231,7 +271,11 @@ class Leaving(Correction):
         self.sql = f"""SELECT name, quota, credited, used FROM members WHERE name IN ('{member}', {new})
             UNION ALL SELECT name, revoked, (SELECT count(*) FROM bookings WHERE pass_key = name), (SELECT sum(refund) FROM bookings WHERE pass_key = name)
             FROM keys WHERE member IN ('{member}', {new}) ORDER BY 1"""
-        return ["leave", member], [(str(self.number), 0, 1000, 0), (f"{self.number}-1", 1, 1, 200), (f"{self.number}-2", 1, 1, 200)]
+        return ["leave", member], [
+            (str(self.number), 0, 1000, 0),
+            (f"{self.number}-1", 1, 1, 200),
+            (f"{self.number}-2", 1, 1, 200),
+        ]
 
 
 def killed_and_given_again(correction, programs):
@@ -243,7 +287,9 @@ def killed_and_given_again(correction, programs):
     same(f"{command} runs programs", calls(), programs)
     same(f"{words} is done: the club", rows(correction.sql), wanted)
     same(f"{words}: the copy from before", rows_of_copy(command, correction.sql), before)
-    for point in [f"{number} {how}" for number in range(1, programs + 1) for how in ("before", "after")] + ["output"]:
+    for point in [
+        f"{number} {how}" for number in range(1, programs + 1) for how in ("before", "after")
+    ] + ["output"]:
         words, wanted = correction.next()
         if point == "output":
             killed_at_its_output([*words, "--yes"])
@@ -252,7 +298,11 @@ def killed_and_given_again(correction, programs):
         what = f"{words}, killed {point} and repeated"
         same(what, office(*words, "--yes")[::2], (0, ""))
         same(f"{what}: the club", rows(correction.sql), wanted)
-        same(f"{what}: the book", [line for line in book_lines() if line.endswith(" ".join(words))][-1:], [f"anna 0 {' '.join(words)}"])
+        same(
+            f"{what}: the book",
+            [line for line in book_lines() if line.endswith(" ".join(words))][-1:],
+            [f"anna 0 {' '.join(words)}"],
+        )
     whole(f"{command}, killed")
 
 
@@ -275,9 +325,17 @@ def outlives_its_order(correction, programs):
     order.wait()
     stop_at("0 never")
     with begun(*words, "--yes") as again:
-        same(f"{words} waits for its command", again.stderr.readline(), "waiting for another command\n")
+        same(
+            f"{words} waits for its command",
+            again.stderr.readline(),
+            "waiting for another command\n",
+        )
         again.communicate()
-    same(f"{words}, after its command has ended", (again.returncode, rows(correction.sql)), (0, wanted))
+    same(
+        f"{words}, after its command has ended",
+        (again.returncode, rows(correction.sql)),
+        (0, wanted),
+    )
 
 
 def credited_meanwhile(correction):
@@ -286,7 +344,11 @@ def credited_meanwhile(correction):
     words, _ = correction.next()
     killed("3 before", [*words, "--yes"])
     done("credit", "zoe", "7")
-    refused([*words, "--yes"], 1, "refused: the credits of zoe have changed since this `debit` was interrupted")
+    refused(
+        [*words, "--yes"],
+        1,
+        "refused: the credits of zoe have changed since this `debit` was interrupted",
+    )
     before = rows(correction.sql)[0][0]
     done(*words, "--yes")
     same(f"{words} starts over", rows(correction.sql), [(before - int(words[-1]),)])
@@ -308,14 +370,33 @@ def booked_meanwhile(closing):
     path = f"/slots/court-4/{closing.day}/10/bookings/1"
     slot = f"court-4 {closing.day} 10:00"
     status, out, errors = late(3, [*words, "--yes"], path)
-    same("a booking before a slot is closed", (status, errors, out[-5:]), (0, "", [
-        f"booked meanwhile: {slot}", f"cancels {slot}, 1 person, 200 points back: amy-1 1, amy", f"closes {slot}",
-        "in all: 1 booking cancelled, 200 points back to amy, 1 slot closed", "done"]))
+    same(
+        "a booking before a slot is closed",
+        (status, errors, out[-5:]),
+        (
+            0,
+            "",
+            [
+                f"booked meanwhile: {slot}",
+                f"cancels {slot}, 1 person, 200 points back: amy-1 1, amy",
+                f"closes {slot}",
+                "in all: 1 booking cancelled, 200 points back to amy, 1 slot closed",
+                "done",
+            ],
+        ),
+    )
     same("its slots", rows(closing.sql), wanted)
     sql = "SELECT cancelled, refund - charge FROM bookings WHERE pass_key = 'amy-1' AND number = 1"
     same("its booking", rows(sql), [(1, 0)])
     whole("a booking before a slot is closed")
-    undone(words, closing.sql, [(hour, closed, taken + 1 if (hour, kind) == (10, 1) else taken, kind) for hour, closed, taken, kind in before])
+    undone(
+        words,
+        closing.sql,
+        [
+            (hour, closed, taken + 1 if (hour, kind) == (10, 1) else taken, kind)
+            for hour, closed, taken, kind in before
+        ],
+    )
     same("the cancelled booking is back", rows(sql), [(0, -200)])
 
 
@@ -325,7 +406,11 @@ def booked_out_of_hours(prices):
     words[-1] = "--hours=10-20"
     day = str(TODAY + datetime.timedelta(50))
     status, out, errors = late(2, [*words, "--yes"], f"/slots/court-1/{day}/09/bookings/2")
-    same("a booking before the opening hours change", (status, out[-1], errors), (0, "done", f"booked meanwhile: the booking amy-1 2 is on {day} at 09:00\n"))
+    same(
+        "a booking before the opening hours change",
+        (status, out[-1], errors),
+        (0, "done", f"booked meanwhile: the booking amy-1 2 is on {day} at 09:00\n"),
+    )
     same("the facility's numbers afterwards", rows(prices.sql), [(*wanted[0][:4], 10, 20)])
 
 
@@ -375,9 +460,19 @@ def tournament():
     whole_time = time.monotonic() - begun_at
     is_over.set()
     client.join()
-    same("a tournament", shown[-2:], ["in all: 60 bookings cancelled, 12000 points back to zoe, 56 slots closed", "done"])
-    print(f"a tournament of 60 bookings and 56 slots took {whole_time:.2f} s; the slowest of {len(waits)} replies came after {max(waits) * 1000:.1f} ms")
-    same("the tournament takes at most 3 s, and each reply at most 20 ms", (whole_time < 3, max(waits) < 0.02), (True, True))
+    same(
+        "a tournament",
+        shown[-2:],
+        ["in all: 60 bookings cancelled, 12000 points back to zoe, 56 slots closed", "done"],
+    )
+    print(
+        f"a tournament of 60 bookings and 56 slots took {whole_time:.2f} s; the slowest of {len(waits)} replies came after {max(waits) * 1000:.1f} ms"
+    )
+    same(
+        "the tournament takes at most 3 s, and each reply at most 20 ms",
+        (whole_time < 3, max(waits) < 0.02),
+        (True, True),
+    )
     same("the server keeps running", server.starts, 1)
     whole("a tournament")
 
@@ -396,7 +491,16 @@ if sys.argv[1:] == ["debit"]:
     outlives_its_order(debit, 3)
     server.stop()
     leave()
-corrections = [(quota, 2), (Undoing(), 2), (Reopening(), 3), (debit, 3), (prices, 3), (Cancelling(), 2), (Raining(), 3), (closing, 6)]
+corrections = [
+    (quota, 2),
+    (Undoing(), 2),
+    (Reopening(), 3),
+    (debit, 3),
+    (prices, 3),
+    (Cancelling(), 2),
+    (Raining(), 3),
+    (closing, 6),
+]
 for correction, programs in corrections:
     killed_and_given_again(correction, programs)
 closing.hold_reasons()
@@ -405,8 +509,20 @@ credited_meanwhile(debit)
 booked_out_of_hours(prices)
 same("the server keeps running", server.starts, 1)
 killed_and_given_again(Leaving(), 6)
-same("no personal data is left", [it for it in (HOME / "club-people.csv").read_text(encoding="utf-8").splitlines() if it.startswith("m")], ["member,name,mail,telephone"])
-same("copies that are left", [it for folder in (Path("/dev/shm"), HOME) for it in folder.glob(".office-*")], [])
+same(
+    "no personal data is left",
+    [
+        it
+        for it in (HOME / "club-people.csv").read_text(encoding="utf-8").splitlines()
+        if it.startswith("m")
+    ],
+    ["member,name,mail,telephone"],
+)
+same(
+    "copies that are left",
+    [it for folder in (Path("/dev/shm"), HOME) for it in folder.glob(".office-*")],
+    [],
+)
 for correction in (quota, debit, prices, closing):
     words, _ = correction.next()
     before = rows(correction.sql)

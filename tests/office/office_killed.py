@@ -33,10 +33,30 @@ from concurrent.futures import ThreadPoolExecutor
 from pathlib import Path
 
 sys.path[:0] = [str(Path(__file__).resolve().parents[1] / it) for it in ("lib", "")]
-from office_room import CLUB, HOME, NOON, ROOM, Service, begun, configure, done, everything, kill, killed_after, leave, office, rows, run_as, same, whole
+from office_room import (
+    CLUB,
+    HOME,
+    NOON,
+    ROOM,
+    Service,
+    begun,
+    configure,
+    done,
+    everything,
+    kill,
+    killed_after,
+    leave,
+    office,
+    rows,
+    run_as,
+    same,
+    whole,
+)
 
 parser = argparse.ArgumentParser()
-parser.add_argument("kills", type=int, nargs="?", default=100, choices=range(1, 10_001), metavar="KILLS")
+parser.add_argument(
+    "kills", type=int, nargs="?", default=100, choices=range(1, 10_001), metavar="KILLS"
+)
 parser.add_argument("seed", type=int, nargs="?", default=int(time.time()), metavar="SEED")
 given = parser.parse_args()
 chance = random.Random(given.seed)
@@ -52,7 +72,10 @@ def books_and_cancels(server, place, text, is_over):
         if is_over.wait(0.05):
             return 4 * (number - 1), wrong[:3]
         path = f"/slots/court-{place}/2026-05-{1 + number // 14 % 28:02d}/{8 + number % 14:02d}/bookings/{number}"
-        for asked, wanted in ((("PUT", path, '{"guests":1}'), '"charge":14,"left":2'), (("DELETE", path), '"refund":14')):
+        for asked, wanted in (
+            (("PUT", path, '{"guests":1}'), '"charge":14,"left":2'),
+            (("DELETE", path), '"refund":14'),
+        ):
             for _ in range(2):
                 reply = server.answer(text, *asked)
                 if reply != (200, f'{{"booking":"k{place}-1/{number}",{wanted}}}'):
@@ -80,20 +103,38 @@ def commands_beside_the_desk():
         text[member] = done("add-key", f"{member}-1", member).strip()
     server = Service()
     for number in range(1, 97):
-        server.answer(text["zoe"], "PUT", f"/slots/room-1/2026-06-{1 + number // 24:02d}/{number % 24:02d}/bookings/{number}", '{"guests":0}')
-    commands, start, is_over = [command_of(attempt) for attempt in range(given.kills)], time.monotonic(), threading.Event()
+        server.answer(
+            text["zoe"],
+            "PUT",
+            f"/slots/room-1/2026-06-{1 + number // 24:02d}/{number % 24:02d}/bookings/{number}",
+            '{"guests":0}',
+        )
+    commands, start, is_over = (
+        [command_of(attempt) for attempt in range(given.kills)],
+        time.monotonic(),
+        threading.Event(),
+    )
     with ThreadPoolExecutor(4) as pool:
-        clients = [pool.submit(books_and_cancels, server, place, text[f"k{place}"], is_over) for place in range(1, 5)]
+        clients = [
+            pool.submit(books_and_cancels, server, place, text[f"k{place}"], is_over)
+            for place in range(1, 5)
+        ]
         plain = seconds_of("debit", "zoe", "1", *YES)
         print(f"a correction while the desk runs takes {plain:.2f} s")
         for attempt, words in enumerate(commands):
-            killed_after(chance.uniform(0, plain * (0.4 if words[0] == "credit" else 1.2)), words, chance if attempt % 3 == 0 else None)
+            killed_after(
+                chance.uniform(0, plain * (0.4 if words[0] == "credit" else 1.2)),
+                words,
+                chance if attempt % 3 == 0 else None,
+            )
             if attempt % 10 == 0:
                 whole(f"kill {attempt}")
         server.is_heard()
         is_over.set()
     same("wrong replies", [it for client in clients for it in client.result()[1]], [])
-    print(f"{given.kills} kills in {time.monotonic() - start:.0f} s, {server.starts} starts, {sum(it.result()[0] for it in clients)} replies")
+    print(
+        f"{given.kills} kills in {time.monotonic() - start:.0f} s, {server.starts} starts, {sum(it.result()[0] for it in clients)} replies"
+    )
     whole("all kills")
     hold_book(commands)
     same("the desk runs", server.is_heard(), True)
@@ -120,17 +161,33 @@ def command_of(attempt):
 
 def hold_book(commands):
     """In the book, a command has status 0 if it is done, and a question mark if it was interrupted. The club must contain each credit and
-    debit that has status 0 in the book. It may also contain those with a question mark, but no others."""
+    debit that has status 0 in the book. It may also contain those with a question mark, but no others.
+    """
     book = [line.split() for line in done("log", "zoe").splitlines()]
-    book = [(status, command, words) for _, _, status, command, *words in book if command in ("credit", "debit")]
+    book = [
+        (status, command, words)
+        for _, _, status, command, *words in book
+        if command in ("credit", "debit")
+    ]
     sums, counts = {0}, Counter(status for status, _, _ in book)
     for status, command, words in book:
         points = int(words[1]) * (1 if command == "credit" else -1)
         if status in ("0", "?"):
             sums = {it + points for it in sums} | (sums if status == "?" else set())
-    same(f"zoe's credits, {counts['?']} of them interrupted", rows("SELECT credited FROM members WHERE name = 'zoe'")[0][0] in sums, True)
-    lines = {" ".join(word for word in words if word != "--yes") for words in commands} | {"credit zoe 100000", f"debit zoe 1 --at {NOON}"}
-    same("no commands that the test didn't run", {" ".join([command, *words]) for _, command, words in book} - lines, set())
+    same(
+        f"zoe's credits, {counts['?']} of them interrupted",
+        rows("SELECT credited FROM members WHERE name = 'zoe'")[0][0] in sums,
+        True,
+    )
+    lines = {" ".join(word for word in words if word != "--yes") for words in commands} | {
+        "credit zoe 100000",
+        f"debit zoe 1 --at {NOON}",
+    }
+    same(
+        "no commands that the test didn't run",
+        {" ".join([command, *words]) for _, command, words in book} - lines,
+        set(),
+    )
     print(f"credits and debits: {counts['0'] - 2} were done, {counts['?']} were interrupted")
 
 
@@ -139,7 +196,11 @@ def restores():
     copies, night = HOME / "back-ups", "2026-04-19T030000Z"
     configure(BACK_UPS=copies)
     run_as("clubdesk", "mkdir", "-m", "700", copies, folder="/")
-    same("a copy", run_as("clubdesk", "/usr/lib/clubdesk/back_up", CLUB, copies / night, folder="/")[0], 0)
+    same(
+        "a copy",
+        run_as("clubdesk", "/usr/lib/clubdesk/back_up", CLUB, copies / night, folder="/")[0],
+        0,
+    )
     copy = everything()
 
     def goes_on():
@@ -159,7 +220,11 @@ def restores():
         same("the club is the copy or unchanged", found in (copy, later), True)
         outcomes["restored" if found == copy else "before"] += 1
         whole("a killed restore")
-    same("the restore works after all kills", done("restore", night, "--yes").splitlines()[-1], "done")
+    same(
+        "the restore works after all kills",
+        done("restore", night, "--yes").splitlines()[-1],
+        "done",
+    )
     same("the club of the copy", everything(), copy)
     same("the desk runs", server.is_heard(), True)
     server.stop()
@@ -176,10 +241,20 @@ def season_points():
     words = ["credit-all", "100", "--as", "killed", "--yes"]
     for _ in range(min(given.kills, 12)):
         killed_after(chance.uniform(0.2, 4), words, chance if chance.random() < 0.3 else None)
-        more = {points - before[name] for name, points in rows("SELECT name, credited FROM members WHERE quota > 0")}
+        more = {
+            points - before[name]
+            for name, points in rows("SELECT name, credited FROM members WHERE quota > 0")
+        }
         same("each member has the points once or not yet", more <= {0, 100}, True)
     same("the command again", office(*words)[0] in (0, 1), True)
-    same("each member has the points once", {points - before[name] for name, points in rows("SELECT name, credited FROM members WHERE quota > 0")}, {100})
+    same(
+        "each member has the points once",
+        {
+            points - before[name]
+            for name, points in rows("SELECT name, credited FROM members WHERE quota > 0")
+        },
+        {100},
+    )
     same("the command is refused afterwards", office(*words)[0], 1)
     server.stop()
 
@@ -196,9 +271,19 @@ def bookings_for_callers():
         words = ["book", "caller", "room-1", "2026-05-20", f"{first}-{first + count}", "1"]
         killed_after(chance.uniform(0.2, 2.5 * count), words)
         status, _, errors = office(*words)
-        same(f"a booking, again at {first}", (status == 0, "already" in errors) in ((True, False), (False, True)), True)
+        same(
+            f"a booking, again at {first}",
+            (status == 0, "already" in errors) in ((True, False), (False, True)),
+            True,
+        )
         for hour in range(first, first + count):
-            same(f"booked at {hour}", rows(f"SELECT count(*), sum(taken) FROM slots WHERE facility = 'room-1' AND day = 20593 AND hour = {hour}"), [(1, 2)])
+            same(
+                f"booked at {hour}",
+                rows(
+                    f"SELECT count(*), sum(taken) FROM slots WHERE facility = 'room-1' AND day = 20593 AND hour = {hour}"
+                ),
+                [(1, 2)],
+            )
     whole("killed bookings")
     server.stop()
 
@@ -231,26 +316,53 @@ def copies_elsewhere():
     plain, killed = time.monotonic() - begun_at, 0
     for attempt in range(min(given.kills, 25)):
         done("credit", "zoe", str(1 + attempt))
-        command = subprocess.Popen(line, stdin=subprocess.DEVNULL, stdout=subprocess.PIPE, stderr=subprocess.PIPE, text=True, cwd="/", start_new_session=True)
+        command = subprocess.Popen(
+            line,
+            stdin=subprocess.DEVNULL,
+            stdout=subprocess.PIPE,
+            stderr=subprocess.PIPE,
+            text=True,
+            cwd="/",
+            start_new_session=True,
+        )
         time.sleep(chance.uniform(0, plain * 1.2))
         killed += command.poll() is None
         kill(command, chance if attempt % 3 == 0 else None)
         named = [it.name for it in place.glob("2*Z")]
-        tested = [it.split()[0] for it in (place / "tested").read_text(encoding="ascii").splitlines()]
+        tested = [
+            it.split()[0] for it in (place / "tested").read_text(encoding="ascii").splitlines()
+        ]
         same("each copy was tested", [it for it in named if it not in tested], [])
         for it in named[-3:]:
-            found = subprocess.run(["sqlite3", f"file:{place / it}?immutable=1", "PRAGMA integrity_check; SELECT count(*) FROM desk"], capture_output=True, text=True, check=False)
+            found = subprocess.run(
+                [
+                    "sqlite3",
+                    f"file:{place / it}?immutable=1",
+                    "PRAGMA integrity_check; SELECT count(*) FROM desk",
+                ],
+                capture_output=True,
+                text=True,
+                check=False,
+            )
             same(f"the copy {it} is complete", found.stdout, "ok\n1\n")
     same("the job works after all kills", run_as("clubdesk", *line[4:], folder="/")[0], 0)
     newest = sorted(it.name for it in place.glob("2*Z"))[-1]
-    same("the copy has the last change", copy_rows(place / newest), [it for it in everything() if "INSERT" in it])
+    same(
+        "the copy has the last change",
+        copy_rows(place / newest),
+        [it for it in everything() if "INSERT" in it],
+    )
     same("no temporary files are left after the copies", left(), [])
     copy, after = copy_rows(place / newest), None
     for _ in range(min(given.kills, 8)):
         done("credit", "zoe", "7")
         after = [it for it in everything() if "INSERT" in it]
         killed_after(chance.uniform(0.2, 3), ["restore", newest, "--yes"])
-        same("a killed restore of such a copy", [it for it in everything() if "INSERT" in it] in (copy, after), True)
+        same(
+            "a killed restore of such a copy",
+            [it for it in everything() if "INSERT" in it] in (copy, after),
+            True,
+        )
         done("restore", newest, "--yes")
         same("a restore of such a copy", [it for it in everything() if "INSERT" in it], copy)
     print(f"copies elsewhere, killed {killed} times")
@@ -266,16 +378,27 @@ def copy_rows(path):
 
 # The name, quota and points of each member, and the name that the office makes from the member's name.
 MEMBERS = [
-    ("Amy Müller", 5, 10000, "amy-mueller"), ("Bob", 3, 5000, "bob"), ("Çelik, Ayşe", 2, 0, "celik-ayse"), ("Ole Sørensen", 9, 700, "ole-soerensen"),
-    ("Zoë", 1, 1, "zoe"), ("Łukasz Wójcik", 4, 20, "lukasz-wojcik"), ("Jean-Luc d'Arc", 6, 60, "jean-luc-d-arc"),
-    ("Straßer, Uwe Maximilian der Jüngere", 7, 1000000, "strasser-uwe-maximilian"), ("n.n. 4711", 0, 5, "n-n-4711"), ("Ægir", 8, 8, "aegir"),
-    ("İnci", 2, 22, "inci"), ("Ana", 3, 33, "ana"),
+    ("Amy Müller", 5, 10000, "amy-mueller"),
+    ("Bob", 3, 5000, "bob"),
+    ("Çelik, Ayşe", 2, 0, "celik-ayse"),
+    ("Ole Sørensen", 9, 700, "ole-soerensen"),
+    ("Zoë", 1, 1, "zoe"),
+    ("Łukasz Wójcik", 4, 20, "lukasz-wojcik"),
+    ("Jean-Luc d'Arc", 6, 60, "jean-luc-d-arc"),
+    ("Straßer, Uwe Maximilian der Jüngere", 7, 1000000, "strasser-uwe-maximilian"),
+    ("n.n. 4711", 0, 5, "n-n-4711"),
+    ("Ægir", 8, 8, "aegir"),
+    ("İnci", 2, 22, "inci"),
+    ("Ana", 3, 33, "ana"),
 ]
 LIST = Path("/home/anna/members.csv")
 
 
 def make_list(members, delimiter=","):
-    lines = [("name", "quota", "points"), *((f'"{name}"', str(quota), str(points)) for name, quota, points, _ in members)]
+    lines = [
+        ("name", "quota", "points"),
+        *((f'"{name}"', str(quota), str(points)) for name, quota, points, _ in members),
+    ]
     LIST.write_text("".join(delimiter.join(it) + "\n" for it in lines), encoding="utf-8")
 
 
@@ -322,12 +445,24 @@ def import_stopped(*at):
 def imported(what, members):
     """Checks that each member exists once and got one credit. Each member must have a key, and a pass that the key's root signed."""
     found = rows("SELECT name, credited, quota, used FROM members ORDER BY rowid")
-    same(f"{what}: the members", sorted(found), sorted((name, points, quota, 0) for _, quota, points, name in members))
+    same(
+        f"{what}: the members",
+        sorted(found),
+        sorted((name, points, quota, 0) for _, quota, points, name in members),
+    )
     keys = rows("SELECT member, name, hex(root) FROM keys ORDER BY rowid")
     same(f"{what}: the keys", sorted(it[0] for it in keys), sorted(it[-1] for it in members))
-    same(f"{what}: the passes", sorted(run_as("anna", "ls", "-A", "passes")[1].split()), sorted(it[1] for it in keys))
+    same(
+        f"{what}: the passes",
+        sorted(run_as("anna", "ls", "-A", "passes")[1].split()),
+        sorted(it[1] for it in keys),
+    )
     for _, key, root in keys:
-        same(f"{what}: the pass of {key}", run_as("anna", "sh", "-c", f"passtool verify --root {root} <passes/{key}")[1], "signed\n")
+        same(
+            f"{what}: the pass of {key}",
+            run_as("anna", "sh", "-c", f"passtool verify --root {root} <passes/{key}")[1],
+            "signed\n",
+        )
 
 
 def imports():
@@ -354,14 +489,24 @@ def imports():
     imported("a list with semicolons", MEMBERS)
     fresh_club()
     for _ in range(min(given.kills, 40)):
-        killed_after(chance.uniform(0.1, 2), ["import", "members.csv", "--yes"], chance if chance.random() < 0.3 else None)
+        killed_after(
+            chance.uniform(0.1, 2),
+            ["import", "members.csv", "--yes"],
+            chance if chance.random() < 0.3 else None,
+        )
     same("killed at random: again", import_stopped(), 0)
     imported("killed at random", MEMBERS)
     keys = rows("SELECT name, hex(root) FROM keys")
     same("a debit, then the import again", done("debit", "zoe", "1", *YES).splitlines()[-1], "done")
-    same("the import has nothing to do", office("import", "members.csv", "--yes")[1].splitlines()[-1], "nothing to do")
+    same(
+        "the import has nothing to do",
+        office("import", "members.csv", "--yes")[1].splitlines()[-1],
+        "nothing to do",
+    )
     same("the import changed no key", rows("SELECT name, hex(root) FROM keys"), keys)
-    same("the import gave no credit", rows("SELECT credited FROM members WHERE name = 'zoe'"), [(0,)])
+    same(
+        "the import gave no credit", rows("SELECT credited FROM members WHERE name = 'zoe'"), [(0,)]
+    )
 
 
 def refused_lists():
@@ -386,7 +531,11 @@ def refused_lists():
     same("no member is added", rows("SELECT * FROM members"), [])
     make_list(MEMBERS[:2])
     status, out, _ = office("import", "members.csv", given="n\n")
-    same("not confirmed", (status, out.splitlines()[2].split()), (1, ["2", "Amy", "Müller", "amy-mueller", "5", "10000", "amy-mueller-1", "new"]))
+    same(
+        "not confirmed",
+        (status, out.splitlines()[2].split()),
+        (1, ["2", "Amy", "Müller", "amy-mueller", "5", "10000", "amy-mueller-1", "new"]),
+    )
     same("no member is added before the confirmation", rows("SELECT * FROM members"), [])
     run_as("anna", "mkdir", "passes")
     run_as("anna", "sh", "-c", "echo mine >passes/bob-1")

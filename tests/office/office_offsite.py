@@ -42,7 +42,20 @@ import psutil
 os.environ.setdefault("room_net", "yes")
 
 sys.path[:0] = [str(Path(__file__).resolve().parents[1] / it) for it in ("lib", "")]
-from office_room import CLUB, HOME, ROOM, Service, done, everything, leave, mode, office, run_as, same, whole
+from office_room import (
+    CLUB,
+    HOME,
+    ROOM,
+    Service,
+    done,
+    everything,
+    leave,
+    mode,
+    office,
+    run_as,
+    same,
+    whole,
+)
 
 AWAY = Path("/srv/away")
 FOLDER = AWAY / "clubs" / "club"
@@ -53,9 +66,21 @@ MINUTE = re.compile(r"20[0-9]{2}-[0-9]{2}-[0-9]{2}T[0-9]{6}Z")
 
 
 def configure(**more):
-    lines = {"FILE": CLUB, "ZONE": "UTC0", "PORT": server.port, "BACK_UPS": HOME / "back-ups", "TITLE": '"Our club"', "SITE": f"https://{SITE}",
-             "PAGES": "/srv/pages", "ZONE_NAME": "Etc/UTC", "TITLES": CONF / "club.titles", **more}
-    (CONF / "club.conf").write_text("".join(f"{key}={value}\n" for key, value in lines.items()), encoding="utf-8")
+    lines = {
+        "FILE": CLUB,
+        "ZONE": "UTC0",
+        "PORT": server.port,
+        "BACK_UPS": HOME / "back-ups",
+        "TITLE": '"Our club"',
+        "SITE": f"https://{SITE}",
+        "PAGES": "/srv/pages",
+        "ZONE_NAME": "Etc/UTC",
+        "TITLES": CONF / "club.titles",
+        **more,
+    }
+    (CONF / "club.conf").write_text(
+        "".join(f"{key}={value}\n" for key, value in lines.items()), encoding="utf-8"
+    )
 
 
 class Sshd:
@@ -68,18 +93,44 @@ class Sshd:
         keys, home = ROOM / "ssh", HOME / ".ssh"
         keys.mkdir()
         run("install", "-d", "-o", "clubdesk", "-g", "clubdesk", "-m", "700", home)
-        for owner, place in (("root", keys / "host"), ("clubdesk", home / "id_ed25519"), ("root", Path("/root/.ssh/id_ed25519"))):
+        for owner, place in (
+            ("root", keys / "host"),
+            ("clubdesk", home / "id_ed25519"),
+            ("root", Path("/root/.ssh/id_ed25519")),
+        ):
             if owner == "root":
                 place.parent.mkdir(mode=0o700, exist_ok=True)
             place.unlink(missing_ok=True)
-            run("runuser", "-u", owner, "--", "ssh-keygen", "-q", "-t", "ed25519", "-N", "", "-f", place)
+            run(
+                "runuser",
+                "-u",
+                owner,
+                "--",
+                "ssh-keygen",
+                "-q",
+                "-t",
+                "ed25519",
+                "-N",
+                "",
+                "-f",
+                place,
+            )
         (AWAY / ".ssh").mkdir(mode=0o700)
-        (AWAY / ".ssh" / "authorized_keys").write_text("".join(Path(f"{it}.pub").read_text() for it in (home / "id_ed25519", "/root/.ssh/id_ed25519")))
+        (AWAY / ".ssh" / "authorized_keys").write_text(
+            "".join(
+                Path(f"{it}.pub").read_text()
+                for it in (home / "id_ed25519", "/root/.ssh/id_ed25519")
+            )
+        )
         run("chown", "-R", "carl:carl", AWAY)
-        (keys / "config").write_text(f"Port 2222\nListenAddress 127.0.0.1\nHostKey {keys}/host\nPidFile none\nUsePAM no\nPasswordAuthentication no\n"
-                                     "AuthorizedKeysFile .ssh/authorized_keys\n")
+        (keys / "config").write_text(
+            f"Port 2222\nListenAddress 127.0.0.1\nHostKey {keys}/host\nPidFile none\nUsePAM no\nPasswordAuthentication no\n"
+            "AuthorizedKeysFile .ssh/authorized_keys\n"
+        )
         for place, owner in ((home, "clubdesk"), (Path("/root/.ssh"), "root")):
-            (place / "config").write_text("Host elsewhere\n    HostName 127.0.0.1\n    Port 2222\n    User carl\n    StrictHostKeyChecking accept-new\n")
+            (place / "config").write_text(
+                "Host elsewhere\n    HostName 127.0.0.1\n    Port 2222\n    User carl\n    StrictHostKeyChecking accept-new\n"
+            )
             (place / "config").chmod(0o600)
             shutil.chown(place / "config", owner)
         Path("/run/sshd").mkdir(mode=0o755, exist_ok=True)
@@ -87,7 +138,9 @@ class Sshd:
         self.start()
 
     def start(self):
-        self.process = subprocess.Popen(["/usr/sbin/sshd", "-D", "-f", ROOM / "ssh" / "config"], stderr=subprocess.DEVNULL)
+        self.process = subprocess.Popen(
+            ["/usr/sbin/sshd", "-D", "-f", ROOM / "ssh" / "config"], stderr=subprocess.DEVNULL
+        )
         soon(10, lambda: socket.create_connection(("127.0.0.1", 2222), 1).close() or True)
 
     def stop(self):
@@ -116,7 +169,11 @@ def soon(seconds, holds):
 
 def copies():
     """Returns the names of the copies on the other disk, oldest first."""
-    return sorted(it.name for it in FOLDER.iterdir() if MINUTE.fullmatch(it.name)) if FOLDER.exists() else []
+    return (
+        sorted(it.name for it in FOLDER.iterdir() if MINUTE.fullmatch(it.name))
+        if FOLDER.exists()
+        else []
+    )
 
 
 def once():
@@ -139,8 +196,19 @@ class Keeper:
     def __init__(self):
         self.log = ROOM / "keeper"
         with open(self.log, "wb") as log:
-            self.process = subprocess.Popen(["setpriv", "--reuid=clubdesk", "--regid=clubdesk", "--clear-groups", "/usr/lib/clubdesk/copy_offsite", "club"],
-                                            stdout=log, stderr=log, cwd="/")
+            self.process = subprocess.Popen(
+                [
+                    "setpriv",
+                    "--reuid=clubdesk",
+                    "--regid=clubdesk",
+                    "--clear-groups",
+                    "/usr/lib/clubdesk/copy_offsite",
+                    "club",
+                ],
+                stdout=log,
+                stderr=log,
+                cwd="/",
+            )
 
     def said(self):
         return self.log.read_text(encoding="utf-8")
@@ -151,7 +219,9 @@ class Keeper:
 
 
 def book(number, hour=10, guests=0):
-    return server.answer(amy, "PUT", f"/slots/court-1/{DAY}/{hour:02d}/bookings/{number}", f'{{"guests":{guests}}}')
+    return server.answer(
+        amy, "PUT", f"/slots/court-1/{DAY}/{hour:02d}/bookings/{number}", f'{{"guests":{guests}}}'
+    )
 
 
 def make_club():
@@ -174,7 +244,11 @@ def within_a_minute(keeper):
         same(f"booking {number} is copied within a minute", bool(found) and took < 60, True)
         same("the copy has the club's rows", rows_of(FOLDER / copies()[-1]), rows_now())
         print(f"a booking was copied after {took:.1f} s")
-    same("owners and modes of the copies", {(it.owner(), f"{it.stat().st_mode:o}") for it in FOLDER.iterdir()}, {("carl", "100600")})
+    same(
+        "owners and modes of the copies",
+        {(it.owner(), f"{it.stat().st_mode:o}") for it in FOLDER.iterdir()},
+        {("carl", "100600")},
+    )
     before = copies()
     time.sleep(8)
     same("no copy without a change", copies(), before)
@@ -196,28 +270,72 @@ def beside():
         with tarfile.open(FOLDER / f"{newest}.tar") as archive:
             return {it.name: archive.extractfile(it).read() for it in archive}
 
-    wanted = ["beside/book", "beside/people.csv", "beside/reasons", "beside/seasons", "clerks", "conf/club.conf", "conf/club.titles"]
-    found = soon(60, lambda: packed() if sorted(packed()) == wanted and b"amy@example.org" in packed()["beside/people.csv"] else None) or packed()
+    wanted = [
+        "beside/book",
+        "beside/people.csv",
+        "beside/reasons",
+        "beside/seasons",
+        "clerks",
+        "conf/club.conf",
+        "conf/club.titles",
+    ]
+    found = (
+        soon(
+            60,
+            lambda: packed()
+            if sorted(packed()) == wanted and b"amy@example.org" in packed()["beside/people.csv"]
+            else None,
+        )
+        or packed()
+    )
     same("the files in a copy's archive", sorted(found), wanted)
     same("the clerks", found["clerks"], b"anna\nben\n")
     soon(30, lambda: len(list(FOLDER.glob("*.tar"))) == 1)
-    same("only the newest copy has an archive", [it.name for it in FOLDER.glob("*.tar")], [f"{copies()[-1]}.tar"])
-    same("no personal data in a copy", [it for it in copies() if b"example.org" in (FOLDER / it).read_bytes()], [])
+    same(
+        "only the newest copy has an archive",
+        [it.name for it in FOLDER.glob("*.tar")],
+        [f"{copies()[-1]}.tar"],
+    )
+    same(
+        "no personal data in a copy",
+        [it for it in copies() if b"example.org" in (FOLDER / it).read_bytes()],
+        [],
+    )
 
 
 def listed():
     """`copies` lists the copies on this machine and on the other disk. In both languages, the list shows the age and the size of each copy, and
     whether the copy was tested."""
-    same("a nightly copy", run_as("clubdesk", "/usr/lib/clubdesk/keep_copies", CLUB, HOME / "back-ups", folder="/")[0], 0)
+    same(
+        "a nightly copy",
+        run_as("clubdesk", "/usr/lib/clubdesk/keep_copies", CLUB, HOME / "back-ups", folder="/")[0],
+        0,
+    )
     found = [it.split(",") for it in done("copies", "--csv").splitlines()]
     same("the heads", found[0], ["copy", "is", "bytes", "minutes", "tested"])
-    same("kinds", {it[1]: it[4] for it in found[1:]}, {"back-up": "opened", "before a correction": "whole", "off-site": "whole"})
+    same(
+        "kinds",
+        {it[1]: it[4] for it in found[1:]},
+        {"back-up": "opened", "before a correction": "whole", "off-site": "whole"},
+    )
     newest = [it for it in found if it[1] == "off-site"][-1]
-    same("the newest copy on the other disk", (newest[0], int(newest[2]), int(newest[3]) < 3), (copies()[-1], (FOLDER / copies()[-1]).stat().st_size, True))
+    same(
+        "the newest copy on the other disk",
+        (newest[0], int(newest[2]), int(newest[3]) < 3),
+        (copies()[-1], (FOLDER / copies()[-1]).stat().st_size, True),
+    )
     text = done("copies")
-    same("the list for people", (text.split()[:5], len(re.findall(r"off-site +[0-9]+ minutes +[0-9]+ +whole", text)) > 0), (["copy", "is", "age", "bytes", "tested"], True))
+    same(
+        "the list for people",
+        (text.split()[:5], len(re.findall(r"off-site +[0-9]+ minutes +[0-9]+ +whole", text)) > 0),
+        (["copy", "is", "age", "bytes", "tested"], True),
+    )
     text = run_as("anna", "env", "LANG=de_DE.UTF-8", "office", "club", "copies")[1]
-    same("the list in German", (text.split()[:5], "außer Haus" in text, "geöffnet" in text), (["Kopie", "ist", "Alter", "Bytes", "geprüft"], True, True))
+    same(
+        "the list in German",
+        (text.split()[:5], "außer Haus" in text, "geöffnet" in text),
+        (["Kopie", "ist", "Alter", "Bytes", "geprüft"], True, True),
+    )
 
 
 def restored_from_there():
@@ -226,15 +344,27 @@ def restored_from_there():
     same("a booking after the copy", book(15, 15)[0], 200)
     done("debit", "amy", "7", "--yes")
     shown = done("restore", name, "--yes").splitlines()
-    same("the changes, and whom to tell", [it for it in shown if it[:5] in ("loses", "done", "Membe", "    A")], [
-        f"loses the booking court-1 {DAY} 15:00, 1 person, 1 points: amy-1 15, amy", "done", "Members to inform:", "    Amy Möller  amy@example.org  +49 1"])
+    same(
+        "the changes, and whom to tell",
+        [it for it in shown if it[:5] in ("loses", "done", "Membe", "    A")],
+        [
+            f"loses the booking court-1 {DAY} 15:00, 1 person, 1 points: amy-1 15, amy",
+            "done",
+            "Members to inform:",
+            "    Amy Möller  amy@example.org  +49 1",
+        ],
+    )
     same("the club of the copy", rows_now(), wanted)
     soon(60, lambda: rows_of(FOLDER / copies()[-1]) == rows_now())
     broken = FOLDER / copies()[0]
     kept = broken.read_bytes()
     broken.write_bytes(kept[:-1] + b"x")
     found = office("restore", broken.name, "--yes")
-    same("a copy that was changed on the other disk", (found[0], "differs from the copy sent there" in found[2]), (5, True))
+    same(
+        "a copy that was changed on the other disk",
+        (found[0], "differs from the copy sent there" in found[2]),
+        (5, True),
+    )
     broken.write_bytes(kept)
     whole("a restore from the other disk")
 
@@ -248,26 +378,68 @@ def host_down(sshd, keeper):
     said = soon(40, lambda: "the service will try again" in keeper.said())
     same("the fault is reported", (said, "Connection refused" in keeper.said()), (True, True))
     time.sleep(3)
-    same("health fails", "nothing has been copied to elsewhere:clubs/club since" in health(1, PATIENCE="2"), True)
+    same(
+        "health fails",
+        "nothing has been copied to elsewhere:clubs/club since" in health(1, PATIENCE="2"),
+        True,
+    )
     same("health tolerates a short failure", health(0).startswith("healthy: "), True)
     status, out, errors = office("copies")
-    same("copies of this machine are listed", (status, "opened" in out, "the copies there aren't listed" in errors), (0, True, True))
-    status, _, errors = run_as("anna", "env", "LANG=de_DE.UTF-8", "office", "club", "restore", "2001-01-01T000000Z", "--yes")
+    same(
+        "copies of this machine are listed",
+        (status, "opened" in out, "the copies there aren't listed" in errors),
+        (0, True, True),
+    )
+    status, _, errors = run_as(
+        "anna",
+        "env",
+        "LANG=de_DE.UTF-8",
+        "office",
+        "club",
+        "restore",
+        "2001-01-01T000000Z",
+        "--yes",
+    )
     same("a missing copy", (status, "abgelehnt: es gibt keine Kopie" in errors), (1, True))
     time.sleep(22)
     same("the fault is reported once", keeper.said().count("the service will try again"), 1)
     before = copies()
     sshd.start()
-    same("the service tries again", bool(soon(60, lambda: [it for it in copies() if it not in before])), True)
-    same("the copy has the bookings made meanwhile", soon(30, lambda: rows_of(FOLDER / copies()[-1]) == rows_now()), True)
-    same("the recovery is reported", soon(10, lambda: "accepts copies again" in keeper.said()), True)
-    same("health passes again", soon(40, lambda: health(None, PATIENCE="2").startswith("healthy: ")), True)
+    same(
+        "the service tries again",
+        bool(soon(60, lambda: [it for it in copies() if it not in before])),
+        True,
+    )
+    same(
+        "the copy has the bookings made meanwhile",
+        soon(30, lambda: rows_of(FOLDER / copies()[-1]) == rows_now()),
+        True,
+    )
+    same(
+        "the recovery is reported", soon(10, lambda: "accepts copies again" in keeper.said()), True
+    )
+    same(
+        "health passes again",
+        soon(40, lambda: health(None, PATIENCE="2").startswith("healthy: ")),
+        True,
+    )
 
 
 def health(status, **more):
     """Runs check_health for the desk and for the copies. Checks the exit status unless `status` is None. Returns the output."""
-    line = ["env", *(f"{key}={value}" for key, value in {"CURL_CA_BUNDLE": f"{ROOM}/site.pem", **more}.items()), "/usr/lib/clubdesk/check_health", CLUB,
-            str(server.port), "", "", "elsewhere:clubs/club"]
+    line = [
+        "env",
+        *(
+            f"{key}={value}"
+            for key, value in {"CURL_CA_BUNDLE": f"{ROOM}/site.pem", **more}.items()
+        ),
+        "/usr/lib/clubdesk/check_health",
+        CLUB,
+        str(server.port),
+        "",
+        "",
+        "elsewhere:clubs/club",
+    ]
     found, out, errors = run_as("clubdesk", *line, folder="/")
     if status is not None:
         same(f"health {more}: {out}{errors}", found, status)
@@ -277,7 +449,12 @@ def health(status, **more):
 def nobody_looks(keeper):
     keeper.stop()
     time.sleep(3)
-    same("the service is stopped", "the service that copies to elsewhere:clubs/club has been silent since" in health(1, PATIENCE="2"), True)
+    same(
+        "the service is stopped",
+        "the service that copies to elsewhere:clubs/club has been silent since"
+        in health(1, PATIENCE="2"),
+        True,
+    )
     state = (HOME / "club-offsite").read_bytes()
     (HOME / "club-offsite").unlink()
     same("no copy yet", "nothing has been copied to elsewhere:clubs/club yet" in health(1), True)
@@ -288,7 +465,11 @@ def nobody_looks(keeper):
 def kept_by_rule():
     """The test adds files with names like those of copies, for random moments in the last 420 days. The service keeps exactly the copies that the
     test's own rule selects."""
-    chance, now, made = random.Random(7), datetime.datetime.now(datetime.timezone.utc), set(copies())
+    chance, now, made = (
+        random.Random(7),
+        datetime.datetime.now(datetime.timezone.utc),
+        set(copies()),
+    )
     for back in range(0, 420):
         for _ in range(chance.choice((0, 1, 3)) if back < 20 else chance.choice((0, 0, 0, 1))):
             moment = now - datetime.timedelta(days=back, seconds=chance.randrange(3600, 80_000))
@@ -316,15 +497,25 @@ def kept_by_rule():
     wanted = {it for it in counted if (today - day(it)).days < 14}
     for back in range(8):
         begin = monday - datetime.timedelta(7 * back)
-        wanted |= set([it for it in counted if begin <= day(it) < begin + datetime.timedelta(7)][:1])
+        wanted |= set(
+            [it for it in counted if begin <= day(it) < begin + datetime.timedelta(7)][:1]
+        )
     for back in range(12):
         year, month = divmod(today.year * 12 + today.month - 1 - back, 12)
         wanted |= set([it for it in counted if it.startswith(f"{year}-{month + 1:02}-")][:1])
     same("the kept copies", sorted(copies()), sorted(wanted))
     same("other files stay", (FOLDER / "notes").read_text(), "mine")
     listed_there = {line.split()[0] for line in (FOLDER / "tested").read_text().splitlines()}
-    same("the list of tested copies has only existing copies", [it for it in listed_there if not (FOLDER / it).exists()], [])
-    found = {it.split(",")[4] for it in done("copies", "--csv").splitlines() if it.startswith(tuple(made - listed_there))}
+    same(
+        "the list of tested copies has only existing copies",
+        [it for it in listed_there if not (FOLDER / it).exists()],
+        [],
+    )
+    found = {
+        it.split(",")[4]
+        for it in done("copies", "--csv").splitlines()
+        if it.startswith(tuple(made - listed_there))
+    }
     same("untested copies are marked", found, {"no"})
     for name in made - listed_there:
         (FOLDER / name).unlink(missing_ok=True)
@@ -336,14 +527,21 @@ def torn():
     whole_one = ROOM / "ssh-whole"
     shutil.copy2(ssh, whole_one)
     ROOM.chmod(0o755)
-    for what, script in (("cut", f'head -c 5000 | {whole_one} "$@"'), ("changed", f"tr SQL sql | {whole_one} \"$@\"")):
+    for what, script in (
+        ("cut", f'head -c 5000 | {whole_one} "$@"'),
+        ("changed", f'tr SQL sql | {whole_one} "$@"'),
+    ):
         before = sorted(it.name for it in FOLDER.iterdir())
         book(40 if what == "cut" else 41)
         ssh.unlink()
         ssh.write_text(f"#!/bin/sh\n{script}\n")
         ssh.chmod(0o755)
         status, _, errors = once()
-        same(f"a transfer that is {what}", (status, "the transferred bytes differ from the sent bytes" in errors), (5, True))
+        same(
+            f"a transfer that is {what}",
+            (status, "the transferred bytes differ from the sent bytes" in errors),
+            (5, True),
+        )
         same(f"{what}: the other disk's files", sorted(it.name for it in FOLDER.iterdir()), before)
         shutil.copy2(whole_one, ssh)
     same("the next transfer succeeds", (once()[0], rows_of(FOLDER / copies()[-1])), (0, rows_now()))
@@ -357,7 +555,11 @@ def full_there():
             fill.write(bytes(4096))
     book(50)
     status, _, errors = once()
-    same("a full disk on the other machine", (status, "No space left" in errors, copies(), list(FOLDER.glob(".new.2*"))), (5, True, before, []))
+    same(
+        "a full disk on the other machine",
+        (status, "No space left" in errors, copies(), list(FOLDER.glob(".new.2*"))),
+        (5, True, before, []),
+    )
     (AWAY / "fill").unlink()
     same("space again", (once()[0], rows_of(FOLDER / copies()[-1])), (0, rows_now()))
 
@@ -398,7 +600,11 @@ class Site(http.server.BaseHTTPRequestHandler):
 
     def do_GET(self):
         client = http.client.HTTPConnection("127.0.0.1", server.port, timeout=10)
-        client.request("GET", self.path, headers={it: self.headers[it] for it in ("Authorization",) if self.headers[it]})
+        client.request(
+            "GET",
+            self.path,
+            headers={it: self.headers[it] for it in ("Authorization",) if self.headers[it]},
+        )
         reply = client.getresponse()
         body = reply.read()
         self.send_response(reply.status)
@@ -414,8 +620,26 @@ class Site(http.server.BaseHTTPRequestHandler):
 def site_for(days):
     """Starts the site with a certificate that is valid for this many days."""
     key, certificate = ROOM / "site.key", ROOM / "site.pem"
-    run("openssl", "req", "-x509", "-newkey", "ec", "-pkeyopt", "ec_paramgen_curve:P-256", "-nodes", "-days", str(days), "-subj", f"/CN={SITE}",
-        "-addext", f"subjectAltName=DNS:{SITE}", "-keyout", key, "-out", certificate)
+    run(
+        "openssl",
+        "req",
+        "-x509",
+        "-newkey",
+        "ec",
+        "-pkeyopt",
+        "ec_paramgen_curve:P-256",
+        "-nodes",
+        "-days",
+        str(days),
+        "-subj",
+        f"/CN={SITE}",
+        "-addext",
+        f"subjectAltName=DNS:{SITE}",
+        "-keyout",
+        key,
+        "-out",
+        certificate,
+    )
     certificate.chmod(0o644)
     with http.server.ThreadingHTTPServer(("127.0.0.1", 443), Site) as it:
         context = ssl.SSLContext(ssl.PROTOCOL_TLS_SERVER)
@@ -430,18 +654,38 @@ def public_name():
     Path("/etc/hosts").write_text(f"127.0.0.1 localhost {SITE}\n")
 
     def asked(status, port=None):
-        line = ["env", f"CURL_CA_BUNDLE={ROOM}/site.pem", "/usr/lib/clubdesk/check_health", CLUB, str(port or server.port), CONF / "club.health", f"https://{SITE}"]
+        line = [
+            "env",
+            f"CURL_CA_BUNDLE={ROOM}/site.pem",
+            "/usr/lib/clubdesk/check_health",
+            CLUB,
+            str(port or server.port),
+            CONF / "club.health",
+            f"https://{SITE}",
+        ]
         found, out, errors = run_as("clubdesk", *line, folder="/")
         same(f"health by the public name: {out}{errors}", found, status)
         return out + errors
 
     with site_for(40):
         until = (datetime.datetime.now(datetime.timezone.utc) + datetime.timedelta(40)).date()
-        same("a healthy site", f"also at https://{SITE}, whose certificate is valid until {until}" in asked(0), True)
+        same(
+            "a healthy site",
+            f"also at https://{SITE}, whose certificate is valid until {until}" in asked(0),
+            True,
+        )
     with site_for(9):
         until = (datetime.datetime.now(datetime.timezone.utc) + datetime.timedelta(9)).date()
-        same("a certificate for nine more days", f"the certificate of {SITE} is valid until {until}: renew it" in asked(1), True)
-    same("a stopped site", f"the desk doesn't answer as expected at https://{SITE}: curl: (7)" in asked(1), True)
+        same(
+            "a certificate for nine more days",
+            f"the certificate of {SITE} is valid until {until}: renew it" in asked(1),
+            True,
+        )
+    same(
+        "a stopped site",
+        f"the desk doesn't answer as expected at https://{SITE}: curl: (7)" in asked(1),
+        True,
+    )
 
 
 # ---- Metrics.
@@ -453,14 +697,16 @@ def counted():
     folder.mkdir()
     shutil.chown(folder, "clubdesk")
     lines = ROOM / "journal"
-    journal.write_text(f"""#!/bin/sh
+    journal.write_text(
+        f"""#!/bin/sh
 # A stub of journalctl. The stub prints the lines of a file. The stub's cursor is the number of lines that were read so far.
 case "$*" in *SYSLOG_IDENTIFIER*) echo '-- cursor: 0'; exit ;; esac
 from=$(wc -l <{lines})
 case "$*" in *--after-cursor=*) from=${{*##*--after-cursor=}}; from=${{from%% *}} ;; esac
 tail -n +$((from + 1)) {lines}
 echo "-- cursor: $(wc -l <{lines})"
-""")
+"""
+    )
     journal.chmod(0o755)
     line = "2026-04-20T12:00 PUT /slots/court-1/2026-05-01/18/bookings/7 {} {}\n"
     lines.write_text(line.format(200, 1000))
@@ -470,28 +716,68 @@ echo "-- cursor: $(wc -l <{lines})"
         status, _, errors = run_as("clubdesk", *words, folder="/")
         same(f"metrics {errors}", status, 0)
         text = (folder / "clubdesk_club.prom").read_text()
-        odd = [it for it in text.splitlines() if not re.fullmatch(r'# (HELP|TYPE) clubdesk_[a-z_]+ .*|clubdesk_[a-z_]+\{club="club"(,[a-z]+="[^"\\]*")*\} [0-9.+Inf]+', it)]
+        odd = [
+            it
+            for it in text.splitlines()
+            if not re.fullmatch(
+                r'# (HELP|TYPE) clubdesk_[a-z_]+ .*|clubdesk_[a-z_]+\{club="club"(,[a-z]+="[^"\\]*")*\} [0-9.+Inf]+',
+                it,
+            )
+        ]
         same("malformed lines", odd, [])
         return dict(it.rsplit(" ", 1) for it in text.splitlines() if it[0] != "#")
 
     first = read()
     same("the first run counts no requests", [it for it in first if "requests_total" in it], [])
     with open(lines, "a", encoding="ascii") as more:
-        more.write(line.format(200, 3000) * 3 + line.format(409, 40_000) + "- - - - 7000000\n" + "listening on 127.0.0.1:8080\n")
+        more.write(
+            line.format(200, 3000) * 3
+            + line.format(409, 40_000)
+            + "- - - - 7000000\n"
+            + "listening on 127.0.0.1:8080\n"
+        )
     orders = int(read()['clubdesk_orders_total{club="club",status="0"}'])
     done("credit", "amy", "1")
     office("credit", "nobody", "1")
     found = read()
-    same("requests by their status", {it: found[it] for it in found if "requests_total" in it},
-         {'clubdesk_requests_total{club="club",status="-"}': "1", 'clubdesk_requests_total{club="club",status="200"}': "3", 'clubdesk_requests_total{club="club",status="409"}': "1"})
-    same("their time", [found[f'clubdesk_request_seconds{it}'] for it in ('_bucket{club="club",le="0.005"}', '_bucket{club="club",le="0.05"}', '_bucket{club="club",le="+Inf"}', '_count{club="club"}', '_sum{club="club"}')],
-         ["3", "4", "5", "5", "7.049"])
+    same(
+        "requests by their status",
+        {it: found[it] for it in found if "requests_total" in it},
+        {
+            'clubdesk_requests_total{club="club",status="-"}': "1",
+            'clubdesk_requests_total{club="club",status="200"}': "3",
+            'clubdesk_requests_total{club="club",status="409"}': "1",
+        },
+    )
+    same(
+        "their time",
+        [
+            found[f"clubdesk_request_seconds{it}"]
+            for it in (
+                '_bucket{club="club",le="0.005"}',
+                '_bucket{club="club",le="0.05"}',
+                '_bucket{club="club",le="+Inf"}',
+                '_count{club="club"}',
+                '_sum{club="club"}',
+            )
+        ],
+        ["3", "4", "5", "5", "7.049"],
+    )
     same("commands", int(found['clubdesk_orders_total{club="club",status="0"}']) - orders, 1)
     same("a refused command", 'clubdesk_orders_total{club="club",status="1"}' in found, True)
     version = run_as("clubdesk", "clubdesk", "--version", folder="/")[1].split()[1]
     same("the version", found[f'clubdesk_info{{club="club",version="{version}"}}'], "1")
-    same("the size", found['clubdesk_file_bytes{club="club",file="club"}'], str(CLUB.stat().st_size))
-    same("ages", [int(found[f'clubdesk_copy_age_seconds{{club="club",place="{it}"}}']) < 600 for it in ("here", "off-site")], [True, True])
+    same(
+        "the size", found['clubdesk_file_bytes{club="club",file="club"}'], str(CLUB.stat().st_size)
+    )
+    same(
+        "ages",
+        [
+            int(found[f'clubdesk_copy_age_seconds{{club="club",place="{it}"}}']) < 600
+            for it in ("here", "off-site")
+        ],
+        [True, True],
+    )
     same("its mode", mode(folder / "clubdesk_club.prom"), "clubdesk 100644")
     same("no other files", [it.name for it in folder.iterdir()], ["clubdesk_club.prom"])
 
@@ -502,14 +788,30 @@ echo "-- cursor: $(wc -l <{lines})"
 def brought_back():
     """Deletes the club's files, configuration and pages, and one clerk. Then restores the club. If a booking was lost, the client repeats
     the request and so makes the booking again."""
-    same("an old year", run_as("clubdesk", "/usr/lib/clubdesk/back_up", CLUB, HOME / "club-until-2025-12-31", folder="/")[0], 0)
+    same(
+        "an old year",
+        run_as(
+            "clubdesk",
+            "/usr/lib/clubdesk/back_up",
+            CLUB,
+            HOME / "club-until-2025-12-31",
+            folder="/",
+        )[0],
+        0,
+    )
     (CONF / "club.health").write_text("pass")
     run("chown", "root:clubdesk", CONF / "club.health")
     (CONF / "club.health").chmod(0o640)
     same("a last copy", once()[0], 0)
-    same("the old year's file is copied", (FOLDER / "until-2025-12-31").read_bytes(), (HOME / "club-until-2025-12-31").read_bytes())
+    same(
+        "the old year's file is copied",
+        (FOLDER / "until-2025-12-31").read_bytes(),
+        (HOME / "club-until-2025-12-31").read_bytes(),
+    )
     wanted, people = rows_now(), (HOME / "club-people.csv").read_bytes()
-    seasons, year = (HOME / "club-seasons").read_bytes(), {it.name: it.read_bytes() for it in HOME.glob("club-until-*")}
+    seasons, year = (HOME / "club-seasons").read_bytes(), {
+        it.name: it.read_bytes() for it in HOME.glob("club-until-*")
+    }
     lost = book(99, 11, 3)
     server.stop()
     for folder in (HOME, CONF, Path("/srv/pages")):
@@ -519,25 +821,70 @@ def brought_back():
     line = ["clubdesk-setup", "--from", "elsewhere:clubs/club"]
     status, _, errors = run_as("root", *line, "--copy", "2001-01-01T000000Z", folder="/")
     same("no such copy", (status, "has no copy 2001-01-01T000000Z" in errors), (1, True))
-    same("no file is made", (list(CONF.iterdir()), [it for it in HOME.iterdir() if it.name != ".ssh"]), ([], []))
+    same(
+        "no file is made",
+        (list(CONF.iterdir()), [it for it in HOME.iterdir() if it.name != ".ssh"]),
+        ([], []),
+    )
     begun = time.monotonic()
     status, out, errors = run_as("root", *line, folder="/")
     same(f"the restore succeeds: {errors}", status, 0)
     print(f"restored in {time.monotonic() - begun:.1f} s")
-    same("the output", [it for it in (f"made  {CONF}/club.conf", f"made  {CLUB}, as it was at ", "made  the clerk ben") if it not in out], [])
+    same(
+        "the output",
+        [
+            it
+            for it in (
+                f"made  {CONF}/club.conf",
+                f"made  {CLUB}, as it was at ",
+                "made  the clerk ben",
+            )
+            if it not in out
+        ],
+        [],
+    )
     same("the rows", rows_now(), wanted)
-    same("persons, the season, old years", ((HOME / "club-people.csv").read_bytes(), (HOME / "club-seasons").read_bytes(), {it.name: it.read_bytes() for it in HOME.glob("club-until-*")}),
-         (people, seasons, year))
-    same("modes", [mode(it) for it in (CLUB, HOME / "club-people.csv", CONF / "club.conf", CONF / "club.health")],
-         ["clubdesk 100600", "clubdesk 100600", "root 100644", "root 100640"])
+    same(
+        "persons, the season, old years",
+        (
+            (HOME / "club-people.csv").read_bytes(),
+            (HOME / "club-seasons").read_bytes(),
+            {it.name: it.read_bytes() for it in HOME.glob("club-until-*")},
+        ),
+        (people, seasons, year),
+    )
+    same(
+        "modes",
+        [
+            mode(it)
+            for it in (CLUB, HOME / "club-people.csv", CONF / "club.conf", CONF / "club.health")
+        ],
+        ["clubdesk 100600", "clubdesk 100600", "root 100644", "root 100640"],
+    )
     same("the clerks", sorted(grp.getgrnam("office").gr_mem), ["anna", "ben"])
     before = {it: it.stat().st_mtime_ns for it in [*CONF.iterdir(), *HOME.glob("club*")]}
     status, out, _ = run_as("root", *line, folder="/")
-    same("a second restore changes nothing", (status, "made" in out, {it: it.stat().st_mtime_ns for it in before}), (0, False, before))
+    same(
+        "a second restore changes nothing",
+        (status, "made" in out, {it: it.stat().st_mtime_ns for it in before}),
+        (0, False, before),
+    )
     again = Service(server.port, at=f"{datetime.date.today()}T08:00")
-    same("a repeat makes the lost booking again", again.answer(amy, "PUT", f"/slots/court-1/{DAY}/11/bookings/99", '{"guests":3}'), lost)
-    same("a repeat of a booking that wasn't lost", again.answer(amy, "PUT", f"/slots/court-1/{DAY}/10/bookings/1", '{"guests":0}')[0], 200)
-    same("the season's points aren't given twice", office("credit-all", "10", "--as", "season-1", "--yes")[0], 1)
+    same(
+        "a repeat makes the lost booking again",
+        again.answer(amy, "PUT", f"/slots/court-1/{DAY}/11/bookings/99", '{"guests":3}'),
+        lost,
+    )
+    same(
+        "a repeat of a booking that wasn't lost",
+        again.answer(amy, "PUT", f"/slots/court-1/{DAY}/10/bookings/1", '{"guests":0}')[0],
+        200,
+    )
+    same(
+        "the season's points aren't given twice",
+        office("credit-all", "10", "--as", "season-1", "--yes")[0],
+        1,
+    )
     whole("a restored club")
     again.stop()
 
@@ -547,10 +894,19 @@ def hostile_archive():
     newest = copies()[-1]
     kept = (FOLDER / f"{newest}.tar").read_bytes()
     made = io.BytesIO()
-    with tarfile.open(fileobj=made, mode="w") as archive, tarfile.open(fileobj=io.BytesIO(kept)) as was:
+    with tarfile.open(fileobj=made, mode="w") as archive, tarfile.open(
+        fileobj=io.BytesIO(kept)
+    ) as was:
         for it in was:
             archive.addfile(it, was.extractfile(it))
-        for name in ("/etc/evil", "../evil", "conf/../../evil", "conf/evil.sh", "beside/../evil", "titles/evil"):
+        for name in (
+            "/etc/evil",
+            "../evil",
+            "conf/../../evil",
+            "conf/evil.sh",
+            "beside/../evil",
+            "titles/evil",
+        ):
             about = tarfile.TarInfo(name)
             about.size = 4
             archive.addfile(about, io.BytesIO(b"evil"))
@@ -560,14 +916,32 @@ def hostile_archive():
     (FOLDER / f"{newest}.tar").write_bytes(made.getvalue())
     for it in [*CONF.iterdir(), *HOME.glob("club*")]:
         shutil.rmtree(it) if it.is_dir() else it.unlink()
-    same("an archive with other files", run_as("root", "clubdesk-setup", "--from", "elsewhere:clubs/club", folder="/")[0], 0)
-    found = [str(it) for top in (Path("/etc"), Path("/srv"), HOME, Path("/")) for it in top.glob("**/evil*" if top != Path("/") else "evil*")]
-    same("no other files", (found, sorted(it.name for it in CONF.iterdir())), ([], ["club.conf", "club.health", "club.titles"]))
+    same(
+        "an archive with other files",
+        run_as("root", "clubdesk-setup", "--from", "elsewhere:clubs/club", folder="/")[0],
+        0,
+    )
+    found = [
+        str(it)
+        for top in (Path("/etc"), Path("/srv"), HOME, Path("/"))
+        for it in top.glob("**/evil*" if top != Path("/") else "evil*")
+    ]
+    same(
+        "no other files",
+        (found, sorted(it.name for it in CONF.iterdir())),
+        ([], ["club.conf", "club.health", "club.titles"]),
+    )
     (FOLDER / f"{newest}.tar").write_bytes(b"no archive")
     for it in [*CONF.iterdir(), *HOME.glob("club*")]:
         shutil.rmtree(it) if it.is_dir() else it.unlink()
-    status, _, errors = run_as("root", "clubdesk-setup", "--from", "elsewhere:clubs/club", folder="/")
-    same("an invalid archive", (status, "can't be read" in errors, "Traceback" in errors), (1, True, False))
+    status, _, errors = run_as(
+        "root", "clubdesk-setup", "--from", "elsewhere:clubs/club", folder="/"
+    )
+    same(
+        "an invalid archive",
+        (status, "can't be read" in errors, "Traceback" in errors),
+        (1, True, False),
+    )
 
 
 CONF.mkdir(exist_ok=True)

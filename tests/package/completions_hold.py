@@ -19,7 +19,11 @@ import pytest
 import desk
 from helps import names_of, options_of, printed, words_of
 
-pytestmark = [pytest.mark.package, pytest.mark.needs("clubdesk passtool"), pytest.mark.wants("python3-pexpect zsh fish")]
+pytestmark = [
+    pytest.mark.package,
+    pytest.mark.needs("clubdesk passtool"),
+    pytest.mark.wants("python3-pexpect zsh fish"),
+]
 
 COMPLETIONS = desk.ROOT / "bin" / "completions"
 FORMS = {"v1", "v2", "json"}
@@ -37,15 +41,22 @@ class Bash(Shell):
     """Calls the file's completion function in the same way as readline does."""
 
     def offers(self, *words):
-        script = (f'source "{self.folder}/{self.name}.bash"; COMP_WORDS=("$@"); COMP_CWORD=$(($# - 1)); '
-                  f'_{self.name}; printf "%s\\n" "${{COMPREPLY[@]}}"')
+        script = (
+            f'source "{self.folder}/{self.name}.bash"; COMP_WORDS=("$@"); COMP_CWORD=$(($# - 1)); '
+            f'_{self.name}; printf "%s\\n" "${{COMPREPLY[@]}}"'
+        )
         return set(printed("bash", "--norc", "-c", script, "bash", self.name, *words).split())
 
 
 class Fish(Shell):
     def offers(self, *words):
         line = " ".join([self.name, *words])
-        text = printed("fish", "--no-config", "-c", f"source {self.folder}/{self.name}.fish; complete -C '{line}'")
+        text = printed(
+            "fish",
+            "--no-config",
+            "-c",
+            f"source {self.folder}/{self.name}.fish; complete -C '{line}'",
+        )
         return {it.split("\t")[0] for it in text.splitlines()}
 
 
@@ -57,7 +68,8 @@ class Zsh(Shell):
         self.out, site, setup = (Path(folder, it) for it in ("offered", "site", "setup.zsh"))
         site.mkdir(exist_ok=True)
         shutil.copy(Path(folder, f"{name}.zsh"), site / f"_{name}")
-        setup.write_text(f"""PROMPT= RPROMPT= HISTFILE= fpath=({site} $fpath)
+        setup.write_text(
+            f"""PROMPT= RPROMPT= HISTFILE= fpath=({site} $fpath)
 autoload -Uz compinit; compinit -u -d {folder}/zcompdump
 zstyle ':completion:*' menu no
 compadd() {{
@@ -71,8 +83,11 @@ offered() {{ _main_complete; print END; }}
 zle -C offered list-choices offered
 bindkey '^I' offered
 print READY
-""")
-        self.terminal = pexpect.spawn("zsh", ["-f", "-i"], timeout=20, env={**os.environ, "TERM": "dumb", "HOME": str(folder)})
+"""
+        )
+        self.terminal = pexpect.spawn(
+            "zsh", ["-f", "-i"], timeout=20, env={**os.environ, "TERM": "dumb", "HOME": str(folder)}
+        )
         self.terminal.delaybeforesend = None
         self.terminal.sendline(f"source {setup}")
         self.terminal.expect("\nREADY")
@@ -106,13 +121,18 @@ def hold_command(shell, before, text, files):
         if value in ("FILE", "FOLDER"):
             assert names(shell.offers(*before, f"--{option}", "club")) == files, (before, option)
         elif value:
-            assert shell.offers(*before, f"--{option}", "") - {"--"} == (FORMS if option == "form" else set()), (before, option)
+            assert shell.offers(*before, f"--{option}", "") - {"--"} == (
+                FORMS if option == "form" else set()
+            ), (before, option)
     for at, word in enumerate(words):
         given = [*before, *["x"] * at]
         if word == "KIND":
             assert shell.offers(*given, "") == {"court", "boat", "room"}, given
         else:
-            assert names(shell.offers(*given, "club")) == (files if word == "FILE" else set()), (given, word)
+            assert names(shell.offers(*given, "club")) == (files if word == "FILE" else set()), (
+                given,
+                word,
+            )
         if word != "FILE" and "form" in options:
             assert shell.offers(*given, "--form", "") == FORMS, (given, word)
 
@@ -126,17 +146,25 @@ def program(request, tmp_path, monkeypatch):
     (tmp_path / "conf").mkdir()
     for name in ("club", "club-other", *(f"conf/{it}.conf" for it in CLUBS), "conf/rowing.health"):
         (tmp_path / name).touch()
-    path = desk.ROOT / "deploy" / "office" if request.param == "office" else desk.program(request.param)
+    path = (
+        desk.ROOT / "deploy" / "office"
+        if request.param == "office"
+        else desk.program(request.param)
+    )
     (tmp_path / request.param).symlink_to(shutil.which(path))
     for shell in ("bash", "zsh", "fish"):
-        (tmp_path / f"{request.param}.{shell}").write_text(printed(COMPLETIONS, shell, tmp_path / request.param))
+        (tmp_path / f"{request.param}.{shell}").write_text(
+            printed(COMPLETIONS, shell, tmp_path / request.param)
+        )
     return tmp_path / request.param
 
 
 @pytest.mark.parametrize("kind", [Bash, Zsh, Fish])
 def test_completions(program, kind):
     shell = kind.__name__.lower()
-    subprocess.run([shell, "--no-execute" if kind is Fish else "-n", f"{program}.{shell}"], check=True)
+    subprocess.run(
+        [shell, "--no-execute" if kind is Fish else "-n", f"{program}.{shell}"], check=True
+    )
     files = {it.name for it in program.parent.iterdir() if it.name.startswith("club")}
     shell, top = kind(program.name, program.parent), printed(program, "--help")
     club = ["rowing"] if top.startswith("usage: ") else []
@@ -149,13 +177,22 @@ def test_completions(program, kind):
     assert shell.offers(*club, first) == {it for it in commands if it.startswith(first)}
     assert longs(shell.offers(*club, "--")) == {f"--{it}" for it in options_of(top)}
     for command in sorted(commands - {"help"}):
-        hold_command(shell, [*club, command], printed(program, *club, command, "--help") if club else printed(program, "help", command), files)
+        hold_command(
+            shell,
+            [*club, command],
+            printed(program, *club, command, "--help")
+            if club
+            else printed(program, "help", command),
+            files,
+        )
     if not club:
         assert shell.offers("help", "") == commands - {"help"}
     assert not shorts(shell.offers(*club, "no-such", "x"))
 
 
-@pytest.mark.parametrize("words", [[], ["bash"], ["csh", "x"], ["bash", "x", "y"], ["bash", "none"]])
+@pytest.mark.parametrize(
+    "words", [[], ["bash"], ["csh", "x"], ["bash", "x", "y"], ["bash", "none"]]
+)
 def test_words_that_completions_refuse(tmp_path, words):
     ended = subprocess.run([COMPLETIONS, *words], cwd=tmp_path, capture_output=True, check=False)
     assert ended.returncode != 0 and ended.stdout == b""

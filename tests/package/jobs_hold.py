@@ -20,11 +20,17 @@ for step in range(1100):
     for at in sorted(chance.sample(range(86400), 0 if gap else chance.choice((0, 1, 1, 1, 1, 2)))):
         made.append(f"{day}T{at // 3600:02}{at // 60 % 60:02}{at % 60:02}Z")
         open(os.path.join(folder, made[-1]), "w").close()
-    gone = subprocess.run([script, folder, str(day)], check=True, capture_output=True, text=True).stdout.split()
+    gone = subprocess.run(
+        [script, folder, str(day)], check=True, capture_output=True, text=True
+    ).stdout.split()
     for name in gone:
         os.remove(os.path.join(folder, name))
     monday = day - datetime.timedelta(days=day.weekday())
-    wanted = {it for it in made if datetime.date.fromisoformat(it[:10]) > day - datetime.timedelta(days=14)}
+    wanted = {
+        it
+        for it in made
+        if datetime.date.fromisoformat(it[:10]) > day - datetime.timedelta(days=14)
+    }
     for back in range(8):
         begin = monday - datetime.timedelta(days=7 * back)
         end = begin + datetime.timedelta(days=6)

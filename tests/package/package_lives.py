@@ -13,8 +13,12 @@ while not os.path.exists("/root/enough"):
     number += 1
     for method in ("PUT", "DELETE") if number % 3 else ("PUT", "DELETE", "DELETE"):
         while True:
-            request = urllib.request.Request(f"http://127.0.0.1:8080/slots/court-1/{sys.argv[1]}/20/bookings/{number}", method=method,
-                                             headers={"Authorization": field}, data=b'{"guests":0}' if method == "PUT" else None)
+            request = urllib.request.Request(
+                f"http://127.0.0.1:8080/slots/court-1/{sys.argv[1]}/20/bookings/{number}",
+                method=method,
+                headers={"Authorization": field},
+                data=b'{"guests":0}' if method == "PUT" else None,
+            )
             try:
                 with urllib.request.urlopen(request, timeout=20) as reply:
                     print(number, method, json.loads(reply.read()), flush=True)

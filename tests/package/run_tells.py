@@ -24,10 +24,18 @@ TESTS = {
     "skips": ("[mark.quick]", "echo not here; exit 77"),
     "lacks": ('[mark.quick, mark.wants("no-such-package")]', ":"),
     "unbuilt": ('[mark.quick, mark.needs("clubdesk")]', 'test -x "$CLUBDESK"'),
-    "sleeps": ("[mark.faults, mark.timeout(3)]", "sleep 600 & echo $! >>begun; setsid sleep 600 & echo $! >>begun; wait"),
+    "sleeps": (
+        "[mark.faults, mark.timeout(3)]",
+        "sleep 600 & echo $! >>begun; setsid sleep 600 & echo $! >>begun; wait",
+    ),
     "proves": ("[mark.proofs]", ":"),
 }
-SUM = {"passes": "passed", "fails": "failed: no", "skips": "skipped: not here", "lacks": "skipped: needs the packages no-such-package"}
+SUM = {
+    "passes": "passed",
+    "fails": "failed: no",
+    "skips": "skipped: not here",
+    "lacks": "skipped: needs the packages no-such-package",
+}
 
 
 @pytest.fixture
@@ -52,13 +60,21 @@ def tree(tmp_path):
 def run(tree, *words, **variables):
     """Runs tests/run. Returns the exit status, each test's result with the reason, the line of counts, and the standard error. A stub of apt-get
     keeps tests/run from installing packages."""
-    without = {name: value for name, value in os.environ.items() if name not in ("CLUBDESK", "PASSTOOL")}
+    without = {
+        name: value for name, value in os.environ.items() if name not in ("CLUBDESK", "PASSTOOL")
+    }
     path = tree / "path"
     path.mkdir(exist_ok=True)
     (path / "apt-get").write_text("#!/bin/sh\nexit 1\n")
     (path / "apt-get").chmod(0o755)
-    done = subprocess.run([tree / "tests" / "run", *words], capture_output=True, text=True, check=False, cwd="/",
-                          env={**without, "PATH": f"{path}:{os.environ['PATH']}", **variables})
+    done = subprocess.run(
+        [tree / "tests" / "run", *words],
+        capture_output=True,
+        text=True,
+        check=False,
+        cwd="/",
+        env={**without, "PATH": f"{path}:{os.environ['PATH']}", **variables},
+    )
     *lines, counts = done.stdout.splitlines() or [""]
     found = {}
     for line in lines:
@@ -70,7 +86,9 @@ def run(tree, *words, **variables):
 
 def without_pytest(tree):
     """Hides pytest from tests/run."""
-    (tree / "python3").write_text('#!/bin/sh\ncase "$*" in *"import pytest"*) exit 1 ;; esac\nexec /usr/bin/python3 "$@"\n')
+    (tree / "python3").write_text(
+        '#!/bin/sh\ncase "$*" in *"import pytest"*) exit 1 ;; esac\nexec /usr/bin/python3 "$@"\n'
+    )
     (tree / "python3").chmod(0o755)
     scripts = tree / "tests" / "lib" / "scripts.py"
     text = scripts.read_text()
@@ -82,7 +100,10 @@ def without_pytest(tree):
 def all_are_gone(numbers):
     """Returns whether all processes with these ids end within some seconds."""
     for _ in range(100):
-        if not any(Path(f"/proc/{it}/stat").exists() and " Z " not in Path(f"/proc/{it}/stat").read_text() for it in numbers):
+        if not any(
+            Path(f"/proc/{it}/stat").exists() and " Z " not in Path(f"/proc/{it}/stat").read_text()
+            for it in numbers
+        ):
             return True
         time.sleep(0.1)
     return False
@@ -108,7 +129,9 @@ def test_one_that_takes_too_long(tree, by):
 
 
 def test_a_run_that_is_ended(tree):
-    with subprocess.Popen([tree / "tests" / "run", "sleeps"], stdout=subprocess.DEVNULL, cwd="/") as process:
+    with subprocess.Popen(
+        [tree / "tests" / "run", "sleeps"], stdout=subprocess.DEVNULL, cwd="/"
+    ) as process:
         while not (tree / "begun").exists() or len((tree / "begun").read_text().split()) < 2:
             time.sleep(0.05)
         process.send_signal(signal.SIGTERM)
@@ -126,7 +149,15 @@ def test_built_programs(tree):
 
 
 def test_names_groups_and_words(tree):
-    assert set(run(tree)[1]) == {"passes", "passes-twice", "fails", "skips", "lacks", "unbuilt", "sleeps"}
+    assert set(run(tree)[1]) == {
+        "passes",
+        "passes-twice",
+        "fails",
+        "skips",
+        "lacks",
+        "unbuilt",
+        "sleeps",
+    }
     assert set(run(tree, "speed", "skips")[1]) == {"passes-twice", "skips"}
     assert set(run(tree, "proofs")[1]) == {"proves"}
     assert run(tree, "passes", "--seed", "7")[0] == 0
@@ -144,4 +175,9 @@ def test_a_mark_that_is_unknown(tree):
 def test_records(tree):
     (tree / "docs" / "RUNS.md").write_text("# Runs\n")
     run(tree, "--record", "passes", "skips")
-    assert (tree / "docs" / "RUNS.md").read_text().rpartition(" | no commit | ")[2].startswith("passes skips | 1 passed, 0 failed, 1 skipped | ")
+    assert (
+        (tree / "docs" / "RUNS.md")
+        .read_text()
+        .rpartition(" | no commit | ")[2]
+        .startswith("passes skips | 1 passed, 0 failed, 1 skipped | ")
+    )

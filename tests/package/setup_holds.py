@@ -24,13 +24,32 @@ import pexpect
 sys.path[:0] = [str(Path(__file__).resolve().parents[1] / it) for it in ("lib", "")]
 from office_room import HOME, Service, leave, mode, office, run_as, same
 
-SETUP = ["clubdesk-setup", "--title", "TC Übersee", "--domain", "desk.example.org", "--zone", "Europe/Berlin", "--clerk", "doris", "--mail", "it@example.org"]
+SETUP = [
+    "clubdesk-setup",
+    "--title",
+    "TC Übersee",
+    "--domain",
+    "desk.example.org",
+    "--zone",
+    "Europe/Berlin",
+    "--clerk",
+    "doris",
+    "--mail",
+    "it@example.org",
+]
 CLUB = "tc-uebersee"
 CONF = Path("/etc/clubdesk")
 
 
 def set_up(*words, line=SETUP):
-    done = subprocess.run([*line, *words], capture_output=True, text=True, check=False, stdin=subprocess.DEVNULL, cwd="/")
+    done = subprocess.run(
+        [*line, *words],
+        capture_output=True,
+        text=True,
+        check=False,
+        stdin=subprocess.DEVNULL,
+        cwd="/",
+    )
     return done.returncode, done.stdout, done.stderr
 
 
@@ -38,18 +57,40 @@ def everything():
     """Returns each file that the setup makes, with its digest, mode, owner and time. Also returns the club's rows, and the machine's users and
     groups."""
     found = {}
-    for top in (CONF, Path("/var/www"), Path("/etc/nginx/sites-available"), Path("/etc/nginx/sites-enabled")):
+    for top in (
+        CONF,
+        Path("/var/www"),
+        Path("/etc/nginx/sites-available"),
+        Path("/etc/nginx/sites-enabled"),
+    ):
         for it in sorted(top.rglob("*")):
             if it.is_file() and it.name != "club.json":
-                found[str(it)] = hashlib.sha256(it.read_bytes()).hexdigest(), it.stat().st_mode, it.owner(), it.stat().st_mtime_ns
-    done = subprocess.run(["sqlite3", HOME / CLUB, ".dump"], capture_output=True, text=True, check=False)
-    return {**found, "rows": done.stdout, "users": Path("/etc/passwd").read_text(encoding="utf-8"), "groups": Path("/etc/group").read_text(encoding="utf-8")}
+                found[str(it)] = (
+                    hashlib.sha256(it.read_bytes()).hexdigest(),
+                    it.stat().st_mode,
+                    it.owner(),
+                    it.stat().st_mtime_ns,
+                )
+    done = subprocess.run(
+        ["sqlite3", HOME / CLUB, ".dump"], capture_output=True, text=True, check=False
+    )
+    return {
+        **found,
+        "rows": done.stdout,
+        "users": Path("/etc/passwd").read_text(encoding="utf-8"),
+        "groups": Path("/etc/group").read_text(encoding="utf-8"),
+    }
 
 
 def refused():
-    for words, line in ((["--zone", "Nowhere/None"], "there is no time zone"), (["--domain", "desk"], "is not an address"),
-                        (["--clerk", "Anna;"], "is not a user name"), (["--mail", "it"], "is not a mail address"),
-                        (["--title", "a\nb"], "is not a title"), (["--club", "../x"], "not the name of a club")):
+    for words, line in (
+        (["--zone", "Nowhere/None"], "there is no time zone"),
+        (["--domain", "desk"], "is not an address"),
+        (["--clerk", "Anna;"], "is not a user name"),
+        (["--mail", "it"], "is not a mail address"),
+        (["--title", "a\nb"], "is not a title"),
+        (["--club", "../x"], "not the name of a club"),
+    ):
         status, _, errors = set_up(*words)
         same(f"{words}: refused", (status, line in errors), (1, True))
     same("no answer", set_up(line=["clubdesk-setup"])[0], 1)
@@ -60,26 +101,63 @@ def refused():
 def by_questions():
     """The setup asks five questions at a terminal. After a wrong answer, the setup asks the question again."""
     it = pexpect.spawn("clubdesk-setup", encoding="utf-8", timeout=120, cwd="/")
-    for question, answer in (("name", "TC Übersee"), ("address", "desk"), ("is not an address.*address", "desk.example.org"), ("zone", "Europe/Berlin"),
-                             ("clerk", "doris"), ("mail address", "it@example.org")):
+    for question, answer in (
+        ("name", "TC Übersee"),
+        ("address", "desk"),
+        ("is not an address.*address", "desk.example.org"),
+        ("zone", "Europe/Berlin"),
+        ("clerk", "doris"),
+        ("mail address", "it@example.org"),
+    ):
         it.expect(question)
         it.sendline(answer)
     it.expect(pexpect.EOF)
     it.close()
-    same("a setup by questions", (it.exitstatus, "doris starts with: office tc-uebersee" in it.before), (0, True))
+    same(
+        "a setup by questions",
+        (it.exitstatus, "doris starts with: office tc-uebersee" in it.before),
+        (0, True),
+    )
 
 
 def made():
-    rule = subprocess.run(["tail", "-n", "1", "/usr/share/zoneinfo/Europe/Berlin"], capture_output=True, text=True, check=True).stdout.strip()
+    rule = subprocess.run(
+        ["tail", "-n", "1", "/usr/share/zoneinfo/Europe/Berlin"],
+        capture_output=True,
+        text=True,
+        check=True,
+    ).stdout.strip()
     lines = (CONF / f"{CLUB}.conf").read_text(encoding="utf-8").splitlines()
-    for line in (f"FILE=/var/lib/clubdesk/{CLUB}", f"ZONE={rule}", 'TITLE="TC Übersee"', "SITE=https://desk.example.org", "ZONE_NAME=Europe/Berlin", "MAIL=it@example.org"):
+    for line in (
+        f"FILE=/var/lib/clubdesk/{CLUB}",
+        f"ZONE={rule}",
+        'TITLE="TC Übersee"',
+        "SITE=https://desk.example.org",
+        "ZONE_NAME=Europe/Berlin",
+        "MAIL=it@example.org",
+    ):
         same(f"the configuration has {line}", line in lines, True)
-    same("modes", [mode(it) for it in (CONF / f"{CLUB}.conf", HOME / CLUB, CONF / f"{CLUB}.health", Path(f"/var/www/{CLUB}/club.json"))],
-         ["root 100644", "clubdesk 100600", "root 100640", "clubdesk 100644"])
+    same(
+        "modes",
+        [
+            mode(it)
+            for it in (
+                CONF / f"{CLUB}.conf",
+                HOME / CLUB,
+                CONF / f"{CLUB}.health",
+                Path(f"/var/www/{CLUB}/club.json"),
+            )
+        ],
+        ["root 100644", "clubdesk 100600", "root 100640", "clubdesk 100644"],
+    )
     same("the health's group", (CONF / f"{CLUB}.health").group(), "clubdesk")
     same("the clerk", "office" in run_as("doris", "id", "-nG")[1].split(), True)
     page = json.loads(Path(f"/var/www/{CLUB}/club.json").read_text(encoding="utf-8"))
-    same("the page's list", (page["name"], page["zone"], page["facilities"]), ("TC Übersee", "Europe/Berlin", []))
+    same(
+        "the page's list",
+        (page["name"], page["zone"], page["facilities"]),
+        ("TC Übersee", "Europe/Berlin", []),
+    )
     return next(line.partition("=")[2] for line in lines if line.startswith("PORT="))
 
 
@@ -88,7 +166,11 @@ def again_and_again():
     before = everything()
     status, out, _ = set_up()
     same("a second run", (status, "made" in out, everything() == before), (0, False, True))
-    for gone in (CONF / f"{CLUB}.health", Path(f"/etc/nginx/sites-available/{CLUB}"), CONF / f"{CLUB}.titles"):
+    for gone in (
+        CONF / f"{CLUB}.health",
+        Path(f"/etc/nginx/sites-available/{CLUB}"),
+        CONF / f"{CLUB}.titles",
+    ):
         if gone.exists():
             gone.unlink()
             status, out, _ = set_up()
@@ -96,7 +178,9 @@ def again_and_again():
     for number in range(1, 12):
         for it in (CONF, HOME, Path("/var/www") / CLUB):
             subprocess.run(f"rm -rf {it}/*", shell=True, check=True)
-        stopped = subprocess.Popen(SETUP, stdout=subprocess.PIPE, stderr=subprocess.DEVNULL, cwd="/")
+        stopped = subprocess.Popen(
+            SETUP, stdout=subprocess.PIPE, stderr=subprocess.DEVNULL, cwd="/"
+        )
         for _ in range(number):
             if not stopped.stdout.readline():
                 break
@@ -115,21 +199,68 @@ def first_booking(port):
     """The clerk adds the first member, and the member books. If nginx is installed, the site gets a certificate, and nginx accepts the site's
     configuration."""
     server = Service(port=int(port), club=CLUB)
-    for words in ("add-facility court-1 court 4 200 8 22", "add-member amy 5", "credit amy 10000", "add-key amy-1 amy --to amy-1"):
+    for words in (
+        "add-facility court-1 court 4 200 8 22",
+        "add-member amy 5",
+        "credit amy 10000",
+        "add-key amy-1 amy --to amy-1",
+    ):
         same(words, office(*words.split(), by="doris", club=CLUB)[0], 0)
-    same("the page's list has the court", json.loads(Path(f"/var/www/{CLUB}/club.json").read_text())["facilities"][0]["name"], "court-1")
+    same(
+        "the page's list has the court",
+        json.loads(Path(f"/var/www/{CLUB}/club.json").read_text())["facilities"][0]["name"],
+        "court-1",
+    )
     text = run_as("doris", "cat", "amy-1")[1].strip()
-    same("a booking", server.answer(text, "PUT", "/slots/court-1/2026-05-01/18/bookings/7", '{"guests":2}'), (200, '{"booking":"amy-1/7","charge":600,"left":1}'))
-    same("health", subprocess.run(["/usr/lib/clubdesk/check_health", HOME / CLUB, port, CONF / f"{CLUB}.health"], capture_output=True, check=False).returncode, 0)
+    same(
+        "a booking",
+        server.answer(text, "PUT", "/slots/court-1/2026-05-01/18/bookings/7", '{"guests":2}'),
+        (200, '{"booking":"amy-1/7","charge":600,"left":1}'),
+    )
+    same(
+        "health",
+        subprocess.run(
+            ["/usr/lib/clubdesk/check_health", HOME / CLUB, port, CONF / f"{CLUB}.health"],
+            capture_output=True,
+            check=False,
+        ).returncode,
+        0,
+    )
     if shutil.which("nginx"):
         live = Path("/etc/letsencrypt/live/desk.example.org")
         live.mkdir(parents=True)
-        subprocess.run(["openssl", "req", "-x509", "-newkey", "rsa:2048", "-nodes", "-days", "2", "-subj", "/CN=desk.example.org", "-keyout", live / "privkey.pem",
-                        "-out", live / "fullchain.pem"], check=True, capture_output=True)
-        same("with a certificate the site is enabled", (set_up()[0], os.path.lexists(f"/etc/nginx/sites-enabled/{CLUB}")), (0, True))
+        subprocess.run(
+            [
+                "openssl",
+                "req",
+                "-x509",
+                "-newkey",
+                "rsa:2048",
+                "-nodes",
+                "-days",
+                "2",
+                "-subj",
+                "/CN=desk.example.org",
+                "-keyout",
+                live / "privkey.pem",
+                "-out",
+                live / "fullchain.pem",
+            ],
+            check=True,
+            capture_output=True,
+        )
+        same(
+            "with a certificate the site is enabled",
+            (set_up()[0], os.path.lexists(f"/etc/nginx/sites-enabled/{CLUB}")),
+            (0, True),
+        )
         Path("/etc/nginx/sites-enabled/default").unlink(missing_ok=True)
         tried = subprocess.run(["nginx", "-t"], capture_output=True, text=True, check=False)
-        same("nginx accepts the site", (tried.returncode, tried.stderr if tried.returncode else ""), (0, ""))
+        same(
+            "nginx accepts the site",
+            (tried.returncode, tried.stderr if tried.returncode else ""),
+            (0, ""),
+        )
     server.stop()
 
 

@@ -14,8 +14,23 @@ from concurrent.futures import ThreadPoolExecutor
 
 from between import FAILURES
 from booking_page import (
-    BOOKINGS, BookingPage, CELLS, FACILITIES, HELPERS, KILLS, amounts, day, draw, fetched, has, now, printed, same_record, start_proxy,
-    totals_are_sums)
+    BOOKINGS,
+    BookingPage,
+    CELLS,
+    FACILITIES,
+    HELPERS,
+    KILLS,
+    amounts,
+    day,
+    draw,
+    fetched,
+    has,
+    now,
+    printed,
+    same_record,
+    start_proxy,
+    totals_are_sums,
+)
 from page_browser import check
 
 
@@ -40,11 +55,17 @@ def survives_failures(page, passes, between):
     # If the desk doesn't reply to the request for a slot, only this slot shows that the reply is missing. A press on the slot requests it again.
     between.fates["GET"] = ["silent"] * 200  # the page may still request other slots
     page.run("lookAt(cellAt('boat-2', 10), round)")
-    page.when("cellAt('boat-2', 10).button.innerText.includes('No answer')", "a slot without an answer")
+    page.when(
+        "cellAt('boat-2', 10).button.innerText.includes('No answer')", "a slot without an answer"
+    )
     between.fates["GET"] = []
-    check("free" in page.run("return cellAt('boat-2', 11).button.innerText"), "the neighbouring slot")
+    check(
+        "free" in page.run("return cellAt('boat-2', 11).button.innerText"), "the neighbouring slot"
+    )
     page.offer("boat-2", 10)
-    page.when("cellAt('boat-2', 10).button.innerText.includes('free')", "a slot that is loaded again")
+    page.when(
+        "cellAt('boat-2', 10).button.innerText.includes('free')", "a slot that is loaded again"
+    )
     count = same_record(page, "fails-1")
     totals_are_sums()
     print(f"requests lost in {len(FAILURES)} ways: the file has each of {count} bookings once")
@@ -65,14 +86,20 @@ def pages_end(page, passes, between, server):
     check(len(amounts("ends-1")) == before + 3, "bookings of pages that ended")
     # The page is closed after it has recorded a request, and before it sends the request.
     page.go(day(8))
-    page.run("""state.sender.run = async () => {}; return state.sender.book({ facility: "court-2", day: arguments[0], hour: 14 }, 0, false)""", day(8))
+    page.run(
+        """state.sender.run = async () => {}; return state.sender.book({ facility: "court-2", day: arguments[0], hour: 14 }, 0, false)""",
+        day(8),
+    )
     check(len(amounts("ends-1")) == before + 3, "nothing was sent")
     page.visit("", "allAnswered()", "a booking that was recorded and not sent")
     # At the next visit, the page completes a cancellation too.
     number = page.entries()[-1]["number"]
     between.fates["DELETE"] = ["late 3"]
     page.when("isShown('day')", "the page")
-    page.run("offerCancellation(ownEntries().find((each) => each.number === arguments[0]), () => {})", number)
+    page.run(
+        "offerCancellation(ownEntries().find((each) => each.number === arguments[0]), () => {})",
+        number,
+    )
     page.press("Cancel the booking")
     time.sleep(0.3)
     page.visit("", "allAnswered(1)", "a cancellation that the next visit finishes")
@@ -86,7 +113,9 @@ def pages_end(page, passes, between, server):
     page.comes("Booked.", "a desk that is up again")
     same_record(page, "ends-1")
     totals_are_sums()
-    print("pages that end before, during and after a request, and a desk that is down: each booking once")
+    print(
+        "pages that end before, during and after a request, and a desk that is down: each booking once"
+    )
 
 
 def writes_before_it_sends(passes, front):
@@ -108,11 +137,26 @@ def writes_before_it_sends(passes, front):
     with BookingPage(front, before=watch) as page:
         page.enter(passes["carol-1"], 6)
         entry = page.booked("boat-2", 20)
-        page.run("offerCancellation(ownEntries().find((each) => each.number === arguments[0]), () => {})", entry["number"])
+        page.run(
+            "offerCancellation(ownEntries().find((each) => each.number === arguments[0]), () => {})",
+            entry["number"],
+        )
         page.press("Cancel the booking")
         page.when("dialogText().includes('came back')", "a cancellation")
         found = page.run("return order")
-        check(found == ["written, strict", "sent, PUT", "written, strict", "written, strict", "sent, DELETE", "written, strict"], "the order", found)
+        check(
+            found
+            == [
+                "written, strict",
+                "sent, PUT",
+                "written, strict",
+                "written, strict",
+                "sent, DELETE",
+                "written, strict",
+            ],
+            "the order",
+            found,
+        )
     print("the page writes each request to the disk before sending it, and each reply afterwards")
 
 
@@ -123,20 +167,47 @@ def lists_what_is_past(passes, front):
         page.view("account")
         page.when("shownText('account-facts').includes('of 99')", "the account")
         page.view("account")
-        has(page.run("return shownText('account')"), "the advice in the account", "Each person needs a separate pass.", "Each device needs a separate pass.",
-            "as amy-phone, keeps its own list", "Lost your phone?", "Forget the pass")
-        page.run("byName('import-text').value = arguments[0]; byName('import').requestSubmit()", "record of amy-phone\n"
-                 f"5 court-1 {day(-3)} 10 guests 1 charge 400 left 2\n6 boat-1 {day(-2)} 09 guests 0 charge 150 left 1 refund 75\n")
+        has(
+            page.run("return shownText('account')"),
+            "the advice in the account",
+            "Each person needs a separate pass.",
+            "Each device needs a separate pass.",
+            "as amy-phone, keeps its own list",
+            "Lost your phone?",
+            "Forget the pass",
+        )
+        page.run(
+            "byName('import-text').value = arguments[0]; byName('import').requestSubmit()",
+            "record of amy-phone\n"
+            f"5 court-1 {day(-3)} 10 guests 1 charge 400 left 2\n6 boat-1 {day(-2)} 09 guests 0 charge 150 left 1 refund 75\n",
+        )
         page.when("shownText('import-news').includes('2 bookings')", "a record of past bookings")
         page.view("bookings")
-        check(page.run("return byName('to-come').children.length") == 0 and page.run("return byName('bookings-count').textContent") == "", "no future bookings")
+        check(
+            page.run("return byName('to-come').children.length") == 0
+            and page.run("return byName('bookings-count').textContent") == "",
+            "no future bookings",
+        )
         page.run("byName('past-part').open = true")
         cards = page.run("return [...byName('past').children].map((each) => each.innerText)")
-        check(len(cards) == 2 and "Double scull" in cards[0] and "According to an imported list: cancelled, 75 points came back" in cards[0] and "Court 1" in cards[1]
-              and "According to an imported list: booked" in cards[1] and "2 persons" in cards[1] and "400 points" in cards[1], "past bookings", cards)
-        words = page.run("return [...byName('past').querySelectorAll('button')].map((each) => each.textContent)")
+        check(
+            len(cards) == 2
+            and "Double scull" in cards[0]
+            and "According to an imported list: cancelled, 75 points came back" in cards[0]
+            and "Court 1" in cards[1]
+            and "According to an imported list: booked" in cards[1]
+            and "2 persons" in cards[1]
+            and "400 points" in cards[1],
+            "past bookings",
+            cards,
+        )
+        words = page.run(
+            "return [...byName('past').querySelectorAll('button')].map((each) => each.textContent)"
+        )
         check(words == ["Remove from the list"] * 2, "past bookings can only be removed", words)
-    print("past bookings are listed separately; the account has the advice about passes and devices")
+    print(
+        "past bookings are listed separately; the account has the advice about passes and devices"
+    )
 
 
 def tabs_send_nothing_twice(page, passes, between, server):
@@ -150,8 +221,14 @@ def tabs_send_nothing_twice(page, passes, between, server):
     page.book("court-1", 9)
     time.sleep(0.3)
     page.driver.switch_to.window(first)
-    page.when("cellAt('court-1', 9).button.innerText === 'Being sent' && cellAt('court-1', 9).button.disabled", "the slot in another tab")
-    second_entry = page.run("return state.sender.book({ facility: 'court-1', day: arguments[0], hour: 9 }, 0, false)", day(9))
+    page.when(
+        "cellAt('court-1', 9).button.innerText === 'Being sent' && cellAt('court-1', 9).button.disabled",
+        "the slot in another tab",
+    )
+    second_entry = page.run(
+        "return state.sender.book({ facility: 'court-1', day: arguments[0], hour: 9 }, 0, false)",
+        day(9),
+    )
     check("second" in second_entry, "another tab makes no second booking of the slot", second_entry)
     page.booked("court-1", 10)
     page.driver.switch_to.window(second)
@@ -159,12 +236,19 @@ def tabs_send_nothing_twice(page, passes, between, server):
     page.when("cellAt('court-1', 10).button.innerText.includes('Yours')", "the other tab's booking")
     # Two tabs try to send the same three requests, and only one tab at a time may send.
     between.fates["PUT"] = ["silent"] * 6
-    page.run("return Promise.all([11, 12, 13].map((hour) => state.sender.book({ facility: 'court-1', day: arguments[0], hour }, 0, false)))", day(9))
+    page.run(
+        "return Promise.all([11, 12, 13].map((hour) => state.sender.book({ facility: 'court-1', day: arguments[0], hour }, 0, false)))",
+        day(9),
+    )
     page.run("state.sender.run()")
     page.driver.switch_to.window(first)
     page.run("state.sender.run()")
     page.when("allAnswered()", "both tabs are done")
-    puts = {path: count - asked[method, path] for (method, path), count in server.asked().items() if method == "PUT" and day(9) in path}
+    puts = {
+        path: count - asked[method, path]
+        for (method, path), count in server.asked().items()
+        if method == "PUT" and day(9) in path
+    }
     puts = {path: count for path, count in puts.items() if count}
     check(len(puts) == 5 and set(puts.values()) == {1}, "a request that was sent twice", puts)
     # A member can book the same slot twice on purpose.
@@ -174,9 +258,14 @@ def tabs_send_nothing_twice(page, passes, between, server):
     page.comes("Booked.", "a second booking")
     # A double press books once.
     page.offer("court-1", 14)
-    page.run("const press = byName('dialog').querySelector('.main'); press.click(); press.click(); press.click();")
+    page.run(
+        "const press = byName('dialog').querySelector('.main'); press.click(); press.click(); press.click();"
+    )
     page.comes("Booked.", "a double press")
-    check(sum(each["hour"] == 14 and each["day"] == day(9) for each in page.entries()) == 1, "a double press books once")
+    check(
+        sum(each["hour"] == 14 and each["day"] == day(9) for each in page.entries()) == 1,
+        "a double press books once",
+    )
     page.driver.switch_to.window(second)
     page.driver.close()
     page.driver.switch_to.window(first)
@@ -189,7 +278,8 @@ def survives_kills(passes, front, server):
     with BookingPage(front) as page:
         page.enter(passes["kill-1"])
         page.when("state.sender !== null", "the record")
-        page.run("""
+        page.run(
+            """
             globalThis.made = 0;
             globalThis.fault = null;
             const slots = [];
@@ -208,7 +298,9 @@ def survives_kills(passes, front, server):
                 }
                 made += 1;
               }
-            })().catch((thrown) => { fault = String(thrown); });""", BOOKINGS)
+            })().catch((thrown) => { fault = String(thrown); });""",
+            BOOKINGS,
+        )
         kills = 0
         while page.run("return made") < BOOKINGS:
             fault = page.run("return fault")
@@ -223,8 +315,10 @@ def survives_kills(passes, front, server):
         count = same_record(page, "kill-1")
         check(count == BOOKINGS, "bookings", count)
     totals_are_sums()
-    print(f"{count} bookings, most of them cancelled, while the server was killed {kills} times: the record matches the table of bookings, and the "
-          "totals are its sums")
+    print(
+        f"{count} bookings, most of them cancelled, while the server was killed {kills} times: the record matches the table of bookings, and the "
+        "totals are its sums"
+    )
 
 
 def browser_ends(passes, front, between):
@@ -240,24 +334,39 @@ def browser_ends(passes, front, between):
         for process in pathlib.Path("/proc").glob("[0-9]*/cmdline"):
             with contextlib.suppress(OSError):
                 line = process.read_bytes()
-                if f"--user-data-dir={folder}".encode() in line and b"chromedriver" not in line.split(b"\0")[0]:
+                if (
+                    f"--user-data-dir={folder}".encode() in line
+                    and b"chromedriver" not in line.split(b"\0")[0]
+                ):
                     os.kill(int(process.parent.name), signal.SIGKILL)
     for name in pathlib.Path(folder).glob("Singleton*"):
         name.unlink()
     between.fates.clear()
     with BookingPage(front, words=[f"user-data-dir={folder}"]) as page:
-        page.visit("", "isShown('day') && state.entries.length === 1 && allAnswered()", "a browser that runs again")
+        page.visit(
+            "",
+            "isShown('day') && state.entries.length === 1 && allAnswered()",
+            "a browser that runs again",
+        )
         check(same_record(page, "browser-1") == 1, "its booking")
     shutil.rmtree(folder)
     print("a browser that was killed during a booking completes the booking when it runs again")
 
 
 BROKEN = {
-    "no storage": ("Object.defineProperty(globalThis, 'indexedDB', { value: { open() { throw new DOMException('no', 'SecurityError'); } } });",
-                   "doesn't let the page store anything"),
-    "no storage, later": ("IDBFactory.prototype.open = function () { const request = new EventTarget(); request.error = new Error('no'); "
-                          "setTimeout(() => request.dispatchEvent(new Event('error'))); return request; };", "doesn't let the page store anything"),
-    "no locks": ("Object.defineProperty(navigator, 'locks', { value: undefined });", "This browser is too old for booking"),
+    "no storage": (
+        "Object.defineProperty(globalThis, 'indexedDB', { value: { open() { throw new DOMException('no', 'SecurityError'); } } });",
+        "doesn't let the page store anything",
+    ),
+    "no storage, later": (
+        "IDBFactory.prototype.open = function () { const request = new EventTarget(); request.error = new Error('no'); "
+        "setTimeout(() => request.dispatchEvent(new Event('error'))); return request; };",
+        "doesn't let the page store anything",
+    ),
+    "no locks": (
+        "Object.defineProperty(navigator, 'locks', { value: undefined });",
+        "This browser is too old for booking",
+    ),
 }
 
 
@@ -266,10 +375,22 @@ def broken_browsers(passes, front, server):
         with BookingPage(front, before=script) as page:
             page.enter(passes["full-1"])
             page.when("isShown('notices')", what)
-            check(words in page.run("return shownText('notices')"), what, page.run("return shownText('notices')"))
+            check(
+                words in page.run("return shownText('notices')"),
+                what,
+                page.run("return shownText('notices')"),
+            )
             page.go(day(11))
-            check("free" in page.run("return cellAt('court-1', 9).button.innerText"), what, "slots are shown")
-            check(page.run("return [...cells.values()].every((cell) => cell.button.disabled)"), what, "no slot can be booked")
+            check(
+                "free" in page.run("return cellAt('court-1', 9).button.innerText"),
+                what,
+                "slots are shown",
+            )
+            check(
+                page.run("return [...cells.values()].every((cell) => cell.button.disabled)"),
+                what,
+                "no slot can be booked",
+            )
     full = "IDBObjectStore.prototype.put = function () { throw new DOMException('full', 'QuotaExceededError'); };"
     with BookingPage(front, before=full) as page:
         asked = server.asked().total()
@@ -277,7 +398,12 @@ def broken_browsers(passes, front, server):
         looked = server.asked()
         page.book("court-1", 9)
         page.comes("Nothing was sent.", "a full storage")
-        check(all(method == "GET" for method, _ in (server.asked() - looked)), "nothing was sent", server.asked() - looked, asked)
+        check(
+            all(method == "GET" for method, _ in (server.asked() - looked)),
+            "nothing was sent",
+            server.asked() - looked,
+            asked,
+        )
     # If the browser's storage is full when the reply comes, the page shows the reply but can't store the reply. At the next visit, the page sends the
     # request again.
     later = """const put = IDBObjectStore.prototype.put;
@@ -287,9 +413,13 @@ def broken_browsers(passes, front, server):
         page.run(later)
         page.book("court-1", 10)
         page.when("dialogText().includes('Booked.')", "a storage that gets full")
-        check("couldn't save the desk's answer" in page.run("return dialogText()"), "the page says so")
+        check(
+            "couldn't save the desk's answer" in page.run("return dialogText()"), "the page says so"
+        )
         page.driver.refresh()
-        page.when("isShown('day') && state.entries.length === 1 && allAnswered()", "the reply again")
+        page.when(
+            "isShown('day') && state.entries.length === 1 && allAnswered()", "the reply again"
+        )
         number = page.entries()[0]["number"]
         check(amounts("full-1")[number][0:3] == ("court-1", day(11), 10), "the booking in the file")
     # If the browser refuses to store passes, the page says that it can't keep the pass.
@@ -297,8 +427,13 @@ def broken_browsers(passes, front, server):
     with BookingPage(front, before=refused) as page:
         page.enter(passes["full-1"])
         page.press("Keep it", "notices")
-        page.when("shownText('notices').includes(\"This browser can't keep the pass\")", "a pass that can't be kept")
-    print(f"{len(BROKEN) + 3} browsers that store nothing, too little or only at first: no page sends a request that it can't record, and each page says so")
+        page.when(
+            "shownText('notices').includes(\"This browser can't keep the pass\")",
+            "a pass that can't be kept",
+        )
+    print(
+        f"{len(BROKEN) + 3} browsers that store nothing, too little or only at first: no page sends a request that it can't record, and each page says so"
+    )
 
 
 def clocks(passes, front):
@@ -306,40 +441,73 @@ def clocks(passes, front):
     with BookingPage(front, before=ahead, zone="Pacific/Auckland") as page:
         page.enter(passes["amy-1"])
         page.when("shownText('notices').includes('differs from the club')", "a clock that is wrong")
-        check("182 minutes" in page.run("return shownText('notices')"), "the difference between the clocks", page.run("return shownText('notices')"))
+        check(
+            "182 minutes" in page.run("return shownText('notices')"),
+            "the difference between the clocks",
+            page.run("return shownText('notices')"),
+        )
         hour = now().hour
-        check("free" in page.run("return cellAt('court-1', arguments[0]).button.innerText", hour + 1), "the next hour can be booked")
-        check(page.run("return cellAt('court-1', arguments[0]).button.innerText", hour) == "Over", "this hour can't be booked")
+        check(
+            "free" in page.run("return cellAt('court-1', arguments[0]).button.innerText", hour + 1),
+            "the next hour can be booked",
+        )
+        check(
+            page.run("return cellAt('court-1', arguments[0]).button.innerText", hour) == "Over",
+            "this hour can't be booked",
+        )
         check(page.run("return shownDay()") == day(0), "today is the club's day")
-    print("with a clock three hours ahead, in a zone on the other side of the world, the page shows the club's day and hours")
+    print(
+        "with a clock three hours ahead, in a zone on the other side of the world, the page shows the club's day and hours"
+    )
 
 
 def offline(page, passes):
     page.enter(passes["amy-1"], 3)
     page.booked("court-1", 20)
     page.command("Network.enable")
-    page.command("Network.emulateNetworkConditions", offline=True, latency=0, downloadThroughput=-1, uploadThroughput=-1)
+    page.command(
+        "Network.emulateNetworkConditions",
+        offline=True,
+        latency=0,
+        downloadThroughput=-1,
+        uploadThroughput=-1,
+    )
     page.when("shownText('notices').includes('You are offline')", "offline")
     page.view("bookings")
-    check("Court" in page.run("return byName('to-come').innerText + byName('past').innerText"), "the record, offline")
-    page.command("Network.emulateNetworkConditions", offline=False, latency=0, downloadThroughput=-1, uploadThroughput=-1)
+    check(
+        "Court" in page.run("return byName('to-come').innerText + byName('past').innerText"),
+        "the record, offline",
+    )
+    page.command(
+        "Network.emulateNetworkConditions",
+        offline=False,
+        latency=0,
+        downloadThroughput=-1,
+        uploadThroughput=-1,
+    )
     page.when("!shownText('notices').includes('You are offline')", "online again")
     print("offline, the page says so and shows the record")
 
 
 # REQUESTS_ALONE measures the milliseconds for the requests of a day. A_DAY measures the milliseconds until the page shows a day.
-REQUESTS_ALONE = HELPERS + """
+REQUESTS_ALONE = (
+    HELPERS
+    + """
 const [wanted, done] = arguments;
 const begun = performance.now();
 eachAtOnce([...cells.values()], async ({ slot }) => {
   const reply = await fetch(REQUESTS.view({ ...slot, day: wanted })[1], { headers: { Authorization: `Bearer ${state.text}` } });
   await reply.text();
 }).then(() => done(performance.now() - begun));"""
-A_DAY = HELPERS + """
+)
+A_DAY = (
+    HELPERS
+    + """
 const [wanted, done] = arguments;
 const begun = performance.now();
 showDay(wanted);
 settled(() => shownDay() === wanted && dayIsThere()).then(() => done(performance.now() - begun));"""
+)
 
 
 MOST_SECONDS = 0.7  # the longest time that loading a day may take
@@ -355,14 +523,40 @@ def days_at_once(passes, server):
         return log.read_text().count("limiting requests")
 
     before, took, bare = limited(), [], []
-    paths = [f"/slots/{name}/{day(9)}/{hour:02}" for name, *_, opens, shuts in FACILITIES for hour in range(opens, shuts)]
+    paths = [
+        f"/slots/{name}/{day(9)}/{hour:02}"
+        for name, *_, opens, shuts in FACILITIES
+        for hour in range(opens, shuts)
+    ]
 
     def asks_for_a_day(text, place):
         """Requests the slots of a day as the page does: at most six at the same time, over one connection. Returns the statuses and the seconds."""
-        pathlib.Path(f"day-{place}").write_text("".join(f'url = "https://desk.example.org:{front}{path}"\noutput = "/dev/null"\n' for path in paths))
+        pathlib.Path(f"day-{place}").write_text(
+            "".join(
+                f'url = "https://desk.example.org:{front}{path}"\noutput = "/dev/null"\n'
+                for path in paths
+            )
+        )
         begun = time.monotonic()
-        statuses = printed("curl", "-sS", "--noproxy", "*", "--cacert", "certificate.pem", "--resolve", f"desk.example.org:{front}:127.0.0.1", "-Z", "--parallel-max", "6",
-                           "-H", f"Authorization: Bearer {text}", "-w", "%{http_code}\n", "-K", f"day-{place}").split()
+        statuses = printed(
+            "curl",
+            "-sS",
+            "--noproxy",
+            "*",
+            "--cacert",
+            "certificate.pem",
+            "--resolve",
+            f"desk.example.org:{front}:127.0.0.1",
+            "-Z",
+            "--parallel-max",
+            "6",
+            "-H",
+            f"Authorization: Bearer {text}",
+            "-w",
+            "%{http_code}\n",
+            "-K",
+            f"day-{place}",
+        ).split()
         return Counter(statuses), time.monotonic() - begun
 
     with BookingPage(front) as page:
@@ -372,7 +566,10 @@ def days_at_once(passes, server):
             page.run("showDay(arguments[0])", day(ahead))
             time.sleep(0.25)
         page.when(f"shownDay() === '{day(10)}' && dayIsThere()", "the tenth day")
-        check(page.run("return [...cells.values()].every((cell) => cell.view !== null)"), "a complete day")
+        check(
+            page.run("return [...cells.values()].every((cell) => cell.view !== null)"),
+            "a complete day",
+        )
         check(limited() == before, "ten days at four a second are limited", limited() - before)
         # The test uses the shortest time of several runs, because other work on the machine can slow down a run.
         for ahead in range(11, 31):
@@ -386,52 +583,147 @@ def days_at_once(passes, server):
     check(min(took) < most, "a day", took, bare, os.getloadavg())
     time.sleep(3)
     alone = min(asks_for_a_day(passes["amy-1"], 0)[1] for _ in range(3))
-    members = ["amy-1", "amy-phone", "amy-son", "other", "carol-1", "bob-1", "bob-2", "tabs-1", "ends-1", "full-1"]
+    members = [
+        "amy-1",
+        "amy-phone",
+        "amy-son",
+        "other",
+        "carol-1",
+        "bob-1",
+        "bob-2",
+        "tabs-1",
+        "ends-1",
+        "full-1",
+    ]
     rounds = []
     for _ in range(5):
         with ThreadPoolExecutor(len(members)) as pool:
-            together = list(pool.map(asks_for_a_day, (passes[key] for key in members), range(len(members))))
-        check(all(set(statuses) <= {"200", "401"} for statuses, _ in together) and limited() == before, "ten members behind one address", [statuses for statuses, _ in together])
+            together = list(
+                pool.map(asks_for_a_day, (passes[key] for key in members), range(len(members)))
+            )
+        check(
+            all(set(statuses) <= {"200", "401"} for statuses, _ in together)
+            and limited() == before,
+            "ten members behind one address",
+            [statuses for statuses, _ in together],
+        )
         rounds.append(max(seconds for _, seconds in together))
         time.sleep(3)
     slowest = min(rounds)
     # The desk serves one request at a time. If ten members load a day at the same time, the last member waits for the other nine.
     check(slowest < max(most, 12 * alone), "a day of ten members", rounds, alone, os.getloadavg())
     time.sleep(6)
-    flood = subprocess.Popen(["curl", "-sS", "--noproxy", "*", "--cacert", "certificate.pem", "--resolve", f"desk.example.org:{front}:127.0.0.1", "-Z", "--parallel-max", "50",
-                              "-H", f"Authorization: Bearer {passes['tabs-1']}", "-o", "/dev/null", "-w", "%{http_code}\n",
-                              f"https://desk.example.org:{front}/account#[1-6000]"],
-                             stdout=subprocess.PIPE, text=True)
+    flood = subprocess.Popen(
+        [
+            "curl",
+            "-sS",
+            "--noproxy",
+            "*",
+            "--cacert",
+            "certificate.pem",
+            "--resolve",
+            f"desk.example.org:{front}:127.0.0.1",
+            "-Z",
+            "--parallel-max",
+            "50",
+            "-H",
+            f"Authorization: Bearer {passes['tabs-1']}",
+            "-o",
+            "/dev/null",
+            "-w",
+            "%{http_code}\n",
+            f"https://desk.example.org:{front}/account#[1-6000]",
+        ],
+        stdout=subprocess.PIPE,
+        text=True,
+    )
     time.sleep(1)
     beside = [asks_for_a_day(passes["carol-1"], 0) for _ in range(3)]
     is_flooding = flood.poll() is None
     flooded = Counter(flood.communicate()[0].split())
     check(flooded["429"] > 500, "a flood that isn't limited", flooded)
-    check(all(set(statuses) == {"200"} for statuses, _ in beside), "another pass in a flood", beside)
-    check(min(seconds for _, seconds in beside) < max(most, 3 * alone), "a day of another pass during a flood", beside, alone, is_flooding, os.getloadavg())
-    judged = "" if max(min(took), slowest) < MOST_SECONDS else f"; not limited to {MOST_SECONDS} s, because the machine has a load of {os.getloadavg()[0]:.0f}"
-    print(f"a day in {min(took):.2f} to {max(took):.2f} s{judged}; for ten members at one address in {slowest:.2f} s, none limited; "
-          f"for another pass during a flood with {flooded['429']} limited requests in {min(seconds for _, seconds in beside):.2f} s")
+    check(
+        all(set(statuses) == {"200"} for statuses, _ in beside), "another pass in a flood", beside
+    )
+    check(
+        min(seconds for _, seconds in beside) < max(most, 3 * alone),
+        "a day of another pass during a flood",
+        beside,
+        alone,
+        is_flooding,
+        os.getloadavg(),
+    )
+    judged = (
+        ""
+        if max(min(took), slowest) < MOST_SECONDS
+        else f"; not limited to {MOST_SECONDS} s, because the machine has a load of {os.getloadavg()[0]:.0f}"
+    )
+    print(
+        f"a day in {min(took):.2f} to {max(took):.2f} s{judged}; for ten members at one address in {slowest:.2f} s, none limited; "
+        f"for another pass during a flood with {flooded['429']} limited requests in {min(seconds for _, seconds in beside):.2f} s"
+    )
 
 
 def is_quick_and_small(passes, front):
     """Measures how long the page takes to show a day over loopback with TLS, and the size of the pages that nginx sends."""
     zipped, sizes = ("-H", "Accept-Encoding: gzip"), {}
     for name in ("book.html", "pass.html", "demo.html"):
-        size, version = fetched(front, f"/{name}", "-o", name, "-D", "head", *zipped, "-w", "%{size_download} %{http_version}").split()
+        size, version = fetched(
+            front,
+            f"/{name}",
+            "-o",
+            name,
+            "-D",
+            "head",
+            *zipped,
+            "-w",
+            "%{size_download} %{http_version}",
+        ).split()
         sizes[name] = int(size)
-        check(sizes[name] < 75000 and version == "2", "a page as nginx sends it", name, size, version)
+        check(
+            sizes[name] < 75000 and version == "2", "a page as nginx sends it", name, size, version
+        )
         head = pathlib.Path("head").read_text()
-        has(head.lower(), f"a field of {name}", "content-encoding: gzip", "cache-control: no-cache", "strict-transport-security: max-age=",
-            "frame-ancestors 'none'", "referrer-policy: no-referrer", "x-content-type-options: nosniff", "content-type: text/html; charset=utf-8")
-        status = fetched(front, f"/{name}", "-o", "none", "-H", f"If-None-Match: {re.search('etag: (.*)', head)[1].strip()}", *zipped, "-w", "%{http_code}")
+        has(
+            head.lower(),
+            f"a field of {name}",
+            "content-encoding: gzip",
+            "cache-control: no-cache",
+            "strict-transport-security: max-age=",
+            "frame-ancestors 'none'",
+            "referrer-policy: no-referrer",
+            "x-content-type-options: nosniff",
+            "content-type: text/html; charset=utf-8",
+        )
+        status = fetched(
+            front,
+            f"/{name}",
+            "-o",
+            "none",
+            "-H",
+            f"If-None-Match: {re.search('etag: (.*)', head)[1].strip()}",
+            *zipped,
+            "-w",
+            "%{http_code}",
+        )
         check(status == "304", "an unchanged page", name, status)
     head = fetched(front, "/club.json", "-o", "none", "-D", "-", *zipped).lower()
-    has(head, "a field of club.json", "content-encoding: gzip", "cache-control: no-cache", "x-content-type-options: nosniff", "content-type: application/json")
+    has(
+        head,
+        "a field of club.json",
+        "content-encoding: gzip",
+        "cache-control: no-cache",
+        "x-content-type-options: nosniff",
+        "content-type: application/json",
+    )
     to = fetched(front, "/", "-o", "none", "-w", "%{http_code} %{redirect_url}")
     check(to == f"302 https://desk.example.org:{front}/book.html", "/ leads to the page", to)
     head = fetched(front, "/account", "-o", "none", "-D", "-").lower()
-    check("cache-control: no-store" in head and "content-encoding" not in head and " 401" in head, "a reply of the desk", head)
+    check(
+        "cache-control: no-store" in head and "content-encoding" not in head and " 401" in head,
+        "a reply of the desk",
+        head,
+    )
     took, bare, paints = [], [], []
     with BookingPage(front) as page:
         page.sees(1280, "light")
@@ -440,19 +732,33 @@ def is_quick_and_small(passes, front):
             time.sleep(2)
             bare.append(page.driver.execute_async_script(REQUESTS_ALONE, day(ahead)))
             took.append(page.driver.execute_async_script(A_DAY, day(ahead)))
-        check(page.run("return cells.size") == CELLS and page.run("return [...cells.values()].every((cell) => cell.view !== null)"), "a complete day")
+        check(
+            page.run("return cells.size") == CELLS
+            and page.run("return [...cells.values()].every((cell) => cell.view !== null)"),
+            "a complete day",
+        )
         for _ in range(3):
             page.enter(passes["amy-1"])
-            paints.append(page.run("""const paint = performance.getEntriesByType("paint").at(-1).startTime;
+            paints.append(
+                page.run(
+                    """const paint = performance.getEntriesByType("paint").at(-1).startTime;
                 const asked = performance.getEntriesByType("resource").filter((each) => each.name.includes("/slots/"));
-                return [paint, Math.max(...asked.map((each) => each.responseEnd))]"""))
-    check(all(paint < last for paint, last in paints) and min(paint for paint, _ in paints) < 500, "the first paint doesn't wait for the day", paints)
+                return [paint, Math.max(...asked.map((each) => each.responseEnd))]"""
+                )
+            )
+    check(
+        all(paint < last for paint, last in paints) and min(paint for paint, _ in paints) < 500,
+        "the first paint doesn't wait for the day",
+        paints,
+    )
     took.sort()
     bare.sort()
     # If even the requests alone are slow, other work keeps the machine busy. In this case, loading a day may take longer.
     check(took[2] < max(500, 2.5 * bare[2]), "a day of six facilities", took, bare)
-    print(f"a day of {CELLS} slots in {took[0]:.0f} to {took[-1]:.0f} ms, the requests alone in {bare[0]:.0f} to {bare[-1]:.0f} ms; first paint after {min(each for each, _ in paints):.0f} ms; "
-          f"as nginx sends them, book.html has {sizes['book.html']:,} bytes, pass.html {sizes['pass.html']:,}")
+    print(
+        f"a day of {CELLS} slots in {took[0]:.0f} to {took[-1]:.0f} ms, the requests alone in {bare[0]:.0f} to {bare[-1]:.0f} ms; first paint after {min(each for each, _ in paints):.0f} ms; "
+        f"as nginx sends them, book.html has {sizes['book.html']:,} bytes, pass.html {sizes['pass.html']:,}"
+    )
 
 
 def waits_as_the_proxy_wants(passes, front):
@@ -466,6 +772,9 @@ def waits_as_the_proxy_wants(passes, front):
         page.when("dayIsThere()", "the last of several days")
         met = pathlib.Path("error.log").read_text().count("limiting requests")
         check(met > 0, "requests that exceeded the limit", met)
-        check(page.run("return [...cells.values()].every((cell) => cell.view !== null)"), "a slot without an answer")
+        check(
+            page.run("return [...cells.values()].every((cell) => cell.view !== null)"),
+            "a slot without an answer",
+        )
         page.booked("court-3", 9)
     print(f"the page repeated {met} requests that exceeded the proxy's limit, and gave up none")

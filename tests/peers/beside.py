@@ -68,26 +68,65 @@ class Asker:
         whole = {key: key_pass(key, ROOT.hex()) for key in keys}
         self.passes = {key: text(it, *CAVEATS) for key, it in whole.items()}
         self.narrow = {key: text(it, *CAVEATS, "actions = view") for key, it in whole.items()}
-        self.forged = {key: it[:-2] + ("A" if it[-2] != "A" else "B") + it[-1] for key, it in self.passes.items()}
+        self.forged = {
+            key: it[:-2] + ("A" if it[-2] != "A" else "B") + it[-1]
+            for key, it in self.passes.items()
+        }
 
     def refused(self):
         """Returns requests that the desk refuses, each for a different reason. The test sends these requests after the rounds."""
         key, slot = self.keys[0], slot_path(self.slot)
-        whole, passed, book = key_pass(key, ROOT.hex()), self.passes[key], f"/bookings/{self.first_number + 900_000}"
-        return [it.data for it in (
-            *(Row("PUT", path + book, body, passed) for path, body in (
-                ("/courts", TWO), (slot, "{}"), (slot.replace("court", "boat"), TWO), (slot.replace("04-21", "04-19"), TWO), (slot, MANY))),
-            *(Row("PUT", slot + book, TWO, text(whole, caveat)) for caveat in ("spend <= 1", "guests <= 0", "shoe = red", "until < 2026-04-20T12:00")),
-            *(Row("GET", slot, passed=it) for it in (None, "x", text(key_pass("none", ROOT.hex())))),
-            Row("PUT", f"{slot}/bookings/{self.first_number}", THREE, passed))]
+        whole, passed, book = (
+            key_pass(key, ROOT.hex()),
+            self.passes[key],
+            f"/bookings/{self.first_number + 900_000}",
+        )
+        return [
+            it.data
+            for it in (
+                *(
+                    Row("PUT", path + book, body, passed)
+                    for path, body in (
+                        ("/courts", TWO),
+                        (slot, "{}"),
+                        (slot.replace("court", "boat"), TWO),
+                        (slot.replace("04-21", "04-19"), TWO),
+                        (slot, MANY),
+                    )
+                ),
+                *(
+                    Row("PUT", slot + book, TWO, text(whole, caveat))
+                    for caveat in (
+                        "spend <= 1",
+                        "guests <= 0",
+                        "shoe = red",
+                        "until < 2026-04-20T12:00",
+                    )
+                ),
+                *(
+                    Row("GET", slot, passed=it)
+                    for it in (None, "x", text(key_pass("none", ROOT.hex())))
+                ),
+                Row("PUT", f"{slot}/bookings/{self.first_number}", THREE, passed),
+            )
+        ]
 
     def round(self, count):
         made = {kind: [] for kind in KINDS}
         for at in range(self.asked, self.asked + count):
             key, slot = self.keys[at % len(self.keys)], slot_path(self.slot + at)
-            booking, whole = Row("PUT", f"{slot}/bookings/{self.first_number + at // len(self.keys)}", TWO), self.passes[key]
-            rows = booking.under(whole), booking.under(whole), ACCOUNT.under(whole), Row("GET", slot, passed=whole), \
-                booking.under(self.narrow[key]), booking.under(self.forged[key])
+            booking, whole = (
+                Row("PUT", f"{slot}/bookings/{self.first_number + at // len(self.keys)}", TWO),
+                self.passes[key],
+            )
+            rows = (
+                booking.under(whole),
+                booking.under(whole),
+                ACCOUNT.under(whole),
+                Row("GET", slot, passed=whole),
+                booking.under(self.narrow[key]),
+                booking.under(self.forged[key]),
+            )
             for kind, row in zip(KINDS, rows, strict=True):
                 made[kind].append(row.data)
         self.asked += count
@@ -99,13 +138,23 @@ def make_file(clubdesk, path, rows, has_big):
     10,000 bookings and a member without bookings."""
     subprocess.run([clubdesk, "add-member", path, "x", "1"], check=True, stdout=subprocess.DEVNULL)
     numbers = "WITH n(i) AS (SELECT 1 UNION ALL SELECT i + 1 FROM n WHERE i < {})".format
-    statements = [f"{numbers(50)} INSERT INTO facilities SELECT 'court-' || i, 'court', 50, 1, 0, 24 FROM n"]
+    statements = [
+        f"{numbers(50)} INSERT INTO facilities SELECT 'court-' || i, 'court', 50, 1, 0, 24 FROM n"
+    ]
     if has_big:
-        statements += [f"INSERT INTO {table} VALUES ('{name}', {values})" for name in ("big", "new") for table, values in (
-            ("members", "900000, 99, 0"), ("keys", f"'{name}', x'{ROOT.hex()}', 0"))]
-        statements += [f"""{numbers(BIG_ROWS)} INSERT INTO bookings
+        statements += [
+            f"INSERT INTO {table} VALUES ('{name}', {values})"
+            for name in ("big", "new")
+            for table, values in (
+                ("members", "900000, 99, 0"),
+                ("keys", f"'{name}', x'{ROOT.hex()}', 0"),
+            )
+        ]
+        statements += [
+            f"""{numbers(BIG_ROWS)} INSERT INTO bookings
             SELECT 'big', i, 'court-2', 10957 + (i - 1) / 48, (i - 1) / 2 % 24, 1, 2, 46, 0, 0 FROM n""",
-                       "INSERT INTO slots SELECT facility, day, hour, 0, sum(guests + 1) FROM bookings GROUP BY 1, 2, 3"]
+            "INSERT INTO slots SELECT facility, day, hour, 0, sum(guests + 1) FROM bookings GROUP BY 1, 2, 3",
+        ]
     with closing(sqlite3.connect(path)) as database:
         database.executescript(f"BEGIN; {'; '.join(statements)}; COMMIT")
     desk.add_past_bookings(path, rows, ROOT.hex())
@@ -116,13 +165,25 @@ def on(processor):
 
 
 def built(name, *libraries):
-    subprocess.run(["cc", "-O2", "-o", name, desk.TESTS / "peers" / "beside_c" / f"{name}.c", *libraries], check=True)
+    subprocess.run(
+        ["cc", "-O2", "-o", name, desk.TESTS / "peers" / "beside_c" / f"{name}.c", *libraries],
+        check=True,
+    )
     return os.path.abspath(name)
 
 
 def built_in_go():
-    subprocess.run(["go", "build", "-tags", "libsqlite3", "-o", os.path.abspath("desk_in_go"), "."], check=True, cwd=desk.TESTS / "peers" / "beside_go",
-                   env={**os.environ, "GO111MODULE": "off", "GOPATH": "/usr/share/gocode", "GOCACHE": os.path.abspath("cache")})
+    subprocess.run(
+        ["go", "build", "-tags", "libsqlite3", "-o", os.path.abspath("desk_in_go"), "."],
+        check=True,
+        cwd=desk.TESTS / "peers" / "beside_go",
+        env={
+            **os.environ,
+            "GO111MODULE": "off",
+            "GOPATH": "/usr/share/gocode",
+            "GOCACHE": os.path.abspath("cache"),
+        },
+    )
     return os.path.abspath("desk_in_go")
 
 
@@ -138,7 +199,9 @@ def write_statements():
     """Writes clubdesk's SQL statements into a file, one per line. The file has only those statements that the desks need."""
     source = (desk.ROOT / "crates" / "club_tables" / "src" / "texts.rt").read_text(encoding="utf-8")
     texts = dict(re.findall(r'const (\w+): &str = "(.*?)";', source, re.DOTALL))
-    Path("statements").write_text("".join(re.sub(r"\\\n *", "", texts[name]) + "\n" for name in STATEMENTS), encoding="utf-8")
+    Path("statements").write_text(
+        "".join(re.sub(r"\\\n *", "", texts[name]) + "\n" for name in STATEMENTS), encoding="utf-8"
+    )
 
 
 class Beside(desk.Server):
@@ -162,12 +225,20 @@ def ask(server, requests):
 def in_order(replies):
     """Returns the replies with sorted header lines, without the lines Date and Server."""
     parts = [it.partition(b"\r\n\r\n") for it in re.split(rb"(?=HTTP/1\.1 \d{3} )", replies)[1:]]
-    return [(sorted(it for it in head.split(b"\r\n") if not it.startswith((b"Date: ", b"Server: "))), body) for head, _, body in parts]
+    return [
+        (
+            sorted(it for it in head.split(b"\r\n") if not it.startswith((b"Date: ", b"Server: "))),
+            body,
+        )
+        for head, _, body in parts
+    ]
 
 
 def compare(kind, replies):
     """Checks that each desk's replies match clubdesk's. Returns the number of compared replies."""
-    ours, others = replies[OURS], {name: its for name, its in replies.items() if name not in (OURS, PLAIN)}
+    ours, others = replies[OURS], {
+        name: its for name, its in replies.items() if name not in (OURS, PLAIN)
+    }
     for name, its in others.items():
         if its != ours and (name == "c" or in_order(its) != in_order(ours)):
             sys.exit(f"{kind}: the replies differ: {OURS} {ours[:300]} {name} {its[:300]}")
@@ -182,20 +253,28 @@ def measure(clubdesk, path, askers, count, rounds, desks):
     refused, compared = [data for asker in askers.values() for data in asker.refused()], 0
     total = len(askers) * count * rounds * len(KINDS) + len(refused)
     with ExitStack() as ends:
-        servers = {OURS: ends.enter_context(desk.Server(clubdesk, OURS, total, "--at", NOON, by=on(PROCESSORS[0])))}
+        servers = {
+            OURS: ends.enter_context(
+                desk.Server(clubdesk, OURS, total, "--at", NOON, by=on(PROCESSORS[0]))
+            )
+        }
         for name, words in desks.items():
             servers[name] = ends.enter_context(Beside(*words, name, str(MINUTE)))
         servers[PLAIN] = ends.enter_context(Beside("./desk"))
         for number in range(rounds):
-            turns = list(servers)[number % len(servers):] + list(servers)[:number % len(servers)]
+            turns = list(servers)[number % len(servers) :] + list(servers)[: number % len(servers)]
             asked = [(title, asker.round(count)) for title, asker in askers.items()]
-            for kind, title, requests in ((kind, title, made[kind]) for kind in KINDS for title, made in asked):
+            for kind, title, requests in (
+                (kind, title, made[kind]) for kind in KINDS for title, made in asked
+            ):
                 replies = {}
                 for name in turns:
                     took, replies[name] = ask(servers[name], requests)
                     found[title][kind][name].append(statistics.median(took))
                 compared += compare(kind, replies)
-        compared += compare("refused", {name: ask(server, refused)[1] for name, server in servers.items()})
+        compared += compare(
+            "refused", {name: ask(server, refused)[1] for name, server in servers.items()}
+        )
     return found, compared
 
 
@@ -213,20 +292,42 @@ def show(title, found):
 
 def show_ratios(size, found, big, new):
     """Prints the ratios that have an upper limit, for the file that was measured last."""
-    rows = [(f"booking under a slack limit, {BIG_ROWS} own bookings over none", big["booking"][OURS], new["booking"][OURS], 1.2)]
+    rows = [
+        (
+            f"booking under a slack limit, {BIG_ROWS} own bookings over none",
+            big["booking"][OURS],
+            new["booking"][OURS],
+            1.2,
+        )
+    ]
     if "c" in found["repeat"]:
         rows.append(("repeat, clubdesk over C", found["repeat"][OURS], found["repeat"]["c"], 1.0))
-        rows.append((f"booking at {size}, clubdesk over C", found["booking"][OURS], found["booking"]["c"], 1.35))
+        rows.append(
+            (
+                f"booking at {size}, clubdesk over C",
+                found["booking"][OURS],
+                found["booking"]["c"],
+                1.35,
+            )
+        )
     for title, times, others, most in rows:
         print(f"{title:>60} {ratio(times, others):6.2f}  at most {most}", flush=True)
 
 
 def calls(clubdesk, requests):
     """Returns how often clubdesk made each system call while it served these requests."""
-    with desk.Server(clubdesk, "traced", len(requests), "--at", NOON, by=["strace", "-c", "-o", "counts"]) as server:
+    with desk.Server(
+        clubdesk, "traced", len(requests), "--at", NOON, by=["strace", "-c", "-o", "counts"]
+    ) as server:
         ask(server, requests)
     lines = map(str.split, Path("counts").read_text(encoding="utf-8").splitlines())
-    return Counter({it[-1]: int(it[3]) for it in lines if re.fullmatch(r"[0-9.]+", it[0]) and it[-1] != "total"})
+    return Counter(
+        {
+            it[-1]: int(it[3])
+            for it in lines
+            if re.fullmatch(r"[0-9.]+", it[0]) and it[-1] != "total"
+        }
+    )
 
 
 def show_calls(clubdesk, path, asker):
@@ -235,10 +336,21 @@ def show_calls(clubdesk, path, asker):
     asked = asker.round(101)
     of_one = calls(clubdesk, asked["account"][:1])
     for kind in KINDS[:3]:
-        each = {name: (count - of_one[name]) / 100 for name, count in calls(clubdesk, asked[kind]).items()}
-        reads, writes = (sum(each.get(it, 0) for it in names) for names in (("read", "recvfrom", "recvmsg", "readv"), ("write", "sendto", "sendmsg", "writev")))
+        each = {
+            name: (count - of_one[name]) / 100
+            for name, count in calls(clubdesk, asked[kind]).items()
+        }
+        reads, writes = (
+            sum(each.get(it, 0) for it in names)
+            for names in (
+                ("read", "recvfrom", "recvmsg", "readv"),
+                ("write", "sendto", "sendmsg", "writev"),
+            )
+        )
         often = "".join(f" {name} {count:.1f}" for name, count in each.items() if count >= 0.1)
-        print(f"{kind:12} reads {reads:.2f}, writes {writes:.2f}, all calls {sum(each.values()):.1f}:{often}")
+        print(
+            f"{kind:12} reads {reads:.2f}, writes {writes:.2f}, all calls {sum(each.values()):.1f}:{often}"
+        )
 
 
 def arguments():
@@ -248,8 +360,13 @@ def arguments():
     parser.add_argument("rounds", nargs="?", type=int, default=7)
     parser.add_argument("sizes", nargs="*", type=int, default=[100, 100_000])
     given = parser.parse_args()
-    if not (1 <= given.count and 1 <= given.rounds <= MOST_OPEN and given.count * given.rounds <= MOST_OPEN * KEYS_ASKED
-            and all(1 <= it <= 1_000_000 for it in given.sizes) and set(given.desks) <= set(DESKS)):
+    if not (
+        1 <= given.count
+        and 1 <= given.rounds <= MOST_OPEN
+        and given.count * given.rounds <= MOST_OPEN * KEYS_ASKED
+        and all(1 <= it <= 1_000_000 for it in given.sizes)
+        and set(given.desks) <= set(DESKS)
+    ):
         parser.error("out of range")
     return given
 
@@ -263,13 +380,32 @@ def main():
         built("client"), built("desk", "-lsqlite3", "-lnettle"), write_statements()
         desks, medians = {name: DESKS[name]() for name in given.desks}, {}
         names = (OURS, *desks, PLAIN)
-        print(f"load {os.getloadavg()[0]:.1f} on {os.cpu_count()} processors; microseconds, medians of {rounds} rounds, and clubdesk's ratio to each")
-        print(f"{'bookings':>36} " + "".join(f"{it:>9}" for it in names) + "  " + "".join(f"{it:>7}" for it in names[1:]))
+        print(
+            f"load {os.getloadavg()[0]:.1f} on {os.cpu_count()} processors; microseconds, medians of {rounds} rounds, and clubdesk's ratio to each"
+        )
+        print(
+            f"{'bookings':>36} "
+            + "".join(f"{it:>9}" for it in names)
+            + "  "
+            + "".join(f"{it:>7}" for it in names[1:])
+        )
         keys, compared = [f"x{n:03}" for n in range(KEYS_ASKED)], 0
         titles = f"{size}, {BIG_ROWS} of them own", f"{size}, none of them own"
-        runs = [(its_size, {str(its_size): Asker(keys, 1000, 0)}, count) for its_size in given.sizes]
-        runs.append((size, {title: Asker([key], 20_000, slot) for title, key, slot in zip(titles, ("big", "new"), (0, 24 * 9 * 24), strict=True)},
-                     min(count, MOST_OPEN // rounds)))
+        runs = [
+            (its_size, {str(its_size): Asker(keys, 1000, 0)}, count) for its_size in given.sizes
+        ]
+        runs.append(
+            (
+                size,
+                {
+                    title: Asker([key], 20_000, slot)
+                    for title, key, slot in zip(
+                        titles, ("big", "new"), (0, 24 * 9 * 24), strict=True
+                    )
+                },
+                min(count, MOST_OPEN // rounds),
+            )
+        )
         for its_size, askers, its_count in runs:
             if not os.path.exists(f"club{its_size}"):
                 make_file(clubdesk, f"club{its_size}", its_size, its_size == size)

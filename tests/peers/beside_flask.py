@@ -22,18 +22,39 @@ from reference.wire import STATUSES, TEXTS
 
 DAY, WINDOW = 1440, 86_400
 PRAGMAS = "PRAGMA locking_mode = EXCLUSIVE; PRAGMA journal_mode = WAL; PRAGMA synchronous = FULL; PRAGMA foreign_keys = ON; PRAGMA cache_size = 2000"
-KEY, OLDER_ROOT, MEMBER, FACILITY, SLOT, BOOKING, COSTS, OPEN, ADD_BOOKING, ADD_TAKEN, CHARGE = sys.stdin.read().splitlines()
+(
+    KEY,
+    OLDER_ROOT,
+    MEMBER,
+    FACILITY,
+    SLOT,
+    BOOKING,
+    COSTS,
+    OPEN,
+    ADD_BOOKING,
+    ADD_TAKEN,
+    CHARGE,
+) = sys.stdin.read().splitlines()
 app = Flask(__name__)
 app.register_error_handler(404, lambda _fault: refusal(2))
 
 
 def reply(status, body, **headers):
-    return Response(json.dumps(body, separators=(",", ":")), f"{status} {HTTPStatus(status).phrase}", headers, mimetype="application/json")
+    return Response(
+        json.dumps(body, separators=(",", ":")),
+        f"{status} {HTTPStatus(status).phrase}",
+        headers,
+        mimetype="application/json",
+    )
 
 
 def refusal(number, caveat=None):
     body = {"fault": number, "text": TEXTS[number - 1]} | ({"caveat": caveat} if caveat else {})
-    return reply(STATUSES[number], body, **({"WWW-Authenticate": "Bearer"} if STATUSES[number] == 401 else {}))
+    return reply(
+        STATUSES[number],
+        body,
+        **({"WWW-Authenticate": "Bearer"} if STATUSES[number] == 401 else {}),
+    )
 
 
 def refuse(number, caveat=None):
@@ -103,7 +124,16 @@ def account():
     caveats, key, member = verified()
     test_caveats(caveats, key, member, "account")
     _, credited, quota, used = row_of(MEMBER, member)
-    return reply(200, {"member": member, "balance": credited - used, "quota": quota, "open": open_of(member), "spent": spent_by(key)})
+    return reply(
+        200,
+        {
+            "member": member,
+            "balance": credited - used,
+            "quota": quota,
+            "open": open_of(member),
+            "spent": spent_by(key),
+        },
+    )
 
 
 def slot_of(name, day, hour):
@@ -123,7 +153,19 @@ def show(name, day, hour):
         refuse(14)
     _, kind, places, price, _, _ = facility
     closed, taken = row_of(SLOT, *slot) or (0, 0)
-    return reply(200, {"facility": name, "day": day, "hour": hour, "kind": kind, "price": price, "places": places, "taken": taken, "closed": bool(closed)})
+    return reply(
+        200,
+        {
+            "facility": name,
+            "day": day,
+            "hour": hour,
+            "kind": kind,
+            "price": price,
+            "places": places,
+            "taken": taken,
+            "closed": bool(closed),
+        },
+    )
 
 
 @app.put("/slots/<name>/<day>/<int(fixed_digits=2, max=23):hour>/bookings/<int(min=1):number>")
@@ -142,7 +184,11 @@ def book(name, day, hour, number):
         refuse(13)
     if not record and not facility:
         refuse(14)
-    charge, left = record[6:8] if record else (charge, book_anew(facility, slot, key, member, number, guests, charge))
+    charge, left = (
+        record[6:8]
+        if record
+        else (charge, book_anew(facility, slot, key, member, number, guests, charge))
+    )
     return reply(200, {"booking": f"{key}/{number}", "charge": charge, "left": left})
 
 
@@ -174,7 +220,12 @@ class Server(BaseApplication):
 
     def load_config(self):
         self.cfg.set("bind", "127.0.0.1:0")
-        self.cfg.set("when_ready", lambda server: print(f"listening on 127.0.0.1:{server.LISTENERS[0].getsockname()[1]}", flush=True))
+        self.cfg.set(
+            "when_ready",
+            lambda server: print(
+                f"listening on 127.0.0.1:{server.LISTENERS[0].getsockname()[1]}", flush=True
+            ),
+        )
 
     def load(self):
         app.database = sqlite3.connect(sys.argv[1])

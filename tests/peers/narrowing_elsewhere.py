@@ -34,24 +34,46 @@ PROGRAMS = [
     ("Go's macaroon.v2", [BUILT], FORMS),
     ("Node.js", ["node", f"{EXAMPLES}/narrow.mjs"], ["v2"]),
 ]
-LINES = ["kind = court", "facility = court-1,court-2", "hours = 18-20", "days = 2026-05-01..2026-05-31", "weekday = sat,sun",
-         "until < 2026-05-01T18:00", "guests <= 2", "spend <= 600", "actions = view,book", "shoe = red"]
+LINES = [
+    "kind = court",
+    "facility = court-1,court-2",
+    "hours = 18-20",
+    "days = 2026-05-01..2026-05-31",
+    "weekday = sat,sun",
+    "until < 2026-05-01T18:00",
+    "guests <= 2",
+    "spend <= 600",
+    "actions = view,book",
+    "shoe = red",
+]
 draw = random.Random(20260501)
 
 
 def line_of(words, given=""):
     """Returns the output of a program."""
-    return subprocess.run(words, input=given, capture_output=True, check=True, text=True).stdout.removesuffix("\n")
+    return subprocess.run(
+        words, input=given, capture_output=True, check=True, text=True
+    ).stdout.removesuffix("\n")
 
 
 def any_text(least, most):
     """Draws a text of characters with one to four bytes in UTF-8, including line feeds, quotes and backslashes."""
-    odd = lambda: draw.choice('\n"\\/<>&äß€�\U0001f3be') if draw.random() < 0.5 else chr(draw.randint(0xa0, 0xd7ff))
-    return "".join(odd() if draw.random() < 0.2 else chr(draw.randint(1, 127)) for _ in range(draw.randint(least, most)))
+    odd = (
+        lambda: draw.choice('\n"\\/<>&äß€�\U0001f3be')
+        if draw.random() < 0.5
+        else chr(draw.randint(0xA0, 0xD7FF))
+    )
+    return "".join(
+        odd() if draw.random() < 0.2 else chr(draw.randint(1, 127))
+        for _ in range(draw.randint(least, most))
+    )
 
 
 def caveats(most):
-    return [draw.choice(LINES) if draw.random() < 0.7 else any_text(1, 200) for _ in range(draw.randint(0, most))]
+    return [
+        draw.choice(LINES) if draw.random() < 0.7 else any_text(1, 200)
+        for _ in range(draw.randint(0, most))
+    ]
 
 
 class Pass:
@@ -59,17 +81,36 @@ class Pass:
 
     def __init__(self):
         self.root = draw.randbytes(draw.randint(1, 64)).hex()
-        self.identifier = f"key:amy-{draw.randint(1, 999)}" if draw.random() < 0.7 else any_text(1, 130)
+        self.identifier = (
+            f"key:amy-{draw.randint(1, 999)}" if draw.random() < 0.7 else any_text(1, 130)
+        )
         self.location = draw.choice(["club-desk", "club-desk", "", any_text(1, 130)])
-        words = ["--root", self.root, f"--id={self.identifier}", f"--location={self.location}", "--", *caveats(4)]
+        words = [
+            "--root",
+            self.root,
+            f"--id={self.identifier}",
+            f"--location={self.location}",
+            "--",
+            *caveats(4),
+        ]
         v2 = line_of([TOOL, "mint", *words])
-        self.texts = {"v2": v2, **{form: line_of([TOOL, "convert", "--form", form], v2) for form in ("v1", "json")}}
+        self.texts = {
+            "v2": v2,
+            **{form: line_of([TOOL, "convert", "--form", form], v2) for form in ("v1", "json")},
+        }
         self.narrowed = {}
 
     def narrow(self, texts, form):
         """Narrows the pass in each form with passtool. Checks the signature of the narrowed pass in `form`."""
-        self.narrowed = {form: line_of([TOOL, "narrow", "--any", "--", *texts], text) for form, text in self.texts.items()}
-        expect(self.narrowed[form], line_of([TOOL, "verify", "--root", self.root], self.narrowed[form]), "signed")
+        self.narrowed = {
+            form: line_of([TOOL, "narrow", "--any", "--", *texts], text)
+            for form, text in self.texts.items()
+        }
+        expect(
+            self.narrowed[form],
+            line_of([TOOL, "verify", "--root", self.root], self.narrowed[form]),
+            "signed",
+        )
 
     def suits(self, program, form):
         return program != PYMACAROONS or form != "v1" or (self.identifier + self.location).isascii()
@@ -81,8 +122,16 @@ class Pass:
 
 
 def main():
-    subprocess.run(["go", "build", "-o", BUILT, EXAMPLES / "narrow.go"], check=True,
-                   env={**os.environ, "GO111MODULE": "off", "GOPATH": "/usr/share/gocode", "GOCACHE": f"{ROOM.name}/cache"})
+    subprocess.run(
+        ["go", "build", "-o", BUILT, EXAMPLES / "narrow.go"],
+        check=True,
+        env={
+            **os.environ,
+            "GO111MODULE": "off",
+            "GOPATH": "/usr/share/gocode",
+            "GOCACHE": f"{ROOM.name}/cache",
+        },
+    )
     compared = Counter()
     for group in range(GROUPS):
         passes = [Pass() for _ in range(PASSES)]
@@ -92,12 +141,17 @@ def main():
         for program, words, its_forms in PROGRAMS:
             for form in its_forms:
                 suiting = [each for each in passes if each.suits(program, form)]
-                got = line_of([*words, *texts], "".join(each.texts[form] + "\n" for each in suiting)).split("\n")
+                got = line_of(
+                    [*words, *texts], "".join(each.texts[form] + "\n" for each in suiting)
+                ).split("\n")
                 for each, text in zip(suiting, got, strict=True):
                     each.compare(program, form, text)
                 compared[program, form] += len(suiting)
     for program, _, its_forms in PROGRAMS:
-        print(f"{program} narrows as passtool does: " + ", ".join(f"{compared[program, form]} passes in {form}" for form in its_forms))
+        print(
+            f"{program} narrows as passtool does: "
+            + ", ".join(f"{compared[program, form]} passes in {form}" for form in its_forms)
+        )
 
 
 with ROOM:

@@ -30,8 +30,17 @@ import desk
 from both import expect
 
 FORMS = ["v1", "v2", "json"]
-LINES = ["kind = court", "facility = court-1,court-2", "hours = 18-20", "days = 2026-05-01..2026-05-31", "weekday = sat,sun",
-         "until < 2026-05-01T18:00", "guests <= 2", "spend <= 600", "actions = view,book"]
+LINES = [
+    "kind = court",
+    "facility = court-1,court-2",
+    "hours = 18-20",
+    "days = 2026-05-01..2026-05-31",
+    "weekday = sat,sun",
+    "until < 2026-05-01T18:00",
+    "guests <= 2",
+    "spend <= 600",
+    "actions = view,book",
+]
 NUMBERS = {"TooLong": 1, "Malformed": 2, "ThirdParty": 3, "TooMany": 4}
 
 
@@ -45,14 +54,20 @@ class Draws:
         draw = self.draw
         size = draw.choice([0, 1, draw.randint(2, 40), draw.randint(2, 40), draw.randint(40, most)])
         if draw.random() < 0.6:
-            return "".join(draw.choice('abcz019-:/ "\\\n\x7fäß€\U0001f3be') for _ in range(size)).encode()[:size]
+            return "".join(
+                draw.choice('abcz019-:/ "\\\n\x7fäß€\U0001f3be') for _ in range(size)
+            ).encode()[:size]
         return draw.randbytes(size)
 
     def line(self):
         line = self.draw.choice(LINES)
         if self.draw.random() < 0.3:
             place = self.draw.randrange(len(line))
-            line = line[:place] + self.draw.choice("0123456789abt ,<=-:T") + line[place + self.draw.randrange(2):]
+            line = (
+                line[:place]
+                + self.draw.choice("0123456789abt ,<=-:T")
+                + line[place + self.draw.randrange(2) :]
+            )
         return line
 
     def minted(self):
@@ -62,7 +77,9 @@ class Draws:
         long = draw.random() < 0.05
         for _ in range(count):
             try:
-                made = made.narrow(self.line() if draw.random() < 0.6 else self.bytes(300 if long else 80))
+                made = made.narrow(
+                    self.line() if draw.random() < 0.6 else self.bytes(300 if long else 80)
+                )
             except self.clubpass.NoRoom:
                 break
         form = draw.choice(FORMS)
@@ -84,9 +101,9 @@ class Draws:
             elif what == 2:
                 data[place:place] = draw.randbytes(draw.randint(1, 3))
             elif what == 3:
-                del data[place:place + draw.randint(1, 3)]
+                del data[place : place + draw.randint(1, 3)]
             elif what == 4:
-                data[place:place] = data[place:place + draw.randint(1, 40)]
+                data[place:place] = data[place : place + draw.randint(1, 40)]
             elif what == 5:
                 del data[place:]
             elif data:
@@ -100,10 +117,26 @@ class Draws:
 
     def spoiled_json(self, text):
         draw = self.draw
-        old, new = draw.choice([
-            (b'"i":', b'"i64":'), (b'"c":', b'"c" : '), (b'"v":2', b'"v":1'), (b'"v":2', b'"v":2.0'), (b'"s64":', b'"s":'), (b'"i"', b'"\\u0069"'),
-            (b'{"i"', b'{"v64":"AA","i"'), (b'{"i"', b'{"l":"there","i"'), (b',"v":2', b""), (b'"l":', b'"l64":'), (b"}", b"}\n"), (b"[", b"[\t"),
-            (b'"v":2', b'"v":2,"w":3'), (b'"v":2', b'"v":2,"v":2'), (b"a", b"\\u0061"), (b"a", b"\xff")])
+        old, new = draw.choice(
+            [
+                (b'"i":', b'"i64":'),
+                (b'"c":', b'"c" : '),
+                (b'"v":2', b'"v":1'),
+                (b'"v":2', b'"v":2.0'),
+                (b'"s64":', b'"s":'),
+                (b'"i"', b'"\\u0069"'),
+                (b'{"i"', b'{"v64":"AA","i"'),
+                (b'{"i"', b'{"l":"there","i"'),
+                (b',"v":2', b""),
+                (b'"l":', b'"l64":'),
+                (b"}", b"}\n"),
+                (b"[", b"[\t"),
+                (b'"v":2', b'"v":2,"w":3'),
+                (b'"v":2', b'"v":2,"v":2'),
+                (b"a", b"\\u0061"),
+                (b"a", b"\xff"),
+            ]
+        )
         return text.replace(old, new, draw.choice([1, -1]))
 
     def text(self):
@@ -140,7 +173,9 @@ class Draws:
 
 
 def shown(data):
-    return "".join("\\\\" if b == 0x5C else chr(b) if 0x20 <= b <= 0x7E else f"\\x{b:02x}" for b in data)
+    return "".join(
+        "\\\\" if b == 0x5C else chr(b) if 0x20 <= b <= 0x7E else f"\\x{b:02x}" for b in data
+    )
 
 
 def line(name, data):
@@ -157,12 +192,20 @@ def by_library(clubpass, text, words):
     try:
         found = clubpass.Pass.parse(text)
         if command == "verify":
-            return (0, "signed\n", "") if found.verify(bytes.fromhex(words[2])) else (1, "not signed\n", "")
+            return (
+                (0, "signed\n", "")
+                if found.verify(bytes.fromhex(words[2]))
+                else (1, "not signed\n", "")
+            )
         if command == "convert":
             return 0, found.to(words[2]) + "\n", ""
         if command == "narrow":
-            return 0, str(found.narrow(*words[words.index("--") + 1:])) + "\n", ""
-        told = [f"form {found.form}\n", line("location", found.location), line("identifier", found.identifier)]
+            return 0, str(found.narrow(*words[words.index("--") + 1 :])) + "\n", ""
+        told = [
+            f"form {found.form}\n",
+            line("location", found.location),
+            line("identifier", found.identifier),
+        ]
         told += [line(f"caveat {number}", caveat) for number, caveat in enumerate(found.caveats, 1)]
         return 0, "".join(told) + f"signature {found.signature.hex()}\n", ""
     except clubpass.PassError as error:
@@ -177,7 +220,7 @@ def by_passtool(tool, text, words):
 def compare(clubpass, tool, case):
     text, words = case
     wanted, found = by_passtool(tool, text, words), by_library(clubpass, text, words)
-    told = wanted[2][:len(found[2])] if wanted[0] == 3 else wanted[2]
+    told = wanted[2][: len(found[2])] if wanted[0] == 3 else wanted[2]
     expect((text, words), found, (*wanted[:2], told))
     return f"{words[0]} {wanted[0]}" + (f" {told}" if wanted[0] == 3 else "")
 
@@ -200,7 +243,11 @@ def main():
             told.update(pool.map(lambda case: compare(clubpass, tool, case), cases))
     print(f"{given.count} texts, seed {given.seed}: {dict(sorted(told.items()))}")
     faults = {name for name in told if " 3 " in name}
-    expect("faults that occurred", {name.split()[-1] for name in faults}, {f"{number}:" for number in NUMBERS.values()})
+    expect(
+        "faults that occurred",
+        {name.split()[-1] for name in faults},
+        {f"{number}:" for number in NUMBERS.values()},
+    )
 
 
 if __name__ == "__main__":

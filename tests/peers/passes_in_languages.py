@@ -27,15 +27,25 @@ from pymacaroons.serializers import JsonSerializer
 import desk
 from reference import passes
 
-pytestmark = [pytest.mark.programs, pytest.mark.needs("passtool pass_c"),
-    pytest.mark.wants("python3-pymacaroons mypy gcc libc6-dev pkg-config golang-go nodejs libmacaroons-dev")]
+pytestmark = [
+    pytest.mark.programs,
+    pytest.mark.needs("passtool pass_c"),
+    pytest.mark.wants(
+        "python3-pymacaroons mypy gcc libc6-dev pkg-config golang-go nodejs libmacaroons-dev"
+    ),
+]
 
 VECTORS = json.loads((desk.ROOT / "docs" / "vectors.json").read_text(encoding="utf-8"))
 NODE = Path("/usr/include/node")
 HERE, BINDINGS = desk.TESTS / "peers" / "passes_from_c", desk.ROOT / "bindings"
 FORMS = ["v1", "v2", "json"]
 THIRD = VECTORS["passes"][2]
-FAULTS = {"fault 1: too long": 1, "fault 2: malformed": 2, "fault 3: third-party caveat": 3, "fault 4: too many caveats": 4}
+FAULTS = {
+    "fault 1: too long": 1,
+    "fault 2: malformed": 2,
+    "fault 3: third-party caveat": 3,
+    "fault 4: too many caveats": 4,
+}
 
 
 def bytes_of(owner, name):
@@ -43,7 +53,10 @@ def bytes_of(owner, name):
 
 
 def caveats_of(vector):
-    return [bytes.fromhex(it["hex"]) if isinstance(it, dict) else it.encode() for it in vector["caveats"]]
+    return [
+        bytes.fromhex(it["hex"]) if isinstance(it, dict) else it.encode()
+        for it in vector["caveats"]
+    ]
 
 
 def spelled(data):
@@ -52,10 +65,25 @@ def spelled(data):
 
 def told(vector, form):
     """Returns the line that the program in each language must print for a pass."""
-    parts = [spelled(bytes_of(vector, "location")), spelled(bytes_of(vector, "identifier")), ",".join(map(spelled, caveats_of(vector))) or "-"]
+    parts = [
+        spelled(bytes_of(vector, "location")),
+        spelled(bytes_of(vector, "identifier")),
+        ",".join(map(spelled, caveats_of(vector))) or "-",
+    ]
     texts = [vector[it].encode().hex() for it in FORMS]
-    again = passes.chain(bytes.fromhex(vector.get("root", "00")), bytes_of(vector, "identifier"), caveats_of(vector))
-    return " ".join([form, *parts, vector["signature"], *texts, again.hex(), "signed" if "root" in vector else "not signed"])
+    again = passes.chain(
+        bytes.fromhex(vector.get("root", "00")), bytes_of(vector, "identifier"), caveats_of(vector)
+    )
+    return " ".join(
+        [
+            form,
+            *parts,
+            vector["signature"],
+            *texts,
+            again.hex(),
+            "signed" if "root" in vector else "not signed",
+        ]
+    )
 
 
 def lines():
@@ -63,7 +91,9 @@ def lines():
     for vector in VECTORS["passes"]:
         for form in FORMS:
             if form in vector:
-                yield f"pass {vector.get('root', '00')} {vector[form].encode().hex()}", told(vector, form)
+                yield f"pass {vector.get('root', '00')} {vector[form].encode().hex()}", told(
+                    vector, form
+                )
     for vector in VECTORS["also read as the third pass"]:
         yield f"pass 00 {vector['text'].encode().hex()}", told(THIRD, vector["form"])
     for vector in VECTORS["not passes"]:
@@ -74,7 +104,12 @@ def lines():
 def words_of(request):
     """Returns a request's action, kind, moment, facility, day, hour, guests, points owed and points spent."""
     commands = (it.split() for it in VECTORS["club"]["commands"])
-    facilities = {name: (kind, int(price)) for _, command, _, name, kind, _, price, *_ in (it for it in commands if it[1] == "add-facility")}
+    facilities = {
+        name: (kind, int(price))
+        for _, command, _, name, kind, _, price, *_ in (
+            it for it in commands if it[1] == "add-facility"
+        )
+    }
     words = request["path"].strip("/").split("/")
     if words == ["account"]:
         return f"account - {request['at']} - - 0 0 0 0"
@@ -103,10 +138,23 @@ def verdicts():
     for line in VECTORS["not understood"]:
         yield f"caveat {spelled(line.encode())}", "no"
         yield f"ask {narrowed('guests <= 49', 'kind = court', line)} {book}", "not understood 3"
-    for points, wanted in [("600 0", "allows"), ("600 1", "denies 1"), ("601 0", "denies 1"), ("1 600", "denies 1"), ("0 601", "allows")]:
+    for points, wanted in [
+        ("600 0", "allows"),
+        ("600 1", "denies 1"),
+        ("601 0", "denies 1"),
+        ("1 600", "denies 1"),
+        ("0 601", "allows"),
+    ]:
         yield f"ask {narrowed('spend <= 600')} {book.removesuffix('600 0')}{points}", wanted
-    for old, new in [("2026-04-20T12:00", "1999-12-31T23:59"), ("2026-04-20T12:00", "2100-01-01T00:00"), ("2026-05-01", "1999-12-31"),
-                     (" 18 ", " 24 "), (" 18 ", " 274 "), ("court-1", "Court-1"), ("court-1", "a" * 25)]:
+    for old, new in [
+        ("2026-04-20T12:00", "1999-12-31T23:59"),
+        ("2026-04-20T12:00", "2100-01-01T00:00"),
+        ("2026-05-01", "1999-12-31"),
+        (" 18 ", " 24 "),
+        (" 18 ", " 274 "),
+        ("court-1", "Court-1"),
+        ("court-1", "a" * 25),
+    ]:
         yield f"ask {narrowed()} {book.replace(old, new)}", "no ask"
 
 
@@ -115,9 +163,17 @@ def library(tmp_path_factory):
     """Builds the library in a folder, and sets the environment variables that each language needs. Returns the folder."""
     room = tmp_path_factory.mktemp("clubpass")
     subprocess.run([desk.ROOT / "bin" / "library", room], check=True, stdout=subprocess.DEVNULL)
-    os.environ.update(PKG_CONFIG_PATH=f"{room}/lib/pkgconfig", LD_LIBRARY_PATH=f"{room}/lib", PYTHONPATH=f"{room}/lib/python3",
-                      CLUBPASS_LIBRARY=f"{room}/lib/libclubpass.so.0", CLUBPASS_NODE=f"{room}/clubpass.node",
-                      CLUBPASS_JS=f"{BINDINGS}/node/clubpass.js", GOPATH=f"{room}/go", GO111MODULE="off", GOCACHE=f"{room}/cache")
+    os.environ.update(
+        PKG_CONFIG_PATH=f"{room}/lib/pkgconfig",
+        LD_LIBRARY_PATH=f"{room}/lib",
+        PYTHONPATH=f"{room}/lib/python3",
+        CLUBPASS_LIBRARY=f"{room}/lib/libclubpass.so.0",
+        CLUBPASS_NODE=f"{room}/clubpass.node",
+        CLUBPASS_JS=f"{BINDINGS}/node/clubpass.js",
+        GOPATH=f"{room}/go",
+        GO111MODULE="off",
+        GOCACHE=f"{room}/cache",
+    )
     return room
 
 
@@ -128,12 +184,29 @@ def clubpass(library):
 
 
 def flags(name="clubpass"):
-    return subprocess.run(["pkg-config", "--cflags", "--libs", name], check=True, capture_output=True, text=True).stdout.split()
+    return subprocess.run(
+        ["pkg-config", "--cflags", "--libs", name], check=True, capture_output=True, text=True
+    ).stdout.split()
 
 
 def c_program(room, source, *words):
     built = room / source.stem
-    subprocess.run(["gcc", "-O1", "-Wall", "-Wextra", "-Werror", "-std=gnu11", "-o", built, source, *flags(), *words], check=True)
+    subprocess.run(
+        [
+            "gcc",
+            "-O1",
+            "-Wall",
+            "-Wextra",
+            "-Werror",
+            "-std=gnu11",
+            "-o",
+            built,
+            source,
+            *flags(),
+            *words,
+        ],
+        check=True,
+    )
     return [str(built)]
 
 
@@ -149,10 +222,29 @@ def go_program(room, source):
 
 def node_program(room, source):
     if not (NODE / "node_api.h").exists():  # Debian's package of Node.js has no headers
-        subprocess.run(["apt-get", "install", "-y", "--no-install-recommends", "libnode-dev"], check=True, stdout=subprocess.DEVNULL)
+        subprocess.run(
+            ["apt-get", "install", "-y", "--no-install-recommends", "libnode-dev"],
+            check=True,
+            stdout=subprocess.DEVNULL,
+        )
     if not (room / "clubpass.node").exists():
-        subprocess.run(["gcc", "-shared", "-fPIC", "-O1", "-Wall", "-Wextra", "-Werror", "-o", room / "clubpass.node", BINDINGS / "node" / "clubpass.c",
-                        f"-I{NODE}", *flags()], check=True)
+        subprocess.run(
+            [
+                "gcc",
+                "-shared",
+                "-fPIC",
+                "-O1",
+                "-Wall",
+                "-Wextra",
+                "-Werror",
+                "-o",
+                room / "clubpass.node",
+                BINDINGS / "node" / "clubpass.c",
+                f"-I{NODE}",
+                *flags(),
+            ],
+            check=True,
+        )
     return ["node", str(source)]
 
 
@@ -170,7 +262,9 @@ def program(language, room, folder, name):
 def test_vectors(library, language):
     given, wanted = zip(*lines())
     words = program(language, library, HERE, "tell")
-    found = subprocess.run(words, input="".join(f"{it}\n" for it in given), check=True, capture_output=True, text=True).stdout.splitlines()
+    found = subprocess.run(
+        words, input="".join(f"{it}\n" for it in given), check=True, capture_output=True, text=True
+    ).stdout.splitlines()
     assert len(found) == len(wanted)
     for asked, line, right in zip(given, found, wanted):
         assert line == right, asked
@@ -183,8 +277,17 @@ def test_lent_pass_of_the_page(library, language):
     text = next(it for it in page.split() if it.startswith("AgEJ"))
     folder = {"c": "c", "python": "python", "go": "go", "node": "node"}[language]
     words = program(language, library, BINDINGS / folder, "lend")
-    lent = subprocess.run([desk.program("passtool"), "narrow", "kind = court"], input=text, check=True, capture_output=True, text=True).stdout
-    assert subprocess.run(words, input=f"{text}\n", check=True, capture_output=True, text=True).stdout == f"{lent}signed\n"
+    lent = subprocess.run(
+        [desk.program("passtool"), "narrow", "kind = court"],
+        input=text,
+        check=True,
+        capture_output=True,
+        text=True,
+    ).stdout
+    assert (
+        subprocess.run(words, input=f"{text}\n", check=True, capture_output=True, text=True).stdout
+        == f"{lent}signed\n"
+    )
 
 
 # ---- Python's own
@@ -196,7 +299,12 @@ def test_faults_from_python(clubpass):
         clubpass.Pass.parse("A" * 8193)
     with pytest.raises(clubpass.Malformed):
         clubpass.Pass.parse(text[:-1])
-    for spoiled in ("\ud800", text + "\udfff", THIRD["json"].replace("l", "\ud800", 1), "\ud800" + THIRD["json"]):  # as json.loads reads them
+    for spoiled in (
+        "\ud800",
+        text + "\udfff",
+        THIRD["json"].replace("l", "\ud800", 1),
+        "\ud800" + THIRD["json"],
+    ):  # as json.loads reads them
         with pytest.raises(clubpass.Malformed):
             clubpass.Pass.parse(spoiled)
         assert not clubpass.is_caveat(spoiled)
@@ -213,20 +321,29 @@ def test_faults_from_python(clubpass):
     with pytest.raises(clubpass.NotAnAsk):
         full.first_fault(clubpass.Ask("book", datetime(2100, 1, 1)))
     with pytest.raises(clubpass.NotAnAsk):
-        full.first_fault(clubpass.Ask("book", datetime(2026, 1, 1), "court-1", date(2026, 1, 1), 24))
+        full.first_fault(
+            clubpass.Ask("book", datetime(2026, 1, 1), "court-1", date(2026, 1, 1), 24)
+        )
     with pytest.raises(TypeError):
         clubpass.Pass.parse(None)
     for call in (full.verify, lambda root: clubpass.Pass.mint(root, "key:a-1")):
         for root in ("root", bytearray(b"root"), None):
             with pytest.raises(TypeError):
                 call(root)
-    assert clubpass.Pass.parse(THIRD["v1"]) == clubpass.Pass.parse(THIRD["json"]) and len({clubpass.Pass.parse(THIRD[it]) for it in FORMS}) == 1
+    assert (
+        clubpass.Pass.parse(THIRD["v1"]) == clubpass.Pass.parse(THIRD["json"])
+        and len({clubpass.Pass.parse(THIRD[it]) for it in FORMS}) == 1
+    )
     assert eval(repr(full), {"Pass": clubpass.Pass}) == full
 
 
 def test_types_of_the_module():
     """The Python module has type annotations for type checkers."""
-    checked = subprocess.run(["/usr/bin/mypy", "--strict", "--cache-dir=/dev/null", BINDINGS / "python" / "clubpass"], capture_output=True, text=True)
+    checked = subprocess.run(
+        ["/usr/bin/mypy", "--strict", "--cache-dir=/dev/null", BINDINGS / "python" / "clubpass"],
+        capture_output=True,
+        text=True,
+    )
     assert checked.returncode == 0, checked.stdout
 
 
@@ -257,7 +374,12 @@ draw = random.Random(20260501)
 def drawn():
     """Draws a root, an identifier, a location and caveats in ASCII, because some of the libraries accept only ASCII."""
     line = lambda least: "".join(chr(draw.randint(33, 126)) for _ in range(draw.randint(least, 40)))
-    return draw.randbytes(draw.randint(1, 64)), line(1), line(1), [line(1) for _ in range(draw.randint(0, 8))]
+    return (
+        draw.randbytes(draw.randint(1, 64)),
+        line(1),
+        line(1),
+        [line(1) for _ in range(draw.randint(0, 8))],
+    )
 
 
 def test_pymacaroons_both_ways(clubpass):
@@ -265,15 +387,27 @@ def test_pymacaroons_both_ways(clubpass):
         root, identifier, location, caveats = drawn()
         ours = clubpass.Pass.mint(root, identifier, location)
         for form in FORMS:
-            write = (lambda it: it.serialize(JsonSerializer())) if form == "json" else (lambda it: it.serialize())
-            read = (lambda it: Macaroon.deserialize(it, JsonSerializer())) if form == "json" else Macaroon.deserialize
-            theirs = Macaroon(location=location, identifier=identifier, key=root, version=1 if form == "v1" else 2)
+            write = (
+                (lambda it: it.serialize(JsonSerializer()))
+                if form == "json"
+                else (lambda it: it.serialize())
+            )
+            read = (
+                (lambda it: Macaroon.deserialize(it, JsonSerializer()))
+                if form == "json"
+                else Macaroon.deserialize
+            )
+            theirs = Macaroon(
+                location=location, identifier=identifier, key=root, version=1 if form == "v1" else 2
+            )
             narrowed = read(ours.to(form))
             for caveat in caveats:
                 theirs.add_first_party_caveat(caveat)
                 narrowed.add_first_party_caveat(caveat)
             wanted = ours.narrow(*caveats)
-            assert clubpass.Pass.parse(write(theirs)) == wanted == clubpass.Pass.parse(write(narrowed))
+            assert (
+                clubpass.Pass.parse(write(theirs)) == wanted == clubpass.Pass.parse(write(narrowed))
+            )
             verifier = Verifier()
             verifier.satisfy_general(lambda _: True)
             assert verifier.verify(read(wanted.to(form)), root) and wanted.verify(root)
@@ -297,7 +431,9 @@ class Libmacaroons:
         """Calls a function of the library. A bytes object becomes two arguments, an address and a length. Any other value becomes an address."""
         passed = []
         for it in arguments:
-            passed += [it, ctypes.c_size_t(len(it))] if isinstance(it, bytes) else [ctypes.c_void_p(it)]
+            passed += (
+                [it, ctypes.c_size_t(len(it))] if isinstance(it, bytes) else [ctypes.c_void_p(it)]
+            )
         return getattr(self.c, f"macaroon_{name}")(*passed, ctypes.byref(self.fault))
 
     def narrowed(self, at, caveats):
@@ -312,15 +448,30 @@ class Libmacaroons:
     def text(self, at):
         room = self.c.macaroon_serialize_size_hint(ctypes.c_void_p(at))
         out = ctypes.create_string_buffer(room)
-        assert self.c.macaroon_serialize(ctypes.c_void_p(at), out, ctypes.c_size_t(room), ctypes.byref(self.fault)) == 0
+        assert (
+            self.c.macaroon_serialize(
+                ctypes.c_void_p(at), out, ctypes.c_size_t(room), ctypes.byref(self.fault)
+            )
+            == 0
+        )
         return out.value
 
     def verifies(self, at, root, caveats):
         verifier = self.c.macaroon_verifier_create()
         for caveat in caveats:
             self.call("verifier_satisfy_exact", verifier, caveat)
-        return self.c.macaroon_verify(ctypes.c_void_p(verifier), ctypes.c_void_p(at), root, ctypes.c_size_t(len(root)), None, ctypes.c_size_t(0),
-                                      ctypes.byref(self.fault)) == 0
+        return (
+            self.c.macaroon_verify(
+                ctypes.c_void_p(verifier),
+                ctypes.c_void_p(at),
+                root,
+                ctypes.c_size_t(len(root)),
+                None,
+                ctypes.c_size_t(0),
+                ctypes.byref(self.fault),
+            )
+            == 0
+        )
 
 
 def test_libmacaroons_both_ways(clubpass):
@@ -329,8 +480,16 @@ def test_libmacaroons_both_ways(clubpass):
         root, identifier, location, caveats = drawn()
         lines_of = [it.encode() for it in caveats]
         wanted = clubpass.Pass.mint(root, identifier, location).narrow(*caveats)
-        made = theirs.narrowed(theirs.call("create", location.encode(), root, identifier.encode()), lines_of)
+        made = theirs.narrowed(
+            theirs.call("create", location.encode(), root, identifier.encode()), lines_of
+        )
         assert clubpass.Pass.parse(theirs.text(made)) == wanted
         read = theirs.read(wanted.to("v1").encode())
-        assert read and theirs.verifies(read, root, lines_of) and not theirs.verifies(read, root + b"!", lines_of)
-        assert clubpass.Pass.parse(theirs.text(theirs.narrowed(read, [b"more = 1"]))) == wanted.narrow("more = 1")
+        assert (
+            read
+            and theirs.verifies(read, root, lines_of)
+            and not theirs.verifies(read, root + b"!", lines_of)
+        )
+        assert clubpass.Pass.parse(
+            theirs.text(theirs.narrowed(read, [b"more = 1"]))
+        ) == wanted.narrow("more = 1")

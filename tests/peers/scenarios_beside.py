@@ -45,9 +45,19 @@ def knows(event):
     except (wire.NotDecoded, passes.NoPass):
         return False
     fault = re.match(rb'\{"fault":(\d+)', event.reply.body)
-    is_plain = event.pieces[0].endswith(b" HTTP/1.1\r\nHost: club\r\n") and passes.text_of(given, "v2") == text
-    return (is_plain and request.action != "cancel" and (not fault or int(fault[1]) in KNOWN_FAULTS)
-            and all(it.startswith(KNOWN_CAVEATS) and caveats.test_of(it) or it == b"shoe = red" for it in given.caveats))
+    is_plain = (
+        event.pieces[0].endswith(b" HTTP/1.1\r\nHost: club\r\n")
+        and passes.text_of(given, "v2") == text
+    )
+    return (
+        is_plain
+        and request.action != "cancel"
+        and (not fault or int(fault[1]) in KNOWN_FAULTS)
+        and all(
+            it.startswith(KNOWN_CAVEATS) and caveats.test_of(it) or it == b"shoe = red"
+            for it in given.caveats
+        )
+    )
 
 
 def known(scenario):
@@ -82,32 +92,70 @@ class Beside(Programs):
         with Server(self.words, self.file, requests[0].moment, self.statements) as server:
             for it in requests:
                 found = server.exchange(it.data(self.form))
-                compare(it, *((it.reply.data, found) if self.has_order else (in_order(it.reply.data), in_order(found))))
+                compare(
+                    it,
+                    *(
+                        (it.reply.data, found)
+                        if self.has_order
+                        else (in_order(it.reply.data), in_order(found))
+                    ),
+                )
 
 
 def in_order(reply):
     """Sorts a reply's header lines, and drops the lines that only the other server adds."""
     head, _, body = reply.partition(b"\r\n\r\n")
-    return b"\r\n".join([*sorted(it for it in head.split(b"\r\n") if not it.startswith((b"Date: ", b"Server: "))), body])
+    return b"\r\n".join(
+        [
+            *sorted(
+                it for it in head.split(b"\r\n") if not it.startswith((b"Date: ", b"Server: "))
+            ),
+            body,
+        ]
+    )
 
 
 def statements(folder):
     """Writes clubdesk's SQL statements into a file, one per line. The file has only those statements that the desks need."""
-    source = (programs.ROOT / "crates" / "club_tables" / "src" / "texts.rt").read_text(encoding="utf-8")
+    source = (programs.ROOT / "crates" / "club_tables" / "src" / "texts.rt").read_text(
+        encoding="utf-8"
+    )
     texts = dict(re.findall(r'const (\w+): &str = "(.*?)";', source, re.DOTALL))
     path = Path(folder, "statements")
-    path.write_text("".join(re.sub(r"\\\n *", "", texts[name]) + "\n" for name in STATEMENTS), encoding="utf-8")
+    path.write_text(
+        "".join(re.sub(r"\\\n *", "", texts[name]) + "\n" for name in STATEMENTS), encoding="utf-8"
+    )
     return path
 
 
 def desks(folder):
     """Builds the desks. For each desk, yields the name, the command line, and whether the header lines have clubdesk's order."""
     in_c, in_go = Path(folder, "desk_in_c"), Path(folder, "desk_in_go")
-    subprocess.run(["cc", "-O2", "-o", in_c, programs.TESTS / "peers" / "beside_c" / "desk.c", "-lsqlite3", "-lnettle"], check=True)
+    subprocess.run(
+        [
+            "cc",
+            "-O2",
+            "-o",
+            in_c,
+            programs.TESTS / "peers" / "beside_c" / "desk.c",
+            "-lsqlite3",
+            "-lnettle",
+        ],
+        check=True,
+    )
     yield "C", [str(in_c)], True
     if shutil.which("go"):
-        subprocess.run(["go", "build", "-tags", "libsqlite3", "-o", in_go, "."], check=True, cwd=programs.TESTS / "peers" / "beside_go",
-                       env={**os.environ, "GO111MODULE": "off", "GOPATH": "/usr/share/gocode", "GOCACHE": str(Path(folder, "cache"))})
+        subprocess.run(
+            ["go", "build", "-tags", "libsqlite3", "-o", in_go, "."],
+            check=True,
+            cwd=programs.TESTS / "peers" / "beside_go",
+            env={
+                **os.environ,
+                "GO111MODULE": "off",
+                "GOPATH": "/usr/share/gocode",
+                "GOCACHE": str(Path(folder, "cache")),
+            },
+        )
         yield "Go", [str(in_go)], False
     else:
         print("Go isn't installed: the desk in Go is skipped")

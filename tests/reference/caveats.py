@@ -49,14 +49,18 @@ def moment_of(text):
 
 
 def number_of(text, most):
-    return int(text) if re.fullmatch(r"0|[1-9]\d{0,8}", text, re.ASCII) and int(text) <= most else None
+    return (
+        int(text) if re.fullmatch(r"0|[1-9]\d{0,8}", text, re.ASCII) and int(text) <= most else None
+    )
 
 
 def listed(text, words):
     """Reads a list of one or more of these words with commas between them, in the order of `words`. Returns the places of the words in `words`, or
     False if the text isn't such a list."""
     places = [words.index(it) if it in words else None for it in text.split(",")]
-    return None not in places and all(one < other for one, other in zip(places, places[1:])) and places
+    return (
+        None not in places and all(one < other for one, other in zip(places, places[1:])) and places
+    )
 
 
 def facility_test(text):
@@ -110,9 +114,17 @@ def actions_test(text):
     return (lambda ask: ACTIONS.index(ask.action) in actions) if actions else None
 
 
-LINES = (("facility = ", facility_test), ("kind = ", kind_test), ("hours = ", hours_test), ("days = ", days_test),
-         ("weekday = ", weekday_test), ("until < ", until_test), ("guests <= ", guests_test), ("spend <= ", spend_test),
-         ("actions = ", actions_test))
+LINES = (
+    ("facility = ", facility_test),
+    ("kind = ", kind_test),
+    ("hours = ", hours_test),
+    ("days = ", days_test),
+    ("weekday = ", weekday_test),
+    ("until < ", until_test),
+    ("guests <= ", guests_test),
+    ("spend <= ", spend_test),
+    ("actions = ", actions_test),
+)
 
 
 def test_of(caveat):
@@ -120,7 +132,7 @@ def test_of(caveat):
     if len(caveat) > MOST_BYTES or not caveat.isascii():
         return None
     text = caveat.decode()
-    return next((test(text[len(front):]) for front, test in LINES if text.startswith(front)), None)
+    return next((test(text[len(front) :]) for front, test in LINES if text.startswith(front)), None)
 
 
 NOT_UNDERSTOOD, DENIES = 11, 12

@@ -11,8 +11,16 @@ AHEAD_MINUTES = 86_400
 MOST_POINTS = 999_999_999
 
 # The names of faults that a test can plant in the rules. A planted fault makes one rule wrong, so that the test must find a difference.
-PLANTS = ("until_takes_its_minute", "cancels_without_a_refund", "counts_cancelled_as_open", "repeats_with_places_of_now",
-          "spends_of_the_member", "rounds_refunds_up", "older_root_for_ever", "quota_by_key")
+PLANTS = (
+    "until_takes_its_minute",
+    "cancels_without_a_refund",
+    "counts_cancelled_as_open",
+    "repeats_with_places_of_now",
+    "spends_of_the_member",
+    "rounds_refunds_up",
+    "older_root_for_ever",
+    "quota_by_key",
+)
 
 
 @dataclass
@@ -90,7 +98,12 @@ class Club:
     # ---- sums
 
     def bookings_of(self, member):
-        return [it for name, key in self.keys.items() if key.member == member for it in self.bookings[name].values()]
+        return [
+            it
+            for name, key in self.keys.items()
+            if key.member == member
+            for it in self.bookings[name].values()
+        ]
 
     def spent(self, key):
         if self.plant == "spends_of_the_member":
@@ -98,19 +111,29 @@ class Club:
         return sum(it.charge - it.refund for it in self.bookings[key].values())
 
     def balance(self, member):
-        return self.members[member].credited - sum(it.charge - it.refund for it in self.bookings_of(member))
+        return self.members[member].credited - sum(
+            it.charge - it.refund for it in self.bookings_of(member)
+        )
 
     def open_count(self, member, moment, key=None):
-        rows = self.bookings[key].values() if self.plant == "quota_by_key" and key else self.bookings_of(member)
+        rows = (
+            self.bookings[key].values()
+            if self.plant == "quota_by_key" and key
+            else self.bookings_of(member)
+        )
         is_counted = self.plant == "counts_cancelled_as_open"
-        return sum(1 for it in rows if (is_counted or not it.is_cancelled) and start_of(it.slot) > moment)
+        return sum(
+            1 for it in rows if (is_counted or not it.is_cancelled) and start_of(it.slot) > moment
+        )
 
     def taken(self, slot):
         return self.taken_in.get(slot, 0)
 
     def most_taken(self, facility):
         """Returns the greatest number of persons that any slot of a facility has."""
-        return max((persons for slot, persons in self.taken_in.items() if slot[0] == facility), default=0)
+        return max(
+            (persons for slot, persons in self.taken_in.items() if slot[0] == facility), default=0
+        )
 
     # ---- a request under a pass
 
@@ -143,21 +166,44 @@ class Club:
         owes = request.action == "book" and facility and request.number not in self.bookings[name]
         if self.plant == "until_takes_its_minute":
             moment -= 1
-        return Ask(request.action, request.slot, facility.kind if facility else None, request.guests, moment,
-                   facility.price * (request.guests + 1) if owes else 0, self.spent(name))
+        return Ask(
+            request.action,
+            request.slot,
+            facility.kind if facility else None,
+            request.guests,
+            moment,
+            facility.price * (request.guests + 1) if owes else 0,
+            self.spent(name),
+        )
 
     def decide_view(self, _name, request, _moment):
         facility = self.facilities.get(request.slot[0])
         if not facility:
             return Refused(14)
-        return Served({"facility": request.slot[0], "day": request.slot[1], "hour": request.slot[2], "kind": facility.kind,
-                       "price": facility.price, "places": facility.places, "taken": self.taken(request.slot),
-                       "closed": request.slot in self.closed})
+        return Served(
+            {
+                "facility": request.slot[0],
+                "day": request.slot[1],
+                "hour": request.slot[2],
+                "kind": facility.kind,
+                "price": facility.price,
+                "places": facility.places,
+                "taken": self.taken(request.slot),
+                "closed": request.slot in self.closed,
+            }
+        )
 
     def decide_account(self, name, _request, moment):
         member = self.keys[name].member
-        return Served({"member": member, "balance": self.balance(member), "quota": self.members[member].quota,
-                       "open": self.open_count(member, moment, name), "spent": self.spent(name)})
+        return Served(
+            {
+                "member": member,
+                "balance": self.balance(member),
+                "quota": self.members[member].quota,
+                "open": self.open_count(member, moment, name),
+                "spent": self.spent(name),
+            }
+        )
 
     def booked(self, name, number, booking):
         left = booking.left
@@ -252,7 +298,9 @@ class Club:
         refuse_if("out of range", not are_limits(places, price, opens, shuts))
         refuse_if("unknown", name not in self.facilities)
         refuse_if("slot in use", self.most_taken(name) > places)
-        self.facilities[name] = replace(self.facilities[name], places=places, price=price, opens=opens, shuts=shuts)
+        self.facilities[name] = replace(
+            self.facilities[name], places=places, price=price, opens=opens, shuts=shuts
+        )
 
     def command_add_key(self, name, member, root):
         refuse_if("unknown", member not in self.members)
@@ -290,9 +338,12 @@ class Club:
 
     def sheet(self, day):
         """Returns the rows of a day sheet: facility, hour, key, number, persons and charge."""
-        return sorted((it.slot[0], it.slot[2], key, number, it.guests + 1, it.charge)
-                      for key, rows in self.bookings.items() for number, it in rows.items()
-                      if it.slot[1] == day and not it.is_cancelled)
+        return sorted(
+            (it.slot[0], it.slot[2], key, number, it.guests + 1, it.charge)
+            for key, rows in self.bookings.items()
+            for number, it in rows.items()
+            if it.slot[1] == day and not it.is_cancelled
+        )
 
 
 def are_limits(places, price, opens, shuts):

@@ -41,7 +41,9 @@ class Pass:
         return hmac.compare_digest(chain(root, self.identifier, self.caveats), self.signature)
 
     def narrowed(self, caveat):
-        return Pass(self.location, self.identifier, [*self.caveats, caveat], sign(self.signature, caveat))
+        return Pass(
+            self.location, self.identifier, [*self.caveats, caveat], sign(self.signature, caveat)
+        )
 
 
 def sign(key, text):
@@ -86,16 +88,16 @@ class Packets:
 
     def peek(self, key):
         """Returns the data of the next packet and the place where the packet ends. Returns None if the packet has another key."""
-        digits = self.data[self.at:self.at + 4]
+        digits = self.data[self.at : self.at + 4]
         if not re.fullmatch(rb"[0-9a-f]{4}", digits):
             raise Malformed
         end = self.at + int(digits, 16)
-        packet = self.data[self.at + 4:end]
+        packet = self.data[self.at + 4 : end]
         if end > len(self.data) or end < self.at + 5 or not packet.endswith(b"\n"):
             raise Malformed
         if not packet.startswith(key + b" "):
             return None
-        return packet[len(key) + 1:-1], end
+        return packet[len(key) + 1 : -1], end
 
     def take(self, key):
         found = self.peek(key)
@@ -175,7 +177,7 @@ class Fields:
         if self.byte() != kind:
             raise Malformed
         length = self.number()
-        value = self.data[self.at:self.at + length]
+        value = self.data[self.at : self.at + length]
         if len(value) != length:
             raise Malformed
         self.at += length
@@ -259,7 +261,9 @@ def has_lone_surrogate(value):
         return any("\ud800" <= it <= "\udfff" for it in value)
     if isinstance(value, list):
         return any(map(has_lone_surrogate, value))
-    return isinstance(value, dict) and any(has_lone_surrogate(it) for pair in value.items() for it in pair)
+    return isinstance(value, dict) and any(
+        has_lone_surrogate(it) for pair in value.items() for it in pair
+    )
 
 
 def json_value(data):
@@ -271,7 +275,13 @@ def json_value(data):
         seen.extend(found)
         return dict(found)
 
-    value = json.loads(data.decode(), object_pairs_hook=pairs, parse_int=whole_number, parse_float=finite, parse_constant=refused_constant)
+    value = json.loads(
+        data.decode(),
+        object_pairs_hook=pairs,
+        parse_int=whole_number,
+        parse_float=finite,
+        parse_constant=refused_constant,
+    )
     # serde_json checks a value even if a later value with the same name replaces it
     everything = [value, *(it for pair in seen for it in pair)]
     if any(map(has_lone_surrogate, everything)) or depth(data.decode()) > DEEPEST:
@@ -330,8 +340,12 @@ def json_names(name, data):
 
 
 def json_bytes(it):
-    value = {"c": [json_names("i", caveat) for caveat in it.caveats], **json_names("i", it.identifier),
-             "s64": to_base64(it.signature).decode(), "v": 2}
+    value = {
+        "c": [json_names("i", caveat) for caveat in it.caveats],
+        **json_names("i", it.identifier),
+        "s64": to_base64(it.signature).decode(),
+        "v": 2,
+    }
     if it.location:
         value |= json_names("l", it.location)
     return json.dumps(value, ensure_ascii=False, sort_keys=True, separators=(",", ":")).encode()
@@ -349,9 +363,15 @@ def from_base64(text):
     unused bits must be zero."""
     letters = text.rstrip(b"=")
     padding = len(text) - len(letters)
-    if not re.fullmatch(rb"[A-Za-z0-9_-]*|[A-Za-z0-9/+]*", letters) or len(letters) % 4 == 1 or padding not in (0, -len(letters) % 4):
+    if (
+        not re.fullmatch(rb"[A-Za-z0-9_-]*|[A-Za-z0-9/+]*", letters)
+        or len(letters) % 4 == 1
+        or padding not in (0, -len(letters) % 4)
+    ):
         raise Malformed
-    data = base64.urlsafe_b64decode(letters.translate(bytes.maketrans(b"/+", b"_-")) + b"=" * (-len(letters) % 4))
+    data = base64.urlsafe_b64decode(
+        letters.translate(bytes.maketrans(b"/+", b"_-")) + b"=" * (-len(letters) % 4)
+    )
     if to_base64(data) != letters.translate(bytes.maketrans(b"/+", b"_-")):
         raise Malformed
     return data

@@ -10,18 +10,72 @@ from .passes import NO_JSON, json_value
 
 MOST_HEAD, MOST_BODY, MOST_FIELDS = 16_384, 256, 32
 
-STATUSES = {1: 400, 2: 404, 3: 405, 4: 401, 5: 400, 6: 400, 7: 400, 8: 400, 9: 401, 10: 403, 11: 403, 12: 403, 13: 409, 14: 404,
-            15: 404, 16: 409, 17: 409, 18: 409, 19: 409, 20: 402, 21: 409, 22: 503}
-TEXTS = ("bad request", "no such path", "method not allowed", "no pass", "pass too long", "pass malformed", "third-party caveat",
-         "too many caveats", "not verified", "key revoked", "caveat not understood", "caveat denies", "number used",
-         "no such facility", "no such booking", "not bookable", "slot closed", "no places", "quota reached", "balance too low",
-         "slot has begun", "unavailable")
-PHRASES = {200: "OK", 400: "Bad Request", 401: "Unauthorized", 402: "Payment Required", 403: "Forbidden", 404: "Not Found",
-           405: "Method Not Allowed", 409: "Conflict", 503: "Service Unavailable"}
+STATUSES = {
+    1: 400,
+    2: 404,
+    3: 405,
+    4: 401,
+    5: 400,
+    6: 400,
+    7: 400,
+    8: 400,
+    9: 401,
+    10: 403,
+    11: 403,
+    12: 403,
+    13: 409,
+    14: 404,
+    15: 404,
+    16: 409,
+    17: 409,
+    18: 409,
+    19: 409,
+    20: 402,
+    21: 409,
+    22: 503,
+}
+TEXTS = (
+    "bad request",
+    "no such path",
+    "method not allowed",
+    "no pass",
+    "pass too long",
+    "pass malformed",
+    "third-party caveat",
+    "too many caveats",
+    "not verified",
+    "key revoked",
+    "caveat not understood",
+    "caveat denies",
+    "number used",
+    "no such facility",
+    "no such booking",
+    "not bookable",
+    "slot closed",
+    "no places",
+    "quota reached",
+    "balance too low",
+    "slot has begun",
+    "unavailable",
+)
+PHRASES = {
+    200: "OK",
+    400: "Bad Request",
+    401: "Unauthorized",
+    402: "Payment Required",
+    403: "Forbidden",
+    404: "Not Found",
+    405: "Method Not Allowed",
+    409: "Conflict",
+    503: "Service Unavailable",
+}
 
 TOKEN = rb"[A-Za-z0-9!#$%&'*+.^_`|~-]+"
 END = rb"\r?\n"
-HEAD = re.compile(rb"(?:%b)*(%b) ([^\x00-\x20\x7f]+) HTTP/1\.[01]%b((?:%b:[^\x00-\x08\x0a-\x1f\x7f]*%b)*)%b" % (END, TOKEN, END, TOKEN, END, END))
+HEAD = re.compile(
+    rb"(?:%b)*(%b) ([^\x00-\x20\x7f]+) HTTP/1\.[01]%b((?:%b:[^\x00-\x08\x0a-\x1f\x7f]*%b)*)%b"
+    % (END, TOKEN, END, TOKEN, END, END)
+)
 FIELD = re.compile(rb"(%b):([^\r\n]*)%b" % (TOKEN, END))
 
 PATH = re.compile(r"/slots/(%s)/([^/]*)/([^/]*)(?:/bookings/([1-9][0-9]{0,8}))?" % NAME)
@@ -41,7 +95,7 @@ def split(data):
     end = data.find(b"\r\n\r\n", 0, MOST_HEAD)
     if end < 0:
         raise NotDecoded(1)
-    head, rest = data[:end + 4], data[end + 4:]
+    head, rest = data[: end + 4], data[end + 4 :]
     found = HEAD.fullmatch(head)
     if not found:
         raise NotDecoded(1)
@@ -61,7 +115,11 @@ def values(fields, name):
 
 def body_of(method, fields, rest):
     lengths = values(fields, b"content-length") or [b"0"]
-    if values(fields, b"transfer-encoding") or len(lengths) > 1 or not re.fullmatch(rb"[0-9]{1,4}", lengths[0]):
+    if (
+        values(fields, b"transfer-encoding")
+        or len(lengths) > 1
+        or not re.fullmatch(rb"[0-9]{1,4}", lengths[0])
+    ):
         raise NotDecoded(1)
     length = int(lengths[0])
     if length > MOST_BODY or length > len(rest) or (length and method != b"PUT"):
@@ -109,7 +167,10 @@ def slot_request(method, target, guests):
     if not parts[4]:
         return {b"GET": Request("view", slot)}.get(method), "GET"
     number = int(parts[4])
-    return {b"PUT": Request("book", slot, number, guests), b"DELETE": Request("cancel", slot, number)}.get(method), "PUT, DELETE"
+    return {
+        b"PUT": Request("book", slot, number, guests),
+        b"DELETE": Request("cancel", slot, number),
+    }.get(method), "PUT, DELETE"
 
 
 def compact(body):
@@ -118,7 +179,11 @@ def compact(body):
 
 def bytes_with(status, body, methods=None):
     """Returns the bytes of a reply with this status and this body."""
-    lines = [f"HTTP/1.1 {status} {PHRASES[status]}", "Content-Type: application/json", f"Content-Length: {len(body)}"]
+    lines = [
+        f"HTTP/1.1 {status} {PHRASES[status]}",
+        "Content-Type: application/json",
+        f"Content-Length: {len(body)}",
+    ]
     if status == 401:
         lines.append("WWW-Authenticate: Bearer")
     if status == 405:
@@ -128,7 +193,9 @@ def bytes_with(status, body, methods=None):
 
 def reply_bytes(reply, methods=None):
     if isinstance(reply, Refused):
-        body = {"fault": reply.fault, "text": TEXTS[reply.fault - 1]} | ({"caveat": reply.caveat} if reply.caveat else {})
+        body = {"fault": reply.fault, "text": TEXTS[reply.fault - 1]} | (
+            {"caveat": reply.caveat} if reply.caveat else {}
+        )
         return bytes_with(STATUSES[reply.fault], compact(body), methods)
     body = dict(reply.body)
     if "day" in body:

@@ -21,7 +21,17 @@ from pathlib import Path
 from typing import Any, Callable, Union
 
 __all__ = [
-    "Ask", "CaveatFault", "Malformed", "NotAnAsk", "NoRoom", "Pass", "PassError", "ThirdParty", "TooLong", "TooMany", "is_caveat",
+    "Ask",
+    "CaveatFault",
+    "Malformed",
+    "NotAnAsk",
+    "NoRoom",
+    "Pass",
+    "PassError",
+    "ThirdParty",
+    "TooLong",
+    "TooMany",
+    "is_caveat",
 ]
 
 MAX_TEXT = 8192
@@ -79,8 +89,15 @@ class _AskObject(ctypes.Structure):
     """The struct `clubpass_ask` of the header."""
 
     _fields_ = [
-        ("owed", ctypes.c_uint64), ("spent", ctypes.c_uint64), ("action", ctypes.c_uint32), ("kind", ctypes.c_uint32), ("moment", ctypes.c_uint32),
-        ("day", ctypes.c_uint16), ("hour", ctypes.c_uint8), ("guests", ctypes.c_uint8), ("facility_len", ctypes.c_uint8),
+        ("owed", ctypes.c_uint64),
+        ("spent", ctypes.c_uint64),
+        ("action", ctypes.c_uint32),
+        ("kind", ctypes.c_uint32),
+        ("moment", ctypes.c_uint32),
+        ("day", ctypes.c_uint16),
+        ("hour", ctypes.c_uint8),
+        ("guests", ctypes.c_uint8),
+        ("facility_len", ctypes.c_uint8),
         ("facility", ctypes.c_uint8 * MAX_NAME),
     ]
 
@@ -88,9 +105,17 @@ class _AskObject(ctypes.Structure):
 def _load() -> ctypes.PyDLL:
     beside = Path(__file__).with_name("libclubpass.so.0")
     # PyDLL keeps the interpreter's lock during a call. A call takes microseconds, and releasing the lock would cost more time.
-    library = ctypes.PyDLL(os.environ.get("CLUBPASS_LIBRARY") or (str(beside) if beside.exists() else "libclubpass.so.0"))
+    library = ctypes.PyDLL(
+        os.environ.get("CLUBPASS_LIBRARY")
+        or (str(beside) if beside.exists() else "libclubpass.so.0")
+    )
     # Callers pass an _Object by `byref`. If the type of the argument were declared here, ctypes would test the type at each call.
-    text, size, pass_at, length = ctypes.c_char_p, ctypes.c_size_t, ctypes.c_void_p, ctypes.POINTER(ctypes.c_size_t)
+    text, size, pass_at, length = (
+        ctypes.c_char_p,
+        ctypes.c_size_t,
+        ctypes.c_void_p,
+        ctypes.POINTER(ctypes.c_size_t),
+    )
     code = ctypes.c_uint32
     for name, result, arguments in [
         ("read", code, None),
@@ -176,12 +201,30 @@ class Ask:
         day = 0 if self.day is None else (self.day - date(1970, 1, 1)).days
         if self.action not in _ACTIONS or self.kind not in _KINDS:
             raise NotAnAsk(f"no such action or kind: {self.action}, {self.kind}")
-        limits = [(self.hour, 8), (self.guests, 8), (self.owed, 64), (self.spent, 64), (minutes, 32), (day, 16)]
-        if (self.facility is not None and not 0 < len(name) <= MAX_NAME) or not all(0 <= value < 1 << bits for value, bits in limits):
+        limits = [
+            (self.hour, 8),
+            (self.guests, 8),
+            (self.owed, 64),
+            (self.spent, 64),
+            (minutes, 32),
+            (day, 16),
+        ]
+        if (self.facility is not None and not 0 < len(name) <= MAX_NAME) or not all(
+            0 <= value < 1 << bits for value, bits in limits
+        ):
             raise NotAnAsk(NotAnAsk.__doc__)
         return _AskObject(
-            self.owed, self.spent, _ACTIONS[self.action], _KINDS[self.kind], int(minutes), day, self.hour, self.guests, len(name),
-            (ctypes.c_uint8 * MAX_NAME)(*name))
+            self.owed,
+            self.spent,
+            _ACTIONS[self.action],
+            _KINDS[self.kind],
+            int(minutes),
+            day,
+            self.hour,
+            self.guests,
+            len(name),
+            (ctypes.c_uint8 * MAX_NAME)(*name),
+        )
 
 
 @dataclass(frozen=True)
@@ -234,7 +277,9 @@ class Pass:
         if not isinstance(root, bytes):
             raise _not_a_root(root)
         place, name, made = _bytes(location), _bytes(identifier), _made(cls)
-        _check(_library.clubpass_mint(root, len(root), place, len(place), name, len(name), made._at))
+        _check(
+            _library.clubpass_mint(root, len(root), place, len(place), name, len(name), made._at)
+        )
         return made
 
     def narrow(self, *caveats: Bytes) -> Pass:
@@ -256,7 +301,9 @@ class Pass:
     def first_fault(self, ask: Ask) -> CaveatFault | None:
         """Returns the first caveat that isn't understood or that denies the request, or None. The call doesn't test the signature."""
         number = ctypes.c_size_t()
-        code = _library.clubpass_first_fault(self._at, ctypes.byref(ask._object()), ctypes.byref(number))
+        code = _library.clubpass_first_fault(
+            self._at, ctypes.byref(ask._object()), ctypes.byref(number)
+        )
         if code in _VERDICTS:
             return CaveatFault(number.value, code == 11)
         _check(code)
@@ -266,7 +313,9 @@ class Pass:
         """Returns the text in a form: v1, v2 or json. Raises TooLong if the text would have more than 8,192 bytes, and NoRoom if memory runs out."""
         if form not in _FORMS:
             raise ValueError(f"no such form: {form}")
-        return self._told(lambda *out: _library.clubpass_write(self._at, _FORMS[form], *out)).decode()
+        return self._told(
+            lambda *out: _library.clubpass_write(self._at, _FORMS[form], *out)
+        ).decode()
 
     @property
     def form(self) -> str:
@@ -286,8 +335,10 @@ class Pass:
     @property
     def caveats(self) -> list[bytes]:
         """The caveats, in the order in which they were added."""
-        return [self._told(lambda *out, place=place: _library.clubpass_caveat(self._at, place, *out))
-                for place in range(_library.clubpass_caveat_count(self._at))]
+        return [
+            self._told(lambda *out, place=place: _library.clubpass_caveat(self._at, place, *out))
+            for place in range(_library.clubpass_caveat_count(self._at))
+        ]
 
     @property
     def signature(self) -> bytes:

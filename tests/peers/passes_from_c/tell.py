@@ -29,9 +29,18 @@ def tell_pass(root, text):
     except clubpass.PassError as error:
         return f"fault {NUMBERS[type(error)]}"
     again = clubpass.Pass.mint(data(root), found.identifier, found.location).narrow(*found.caveats)
-    return " ".join([
-        found.form, spelled(found.location), spelled(found.identifier), ",".join(map(spelled, found.caveats)) or "-", found.signature.hex(),
-        *(written(found, form) for form in ("v1", "v2", "json")), again.signature.hex(), "signed" if found.verify(data(root)) else "not signed"])
+    return " ".join(
+        [
+            found.form,
+            spelled(found.location),
+            spelled(found.identifier),
+            ",".join(map(spelled, found.caveats)) or "-",
+            found.signature.hex(),
+            *(written(found, form) for form in ("v1", "v2", "json")),
+            again.signature.hex(),
+            "signed" if found.verify(data(root)) else "not signed",
+        ]
+    )
 
 
 def tell_caveat(text):
@@ -39,14 +48,29 @@ def tell_caveat(text):
 
 
 def tell_verdict(text, action, kind, moment, facility, day, hour, guests, owed, spent):
-    slot = {} if facility == "-" else {"facility": facility, "day": date.fromisoformat(day), "hour": int(hour)}
+    slot = (
+        {}
+        if facility == "-"
+        else {"facility": facility, "day": date.fromisoformat(day), "hour": int(hour)}
+    )
     ask = clubpass.Ask(
-        action, datetime.fromisoformat(moment), kind=None if kind == "-" else kind, guests=int(guests), owed=int(owed), spent=int(spent), **slot)
+        action,
+        datetime.fromisoformat(moment),
+        kind=None if kind == "-" else kind,
+        guests=int(guests),
+        owed=int(owed),
+        spent=int(spent),
+        **slot,
+    )
     try:
         fault = clubpass.Pass.parse(data(text)).first_fault(ask)
     except clubpass.NotAnAsk:
         return "no ask"
-    return "allows" if fault is None else f"{'denies' if fault.understood else 'not understood'} {fault.number}"
+    return (
+        "allows"
+        if fault is None
+        else f"{'denies' if fault.understood else 'not understood'} {fault.number}"
+    )
 
 
 TELL = {"pass": tell_pass, "caveat": tell_caveat, "ask": tell_verdict}
