@@ -29,7 +29,7 @@ REFUSALS = {
     "no weekday": ("{word!r} is not a weekday such as tue", "{word!r} ist kein Wochentag, etwa di"),
     "no moment": (
         "{word!r} is not a moment (YYYY-MM-DDTHH:MM, 2000 to 2099)",
-        "{word!r} ist kein Zeitpunkt JJJJ-MM-TTTHH:MM von 2000 bis 2099",
+        "{word!r} ist kein Zeitpunkt von 2000 bis 2099: schreib JJJJ-MM-TT, dann T und die Uhrzeit, etwa 2026-12-05T18:00",
     ),
     "no copy name": (
         "{word!r} is not the name of a copy: `copies` lists the names",
@@ -296,7 +296,7 @@ REFUSALS = {
     "other copy": ("{why}; --copy chooses another copy", "{why}; --copy wählt eine andere Kopie"),
     "beside unread": (
         "the archive with the club's other files can't be read: {fault}",
-        "das Archiv der Dateien neben dem Verein lässt sich nicht lesen: {fault}",
+        "das Archiv mit den übrigen Dateien des Vereins lässt sich nicht lesen: {fault}",
     ),
     # Refusals about passes, and about the clerk's files.
     "root or input": (

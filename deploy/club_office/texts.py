@@ -260,7 +260,7 @@ TEXTS = {
     ),
     "revoked now": (
         "accepts the passes of {key} again: the key is no longer revoked",
-        "nimmt die Pässe von {key} wieder an, der jetzt widerrufen ist",
+        "nimmt die Pässe von {key} wieder an: der Schlüssel ist dann nicht mehr widerrufen",
     ),
     "loses": (
         "loses the booking {slot}, {persons}, {points} points: {key} {number}, {member}",
@@ -393,8 +393,8 @@ TEXTS = {
     "letter care": (
         "Anyone who has this sheet can book with your points. Once your browser keeps the pass, throw the sheet away, or guard the sheet like a house key."
         " If somebody else needs a pass, the office makes a separate pass. If you lose this sheet or your phone, call the office.",
-        "Wer dieses Blatt hat, kann mit deinen Punkten buchen. Wirf es danach weg, oder verwahre es wie einen Hausschlüssel. Für jemand anderen macht"
-        " das Büro einen eigenen Pass. Hast du das Blatt oder das Handy verloren, ruf im Büro an.",
+        "Wer dieses Blatt hat, kann mit deinen Punkten buchen. Sobald dein Browser den Pass gespeichert hat, wirf das Blatt weg oder verwahre es wie einen Hausschlüssel."
+        " Für jemand anderen macht das Büro einen eigenen Pass. Hast du das Blatt oder das Handy verloren, ruf im Büro an.",
     ),
     "letters made": (
         "{count} sheets for {members} members are in {file}",
