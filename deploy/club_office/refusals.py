@@ -90,7 +90,7 @@ REFUSALS = {
     ),
     "root from input": (
         "{command}: with --desk or --own, give --root-stdin, without ROOT or --to",
-        "{command}: gib mit --desk oder --own auch --root-stdin an, ohne WURZEL und --to",
+        "{command}: gib mit --desk oder --own auch --root-stdin an, ohne GEHEIMNIS und --to",
     ),
     "club unread": (
         "the club's file can't be read",
@@ -116,7 +116,7 @@ REFUSALS = {
     ),
     "book unwritten": (
         "the command ended with status {status}, but the book can't be written: {fault}",
-        "der Befehl endete mit Status {status}, aber das Buch lässt sich nicht schreiben: {fault}",
+        "der Befehl endete mit Status {status}, aber das Protokoll lässt sich nicht schreiben: {fault}",
     ),
     "command undone": (
         "{order}: {said}. Repeat the command: nothing is done twice",
@@ -276,11 +276,11 @@ REFUSALS = {
     ),
     "file unread": (
         "the club's file can't be read, and is kept next to the new one if the old file exists: {fault}",
-        "die Datei des Vereins lässt sich nicht lesen und bleibt, falls es sie gibt, neben der neuen: {fault}",
+        "die Datei des Vereins lässt sich nicht lesen und bleibt, falls es sie gibt, neben der neuen erhalten: {fault}",
     ),
     "file unsound": (
         "the club's file is damaged, and is kept next to the new one: {fault}",
-        "die Datei des Vereins ist beschädigt und bleibt neben der neuen: {fault}",
+        "die Datei des Vereins ist beschädigt und bleibt neben der neuen erhalten: {fault}",
     ),
     # Restoring a lost club.
     "place without copy": ("{place} has no copy {called}", "{place} hat keine Kopie {called}"),
@@ -301,7 +301,7 @@ REFUSALS = {
     # Refusals about passes, and about the clerk's files.
     "root or input": (
         "{command}: give a ROOT or --root-stdin, not both",
-        "{command}: gib eine WURZEL oder --root-stdin an, nicht beides",
+        "{command}: gib ein GEHEIMNIS oder --root-stdin an, nicht beides",
     ),
     "file there": ("the file {path} already exists", "die Datei {path} gibt es schon"),
     "file by now": (
@@ -340,7 +340,7 @@ REFUSALS = {
     ),
     "roots": (
         "import-row needs a key's roots on standard input, each with 64 hexadecimal digits",
-        "import-row liest die Wurzeln eines Schlüssels von der Standardeingabe, je 64 hexadezimale Ziffern",
+        "import-row liest die Geheimnisse eines Schlüssels von der Standardeingabe, je 64 hexadezimale Ziffern",
     ),
     "twins": (
         "{path}: lines {lines} have the same {column}, {value}: use different names",
@@ -367,8 +367,8 @@ REFUSALS = {
         "more or fewer cells than in the first line",
         "mehr oder weniger Zellen als in der ersten Zeile",
     ),
-    "no quota": ("no quota", "keine Anzahl von Buchungen"),
-    "no points": ("no points", "keine Punkte"),
+    "no quota": ("the quota is missing", "die Anzahl der Buchungen fehlt"),
+    "no points": ("the points are missing", "die Punkte fehlen"),
     # Persons, calls.
     "person too long": (
         "a name, mail address or telephone number has more than {most} characters, or an unprintable character",
@@ -385,7 +385,7 @@ REFUSALS = {
     ),
     "desk silent": (
         "the desk on port {port} doesn't answer: {fault}",
-        "der Server an Port {port} antwortet nicht: {fault}",
+        "der Server auf Port {port} antwortet nicht: {fault}",
     ),
     "desk says": ("the desk says: {text}", "der Server sagt: {text}"),
     "no office key": (
@@ -530,7 +530,7 @@ REFUSALS = {
     "limit balance": ("balance below 0: {row}", "Punktestand unter 0: {row}"),
     "limit hours": (
         "the opening hour isn't before the closing hour: {row}",
-        "öffnet nicht vor dem Schließen: {row}",
+        "die Öffnungszeit liegt nicht vor der Schließzeit: {row}",
     ),
     "limit places": ("more persons than places: {row}", "mehr Personen als Plätze: {row}"),
     "limit refund": (

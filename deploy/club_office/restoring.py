@@ -90,7 +90,10 @@ def age_text(seconds):
     """Returns a copy's age in the largest suitable unit."""
     for unit, size in (("days", 86_400), ("hours", 3_600), ("minutes", 60)):
         if seconds >= 2 * size or unit == "minutes":
-            return say(f"age {unit}", count=int(max(seconds, 0) // size))
+            count = int(max(seconds, 0) // size)
+            return say(
+                "age minute" if (unit, count) == ("minutes", 1) else f"age {unit}", count=count
+            )
     return None
 
 

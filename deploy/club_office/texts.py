@@ -48,7 +48,7 @@ TEXTS = {
         "this is not a number from {least} to {most}",
         "keine Zahl von {least} bis {most}",
     ),
-    "no name": ("this answer isn't possible", "diese Antwort geht nicht"),
+    "no name": ("this answer isn't possible", "diese Antwort ist nicht möglich"),
     "taken name": ("{name} already exists", "{name} gibt es schon"),
     "none yet": ("there are none", "es gibt keine"),
     # The menu.
@@ -75,7 +75,7 @@ TEXTS = {
     "group courts": ("COURTS, BOATS, ROOMS", "PLÄTZE, BOOTE, RÄUME"),
     "group tournament": ("TOURNAMENT, RAIN", "TURNIER, REGEN"),
     "group season": ("SEASON", "SAISON"),
-    "group copies": ("COPIES, THE BOOK", "KOPIEN, DAS BUCH"),
+    "group copies": ("COPIES, THE BOOK", "KOPIEN, PROTOKOLL"),
     "task today": ("who comes today", "wer heute kommt"),
     "task sheet": ("the sheet of a day", "die Tagesliste"),
     "task day": ("a day's bookings", "wer für einen Tag gebucht hat"),
@@ -89,7 +89,7 @@ TEXTS = {
     "task credit all": ("the season's points for everyone", "Saisonpunkte für alle"),
     "task training": ("close slots each week, for training", "jede Woche sperren, fürs Training"),
     "task report": ("a report for the board", "der Bericht für den Vorstand"),
-    "task page": ("rebuild the booking page's list", "die Liste der Seite neu machen"),
+    "task page": ("rebuild the booking page's list", "die Buchungsseite aktualisieren"),
     "task undo": ("undo the last correction", "letzte Korrektur zurücknehmen"),
     "task key": ("another key, for a device", "ein weiterer Schlüssel, für ein Gerät"),
     "task lost": ("a lost pass", "ein verlorener Pass"),
@@ -104,7 +104,7 @@ TEXTS = {
     "task facilities": ("all facilities", "alle Anlagen"),
     "task new facility": ("a new facility", "eine Anlage anlegen"),
     "task set facility": ("price, places or hours", "Preis, Plätze oder Zeiten"),
-    "task facility": ("who has booked a facility", "wer eine gebucht hat"),
+    "task facility": ("who has booked a facility", "wer eine Anlage gebucht hat"),
     "task close": ("close for a tournament", "sperren für ein Turnier"),
     "task rain": ("rain: all points back", "Regen: alle Punkte zurück"),
     "task closed": ("what is closed", "was gesperrt ist"),
@@ -131,7 +131,7 @@ TEXTS = {
     "ask guests": ("How many guests come along", "Wie viele kommen mit"),
     "ask label": (
         "A name for the credit, such as {example}; no member gets the credit twice",
-        "Ein Name für die Gutschrift, etwa {example}: jede gibt es nur einmal",
+        "Ein Name für die Gutschrift, etwa {example}; kein Mitglied bekommt sie zweimal",
     ),
     "ask why": ("The reason, which the booking page shows", "Grund, den die Seite zeigt"),
     "ask points": ("Points", "Punkte"),
@@ -141,7 +141,7 @@ TEXTS = {
     "ask telephone": ("Telephone [{now}]: ", "Telefon [{now}]: "),
     "ask quota": (
         "Open bookings that the member may have at a time, 0 to 99",
-        "Offene Buchungen zugleich, 0 bis 99",
+        "Wie viele Buchungen zugleich offen sein dürfen, 0 bis 99",
     ),
     "ask booking": ("Which booking", "Welche Buchung"),
     "ask copy": ("Which copy", "Welche Kopie"),
@@ -172,7 +172,7 @@ TEXTS = {
     ),
     "member has": (
         "{balance} points, and at most {quota} open bookings at a time",
-        "{balance} Punkte, {quota} Buchungen zugleich",
+        "{balance} Punkte, höchstens {quota} offene Buchungen",
     ),
     "lost removed": (
         "{path} contained the lost pass and was removed",
@@ -197,31 +197,31 @@ TEXTS = {
     ),
     "quota of": (
         "quota of {member} changes from {before} to {then}",
-        "gleichzeitige Buchungen von {member}: {before}, dann {then}",
+        "offene Buchungen von {member}: bisher höchstens {before}, künftig {then}",
     ),
     "balance of": (
         "balance of {member} changes from {before} to {then}",
-        "Punktestand von {member}: {before}, dann {then}",
+        "Punktestand von {member}: bisher {before}, künftig {then}",
     ),
     "price of": (
         "price of {facility} changes from {before} to {then}; existing bookings keep their charge",
-        "Preis von {facility}: {before}, dann {then}; was gebucht ist, behält seinen Preis",
+        "Preis von {facility}: bisher {before}, künftig {then}; was gebucht ist, behält seinen Preis",
     ),
     "places of": (
         "places of {facility} change from {before} to {then}",
-        "Plätze von {facility}: {before}, dann {then}",
+        "Plätze von {facility}: bisher {before}, künftig {then}",
     ),
     "hours of": (
         "hours of {facility} change from {before} to {then}",
-        "Zeiten von {facility}: {before}, dann {then}",
+        "Zeiten von {facility}: bisher {before}, künftig {then}",
     ),
     "revokes": (
         "revokes the key {key} and renames it to {then}",
-        "widerruft den Schlüssel {key}, der zu {then} wird",
+        "widerruft den Schlüssel {key} und nennt ihn {then}",
     ),
     "becomes": (
         "renames member {member} to {then}, with quota 0 and a balance of {balance}",
-        "Mitglied {member} wird zu {then}, kann nichts mehr buchen und hat noch {balance} Punkte",
+        "Mitglied {member} heißt künftig {then}, darf nichts mehr buchen und behält {balance} Punkte",
     ),
     "copies to": ("copies the whole file to {path}", "kopiert die Datei, wie sie ist, nach {path}"),
     "takes out": (
@@ -326,6 +326,7 @@ TEXTS = {
     "back-up": ("back-up", "nächtlich"),
     "before a correction": ("before a correction", "vor einer Korrektur"),
     "off-site": ("off-site", "außer Haus"),
+    "age minute": ("1 minute", "1 Minute"),
     "age minutes": ("{count} minutes", "{count} Minuten"),
     "age hours": ("{count} hours", "{count} Stunden"),
     "age days": ("{count} days", "{count} Tage"),
@@ -345,7 +346,7 @@ TEXTS = {
     ),
     "points lost": (
         "the restore removed the credit {label}: to give it again, use credit-all",
-        "{label} ist nicht mehr gutgeschrieben: credit-all schreibt es wieder gut",
+        "die Gutschrift {label} ist mit dem Zurückspielen weg; credit-all schreibt sie wieder gut",
     ),
     "credited before": ("{count} members already have these points", "{count} haben sie schon"),
     "credited": (
@@ -364,7 +365,7 @@ TEXTS = {
     "row keys": ("the key {row}", "den Schlüssel {row}"),
     "row slots": ("the slot {row}", "die Zeit {row}"),
     "row bookings": ("the booking {row}", "die Buchung {row}"),
-    "row old_roots": ("the older root of {row}", "die ältere Wurzel von {row}"),
+    "row old_roots": ("the older root of {row}", "das alte Geheimnis von {row}"),
     # Letters.
     "letter title": ("Book at {club}", "Buchen bei {club}"),
     "letter first": (
@@ -456,7 +457,7 @@ TEXTS = {
 HEADS = {
     "member": "Mitglied",
     "balance": "Punkte",
-    "quota": "zugleich",
+    "quota": "max. offen",
     "open": "offen",
     "keys": "Schlüssel",
     "name": "Name",
@@ -469,12 +470,12 @@ HEADS = {
     "key": "Schlüssel",
     "revoked": "widerrufen",
     "spent": "ausgegeben",
-    "older root until": "ältere Wurzel bis",
+    "older root until": "altes Geheimnis bis",
     "day": "Tag",
     "hour": "Stunde",
     "number": "Nummer",
     "persons": "Personen",
-    "charge": "Preis",
+    "charge": "berechnet",
     "cancelled": "abgesagt",
     "refund": "zurück",
     "credited": "gutgeschrieben",

@@ -348,8 +348,8 @@ def refused_in_german():
     )
     same(
         "a list's heads",
-        german("members")[1].split()[:5],
-        ["Mitglied", "Punkte", "zugleich", "offen", "Schlüssel"],
+        german("members")[1].split()[:6],
+        ["Mitglied", "Punkte", "max.", "offen", "offen", "Schlüssel"],
     )
     same(
         "comma-separated values aren't translated",
