@@ -116,11 +116,9 @@ class Club:
         )
 
     def open_count(self, member, moment, key=None):
-        rows = (
-            self.bookings[key].values()
-            if self.plant == "quota_by_key" and key
-            else self.bookings_of(member)
-        )
+        rows = self.bookings_of(member)
+        if self.plant == "quota_by_key" and key:
+            rows = self.bookings[key].values()
         is_counted = self.plant == "counts_cancelled_as_open"
         return sum(
             1 for it in rows if (is_counted or not it.is_cancelled) and start_of(it.slot) > moment
