@@ -1,7 +1,8 @@
 #!/usr/bin/env python3
 """A client of the desk, written with Python's standard library.
 
-    client.py book FACILITY DAY HOUR GUESTS   books under a new random number
+    client.py book FACILITY DAY HOUR GUESTS [POINTS]
+                                              books under a new random number, for at most POINTS
     client.py cancel NUMBER                   cancels the booking with this number
     client.py repeat                          sends again each request that has no reply yet
     client.py list                            shows the bookings on record
@@ -12,6 +13,9 @@ The environment variable DESK is the desk's address (by default http://127.0.0.1
 pass). Before the client sends a booking or cancellation, it writes the request to the file RECORD (by default record). The client also writes the
 reply to this file. If no reply comes, the client repeats the request for PATIENCE seconds (by default 60). The client prints each reply. The client
 exits with status 1 after a refusal, and with status 3 if no reply came. After status 3, the command `repeat` finishes the request.
+
+The desk charges at most POINTS, by default the price that the slot has when the command begins. If the price has risen, the desk refuses the booking,
+and the printed reply also has the new price for one person. For this, the client narrows the pass, which must be in V2 (passtool convert --form v2).
 """
 import fcntl
 import json
@@ -22,8 +26,10 @@ import time
 from http.client import HTTPConnection, HTTPException, HTTPSConnection
 from urllib.parse import urlsplit
 
-NUMBER_USED, UNAVAILABLE = 13, 22
-LARGEST_NUMBER = 999_999_999
+from narrow import narrow
+
+CAVEAT_DENIES, NUMBER_USED, UNAVAILABLE = 12, 13, 22
+LARGEST_NUMBER = MOST_POINTS = 999_999_999
 TIMEOUT, FIRST_PAUSE, LONGEST_PAUSE = 10, 0.05, 5  # seconds
 
 
@@ -74,12 +80,12 @@ class Client:
     def __init__(self, address, text, record, patience=60):
         self.address, self.text, self.record, self.patience = address, text, record, patience
 
-    def _exchange(self, method, path, body):
+    def _exchange(self, method, path, body, text):
         at = urlsplit(self.address)
         kind = HTTPSConnection if at.scheme == "https" else HTTPConnection
         connection = kind(at.hostname, at.port, timeout=TIMEOUT)
         try:
-            fields = {"Authorization": b"Bearer " + self.text.encode()}
+            fields = {"Authorization": b"Bearer " + text.encode()}
             connection.request(method, path, body, fields)
             response = connection.getresponse()
             reply = json.loads(response.read())
@@ -92,12 +98,12 @@ class Client:
             raise NoReply(f"status {response.status}")
         return reply
 
-    def _ask(self, method, path, body=None):
+    def _ask(self, method, path, body=None, text=None):
         """Sends a request until the desk replies. A repeated request has no second effect."""
         end, pause = time.monotonic() + self.patience, FIRST_PAUSE
         while True:
             try:
-                return self._exchange(method, path, body)
+                return self._exchange(method, path, body, text or self.text)
             except NoReply:
                 if time.monotonic() > end:
                     raise
@@ -109,19 +115,53 @@ class Client:
         booking = self.record.bookings[number]
         path = "/slots/{facility}/{day}/{hour}/bookings/{number}".format(number=number, **booking)
         if action == "book":
-            reply = self._ask("PUT", path, b'{"guests":%d}' % booking["guests"])
+            reply = self._book_at_price(path, booking)
         else:
             reply = self._ask("DELETE", path)
         self.record.keep(number=number, action=action, reply=reply)
         return reply
 
-    def book(self, facility, day, hour, guests):
-        """Books under a new random number. Draws a new number if another program with a pass of the same key used the number."""
+    def _book_at_price(self, path, booking):
+        """Sends a booking so that the desk charges at most the recorded points. If the price has risen, the reply has the new price."""
+        points, body = booking.get("points"), b'{"guests":%d}' % booking["guests"]
+        before = None
+        while True:
+            spent = None if points is None else self.account().get("spent")
+            if spent is None:  # no price was shown, or the pass doesn't show the account
+                return self._ask("PUT", path, body)
+            limit = f"spend <= {min(spent + points, MOST_POINTS)}"
+            reply = self._ask("PUT", path, body, narrow(self.text, [limit]))
+            if reply.get("fault") != CAVEAT_DENIES:
+                return reply
+            price = self.show(booking["facility"], booking["day"], booking["hour"]).get("price", 0)
+            if price * (booking["guests"] + 1) > points:
+                return {**reply, "price": price}
+            if spent == before:  # another caveat of the pass denies the booking
+                return reply
+            before = spent  # the key spent points elsewhere in the meantime
+
+    def price_of(self, facility, day, hour, guests):
+        """Returns the points for a booking at the slot's present price, or None if the pass doesn't show the slot."""
+        price = self.show(facility, day, hour).get("price")
+        return None if price is None else price * (guests + 1)
+
+    def book(self, facility, day, hour, guests, points=None):
+        """Books under a new random number, for at most `points`, by default for the present price. Draws a new number if another program with a pass
+        of the same key used the number."""
+        narrow(self.text, [])  # fails if the pass isn't in V2
+        if points is None:
+            points = self.price_of(facility, day, hour, guests)
         while True:
             number = random.randint(1, LARGEST_NUMBER)
             if number in self.record.bookings:
                 continue
-            words = {"facility": facility, "day": day, "hour": hour, "guests": guests}
+            words = {
+                "facility": facility,
+                "day": day,
+                "hour": hour,
+                "guests": guests,
+                "points": points,
+            }
             self.record.keep(number=number, action="book", words=words)
             reply = self._finish(number, "book")
             if reply.get("fault") != NUMBER_USED:
@@ -155,6 +195,8 @@ def main(action="", *words):
     match action, words:
         case "book", (facility, day, hour, guests):
             replies = [client.book(facility, day, hour, int(guests))]
+        case "book", (facility, day, hour, guests, points):
+            replies = [client.book(facility, day, hour, int(guests), int(points))]
         case "cancel", (number,) if int(number) in record.bookings:
             replies = [client.cancel(int(number))]
         case "repeat", ():
@@ -178,3 +220,5 @@ if __name__ == "__main__":
     except NoReply as fault:
         print(f"no reply: {fault}", file=sys.stderr)
         sys.exit(3)
+    except ValueError as fault:
+        sys.exit(f"client.py: {fault}")

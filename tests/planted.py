@@ -52,6 +52,12 @@ PLANTS = {
         "",
         "test_servers_and_clients_that_are_killed",
     ),
+    "client_survives:price": (
+        "examples/client.py",
+        "min(spent + points, MOST_POINTS)",
+        "MOST_POINTS",
+        "test_a_price_that_rose",
+    ),
     "clock_out_of_range": (
         "clubdesk",
         BY_HAND,
@@ -136,6 +142,18 @@ PLANTS = {
         "{ ...own, guests: other.guests ?? own.guests, listed: other.listed }",
         "other",
         "a list after cancelling",
+    ),
+    "modules_hold:price-rises": (
+        "web/src/price.mjs",
+        "Math.min(most, MOST_POINTS)",
+        "MOST_POINTS",
+        "charged the new price",
+    ),
+    "modules_hold:price-of-repeat": (
+        "web/src/replies.mjs",
+        " && !isOfPrice(reply)",
+        "",
+        "the refusal shows that nothing is booked",
     ),
     "machine_lives": (
         "deploy/Caddyfile",
@@ -499,8 +517,8 @@ PLANTS = {
     ),
     "page_books:spends-from-nothing": (
         "web/src/lend.mjs",
-        "spend <= ${Math.min(spent + points, MOST_SPENT)}",
-        "spend <= ${Math.min(points, MOST_SPENT)}",
+        "spend <= ${Math.min(spent + points, MOST_POINTS)}",
+        "spend <= ${Math.min(points, MOST_POINTS)}",
         "a second loan",
         ".",
         "lends",

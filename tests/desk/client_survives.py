@@ -183,7 +183,7 @@ def own(new_club, tmp_path):
 
 def test_commands(own):
     club, prints = own
-    with club.served(count=8) as it:
+    with club.served(count=12) as it:
         status, printed, number = prints(it.port, "book court-1 2026-05-01 18 2")
         assert (status, printed) == (0, '{"booking":"amy-1/N","charge":600,"left":1}\n')
         for words, wanted, text in (
@@ -200,19 +200,39 @@ def test_commands(own):
             (
                 "list",
                 0,
-                '{"number":N,"book":{"booking":"amy-1/N","charge":600,"left":1},"facility":"court-1","day":"2026-05-01","hour":"18","guests":2,'
+                '{"number":N,"book":{"booking":"amy-1/N","charge":600,"left":1},"facility":"court-1","day":"2026-05-01","hour":"18","guests":2,"points":600,'
                 '"cancel":{"booking":"amy-1/N","refund":600}}\n'
-                '{"number":N,"book":{"fault":18,"text":"no places"},"facility":"court-1","day":"2026-05-01","hour":"18","guests":1}\n',
+                '{"number":N,"book":{"fault":18,"text":"no places"},"facility":"court-1","day":"2026-05-01","hour":"18","guests":1,"points":400}\n',
             ),
         ):
             assert prints(it.port, words)[:2] == (wanted, text)
         for _ in range(2):
             prints(it.port, "account")
-    # If no server listens, the request stays in the record. The client finishes the request when a server runs again.
-    assert prints(it.port, "book court-1 2026-05-02 18 0")[:2] == (3, "")
-    with club.served(count=1) as it:
+    # If no server listens, the request stays in the record. The client finishes the request when a server runs again. Without a stated price, the
+    # client can't look at the price, so it neither records nor sends a request.
+    assert prints(it.port, "book court-1 2026-05-02 18 0 200")[:2] == (3, "")
+    assert prints(it.port, "book court-1 2026-05-02 19 0")[:2] == (3, "")
+    with club.served(count=2) as it:
         assert prints(it.port, "repeat")[:2] == (0, '{"booking":"amy-1/N","charge":200,"left":3}\n')
     assert prints(it.port, "borrow")[:2] == (1, "")
+
+
+def test_a_price_that_rose(own, tmp_path):
+    """The desk charges at most the stated price, or the price that the slot had when the command began."""
+    club, prints = own
+    with club.served(count=6) as it:
+        club.does("set-facility court-1 4 450 8 22")
+        assert prints(it.port, "book court-1 2026-05-01 18 1 400")[:2] == (
+            1,
+            '{"fault":12,"text":"caveat denies","caveat":1,"price":450}\n',
+        )
+        assert prints(it.port, "book court-1 2026-05-01 18 1 900")[:2] == (
+            0,
+            '{"booking":"amy-1/N","charge":900,"left":2}\n',
+        )
+        prints(it.port, "account")
+    (tmp_path / "pass").write_text("TURBeyJ9")
+    assert prints(it.port, "book court-1 2026-05-01 19 1 900")[:2] == (1, "")
 
 
 def test_proxy_that_fails(own):
@@ -223,7 +243,7 @@ def test_proxy_that_fails(own):
         ("PUT", "book court-1 2026-05-03 18 0", '{"booking":"amy-1/N","charge":200,"left":3}\n'),
         ("DELETE", "cancel ", '{"booking":"amy-1/N","refund":200}\n'),
     ):
-        with club.served(count=4) as it:
+        with club.served(count=6 if method == "PUT" else 4) as it:
             proxy = Between(it.port)
             proxy.fates[method] = list(FAILURES)
             status, printed, number = prints(proxy.port, words + number, 60)

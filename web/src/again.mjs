@@ -1,13 +1,14 @@
 // The actions on a booking, except the cancellation. They add the booking to a calendar, invite somebody, book the same hour a week later, or change
 // the booking.
-import { offerBooking, slotText } from "./booking_dialog.mjs";
+import { offerBooking } from "./booking_dialog.mjs";
 import { calendarText } from "./calendar.mjs";
 import { facilityOf, hoursOf, titleOf, whyClosed } from "./club.mjs";
 import { daysLater, hourText } from "./dates.mjs";
 import { ask } from "./desk.mjs";
 import { closeDialog, openDialog, tell } from "./dialog.mjs";
+import { outcomeBox, slotText } from "./dialog_parts.mjs";
 import { button, element } from "./elements.mjs";
-import { isDenied, owedFor } from "./points.mjs";
+import { agreedFor, isDenied, owedFor } from "./points.mjs";
 import { hasBegun, isAt, isTooFarAhead, MOST_GUESTS, refundAt, stateOf, unfinished } from "./record.mjs";
 import { noReplyText, refusalText } from "./refusals.mjs";
 import { NoReply } from "./replies.mjs";
@@ -108,8 +109,7 @@ function offerChange(entry, whenDone) {
     label.htmlFor = field.id;
     return element("div", "", label, field);
   });
-  const outcome = element("div", "outcome-box");
-  outcome.setAttribute("aria-live", "polite");
+  const outcome = outcomeBox();
   const next = button("main wide-button", say("change-look"), async () => {
     const guests = Number(guestField.value);
     const slot = { facility: entry.facility, day: entry.day, hour: Number(hourField.value) };
@@ -129,12 +129,11 @@ async function confirmChange(entry, slot, guests, whenDone) {
   const found = await lookedUp(slot, title);
   if (found === null) return;
   const why = isDenied(slot, found.view, guests) ? say("cell-denied") : null;
-  const outcome = element("div", "outcome-box");
-  outcome.setAttribute("aria-live", "polite");
+  const outcome = outcomeBox();
   const back = refundAt(entry, clubMoment());
   const press = button("main wide-button", say(found.view === null ? "change-now-unseen" : "change-now", { count: owedFor(found.view, guests) }), () => {
     press.disabled = true;
-    change(entry, slot, guests, outcome, press);
+    change({ entry, slot, guests, agreed: agreedFor(found.view, guests), outcome, press });
   });
   openDialog(title, [
     element("p", "slot-time", slotText(slot)), element("p", "", say("persons", { count: guests + 1 })),
@@ -152,19 +151,19 @@ function decidedOf(entry) {
   });
 }
 
-async function change(entry, slot, guests, outcome, press) {
+async function change({ entry, slot, guests, agreed, outcome, press }) {
   outcome.replaceChildren(element("p", "sending", say("sending")));
   const end = (className, ...words) => {
     outcome.replaceChildren(element("p", className, ...words));
     press.replaceWith(button("main wide-button", say("close"), closeDialog));
   };
   try {
-    const made = await state.sender.book(slot, guests, true);
+    const made = await state.sender.book(slot, guests, true, agreed);
     const asked = decidedOf(made);
     await state.sender.run();
     const now = await asked;
     if (stateOf(now) !== "booked") {
-      end("fault", element("strong", "", say("change-none")), " ", refusalText(now.stopped ?? now.book, "book", slot));
+      end("fault", element("strong", "", say("change-none")), " ", refusalText(now.stopped ?? now.book, "book", now));
       return;
     }
     await state.sender.cancel(entry.key, entry.number);

@@ -1,31 +1,24 @@
-// The dialogs for booking and cancelling. A dialog first shows the cost or the refund. After the member presses the button, the dialog shows the
-// result.
+// The dialogs for booking. A dialog first shows the cost. After the member presses the button, the dialog shows the result.
+// The request to book is for the shown cost: the desk never charges more (price.mjs).
 import { facilityOf, titleOf, whyClosed } from "./club.mjs";
-import { hourText, startOf } from "./dates.mjs";
-import { closeDialog, isDialogOpen, openDialog } from "./dialog.mjs";
+import { fetchClub } from "./club_loading.mjs";
+import { offerCancellation } from "./cancel_dialog.mjs";
+import { startOf } from "./dates.mjs";
+import { ask } from "./desk.mjs";
+import { closeDialog, openDialog } from "./dialog.mjs";
+import { faultBox, finish, outcomeBox, slotText, unsavedNote, waitingWords } from "./dialog_parts.mjs";
 import { button, element } from "./elements.mjs";
 import { keepLastBooked } from "./keeping.mjs";
 import { endOf } from "./lend.mjs";
 import { fact, untilText } from "./pass_words.mjs";
-import { isDenied, owedFor } from "./points.mjs";
-import { MOST_GUESTS, personsOf, refundAt, stateOf, unfinished } from "./record.mjs";
-import { noReplyText, refusalText } from "./refusals.mjs";
+import { agreedFor, isDenied, owedFor } from "./points.mjs";
+import { MOST_GUESTS, personsOf, stateOf, unfinished } from "./record.mjs";
+import { refusalText } from "./refusals.mjs";
+import { NoReply, NO_SUCH_FACILITY, NOT_BOOKABLE } from "./replies.mjs";
 import { NotStored } from "./sender.mjs";
-import { clubMoment, denial, liveAt, ownAt, state } from "./state.mjs";
-import { dateText, dayText, say } from "./words.mjs";
-
-const SEEN_AFTER = 1000; // milliseconds until the page says that there is no answer yet
-const LONG_AFTER = 10000;
-
-export function slotText({ day, hour }, words = dateText) {
-  return say("slot-time", { day: words(day), from: `${hourText(hour)}:00`, to: `${hourText(hour + 1)}:00` });
-}
-
-function faultBox(title, words) {
-  const box = element("div", "fault", element("strong", "", title), element("span", "", words));
-  box.setAttribute("role", "alert");
-  return box;
-}
+import { hourChanges, slotChanges } from "./slot_changes.mjs";
+import { denial, liveAt, ownAt, state } from "./state.mjs";
+import { say } from "./words.mjs";
 
 function closedText(slot) {
   const why = whyClosed(state.club, slot);
@@ -63,7 +56,7 @@ export function offerBooking(slot, view, whenDone) {
   const mine = own.length > 0 ? own : liveAt(slot);
   const title = say("book-this", { facility: titleOf(state.club, slot.facility) });
   if (mine.length > 0) offerSecond(slot, view, mine, title, whenDone);
-  else offerFirst(slot, view, title, false, whenDone);
+  else new BookingChoice({ slot, view, isMeant: false, whenDone }).open(title);
 }
 
 function offerSecond(slot, view, mine, title, whenDone) {
@@ -73,57 +66,103 @@ function offerSecond(slot, view, mine, title, whenDone) {
   const known = isKnown ? say("second", { facility, count }) : say("second-unknown", { facility });
   const words = mine.every((entry) => stateOf(entry) === "listed") ? say("second-listed", { facility }) : known;
   const isToCancel = mine.length === 1 && stateOf(mine[0]) === "booked" && denial("cancel", slot) === 0;
-  const hasRoom = view === null || (!view.closed && view.taken < view.places);
+  const isFree = view === null || hasPlaces(view);
   openDialog(say("second-title"), [
     element("p", "slot-time", slotText(slot)), view?.closed ? closedOwn(slot) : element("p", "", words),
     element("div", "buttons",
       button("main", say("back"), closeDialog),
       ...(isToCancel ? [button("danger", say("cancel-yes"), () => offerCancellation(mine[0], whenDone))] : []),
-      ...(hasRoom && !isDenied(slot, view, 0) ? [button("", say("second-yes"), () => offerFirst(slot, view, title, true, whenDone))] : [])),
+      ...(isFree && !isDenied(slot, view, 0) ? [button("", say("second-yes"), () => new BookingChoice({ slot, view, isMeant: true, whenDone }).open(title))] : [])),
   ], whenDone);
 }
 
-function offerFirst(slot, view, title, isMeant, whenDone) {
-  const most = mostGuests(slot, view);
-  let guests = 0;
-  const number = element("output", "count");
-  const facts = element("dl", "cost");
-  const press = button("main wide-button", "", () => send());
-  const outcome = element("div", "outcome-box");
-  outcome.setAttribute("aria-live", "polite");
-  const fewer = button("step-button", "\u2212", () => change(-1));
-  const more = button("step-button", "+", () => change(1));
-  fewer.setAttribute("aria-label", say("fewer"));
-  more.setAttribute("aria-label", say("more"));
-  const change = (by) => {
-    guests = Math.min(most, Math.max(0, guests + by));
-    show();
-  };
-  const show = () => {
-    number.textContent = String(guests);
-    fewer.disabled = guests === 0;
-    more.disabled = guests === most;
-    facts.replaceChildren(...costFacts(view, guests));
-    press.textContent = bookText(view, guests);
-  };
-  const stepper = element("div", "stepper", element("span", "label", say("guests-label")), fewer, number, more);
-  stepper.setAttribute("role", "group");
-  stepper.setAttribute("aria-label", say("guests-label"));
-  const places = element("p", "hint", view === null ? "" : say("places-left", { count: view.places - view.taken }));
-  const send = () => {
-    press.disabled = true;
-    fewer.disabled = true;
-    more.disabled = true;
-    const book = () => state.sender.book(slot, guests, isMeant);
-    sendBooking({ book, slot, view, outcome, press, whenDone, again, done: () => [places, stepper, facts].forEach((each) => each.remove()) });
-  };
-  const again = () => {
-    press.disabled = false;
-    show();
-  };
-  show();
-  const about = facilityOf(state.club, slot.facility)?.about ?? "";
-  openDialog(title, [element("p", "slot-time", slotText(slot)), ...(about === "" ? [] : [element("p", "hint", about)]), places, stepper, facts, ...endNote(slot), outcome, element("div", "buttons", press)], whenDone);
+// The dialog in which a member chooses the guests, sees the cost, and books. After a refusal, the dialog looks at the slot
+// again and shows what changed.
+class BookingChoice {
+  constructor({ slot, view, isMeant, whenDone }) {
+    Object.assign(this, { slot, view, isMeant, whenDone, guests: 0 });
+    this.number = element("output", "count");
+    this.facts = element("dl", "cost");
+    this.places = element("p", "hint");
+    this.outcome = outcomeBox();
+    this.press = button("main wide-button", "", () => this.send());
+    this.fewer = this.step("\u2212", "fewer", -1);
+    this.more = this.step("+", "more", 1);
+    this.stepper = element("div", "stepper", element("span", "label", say("guests-label")), this.fewer, this.number, this.more);
+    this.stepper.setAttribute("role", "group");
+    this.stepper.setAttribute("aria-label", say("guests-label"));
+  }
+
+  step(sign, words, by) {
+    const made = button("step-button", sign, () => {
+      this.guests += by;
+      this.show();
+    });
+    made.setAttribute("aria-label", say(words));
+    return made;
+  }
+
+  open(title) {
+    this.show();
+    const about = facilityOf(state.club, this.slot.facility)?.about ?? "";
+    openDialog(title, [
+      element("p", "slot-time", slotText(this.slot)), ...(about === "" ? [] : [element("p", "hint", about)]), this.places, this.stepper,
+      this.facts, ...endNote(this.slot), this.outcome, element("div", "buttons", this.press),
+    ], this.whenDone);
+  }
+
+  show() {
+    const { view } = this;
+    const most = mostGuests(this.slot, view);
+    this.guests = Math.min(most, Math.max(0, this.guests));
+    this.number.textContent = String(this.guests);
+    this.fewer.disabled = this.guests === 0;
+    this.more.disabled = this.guests === most;
+    this.places.textContent = view === null ? "" : say("places-left", { count: Math.max(0, view.places - view.taken) });
+    this.facts.replaceChildren(...costFacts(view, this.guests));
+    this.press.textContent = bookText(view, this.guests);
+  }
+
+  send() {
+    for (const each of [this.press, this.fewer, this.more]) each.disabled = true;
+    const { slot, view, guests, outcome, press, whenDone } = this;
+    sendBooking({
+      book: () => state.sender.book(slot, guests, this.isMeant, agreedFor(view, guests)), slot, view, outcome, press, whenDone,
+      again: (entry) => this.again(entry), done: () => [this.places, this.stepper, this.facts].forEach((each) => each.remove()),
+    });
+  }
+
+  // Lets the member book again. After a refusal, `entry` is the refused booking, and the dialog first looks at the slot.
+  async again(entry) {
+    const changes = entry === undefined ? [] : await this.lookAgain(entry.book.fault);
+    if (changes.length > 0) this.outcome.append(element("p", "note", changes.join(" ")));
+    this.press.disabled = entry !== undefined && this.view !== null && !hasPlaces(this.view);
+    this.show();
+  }
+
+  async lookAgain(fault) {
+    const [before, club] = [this.view, state.club];
+    this.view = await viewNow(this.slot, before);
+    if ([NO_SUCH_FACILITY, NOT_BOOKABLE].includes(fault)) await fetchClub();
+    const facilities = [club, state.club].map((each) => facilityOf(each, this.slot.facility));
+    return [...slotChanges(before, this.view), ...hourChanges(...facilities)];
+  }
+}
+
+function hasPlaces(view) {
+  return !view.closed && view.taken < view.places;
+}
+
+// Returns the desk's present reply about a slot. Returns `before` if the pass doesn't show the slot, or without a reply.
+async function viewNow(slot, before) {
+  if (before === null || denial("view", slot) > 0) return before;
+  try {
+    const reply = await ask(state.text, "view", slot, 2);
+    return reply.fault === undefined ? reply : before;
+  } catch (fault) {
+    if (!(fault instanceof NoReply)) throw fault;
+    return before;
+  }
 }
 
 // Makes a note if the pass ends before the slot begins. In this case, the member can cancel the booking only until the pass ends.
@@ -153,12 +192,11 @@ function costFacts(view, guests) {
 // list states.
 export function offerListed(entry, view, whenDone) {
   const facts = element("dl", "cost", ...costFacts(view, entry.guests));
-  const outcome = element("div", "outcome-box");
-  outcome.setAttribute("aria-live", "polite");
+  const outcome = outcomeBox();
   const press = button("main wide-button", bookText(view, entry.guests), () => {
     press.disabled = true;
     const book = async () => {
-      await state.sender.askFor(entry.key, entry.number);
+      await state.sender.askFor(entry.key, entry.number, agreedFor(view, entry.guests));
       return entry;
     };
     sendBooking({ book, slot: entry, view, outcome, press, whenDone, again: () => {}, done: () => facts.remove() });
@@ -169,25 +207,8 @@ export function offerListed(entry, view, whenDone) {
   ], whenDone);
 }
 
-// Tells the member after a second that the desk hasn't answered yet, and explains the delay after ten seconds. Returns a function that stops these
-// messages.
-function waitingWords(outcome) {
-  const begun = Date.now();
-  outcome.replaceChildren(element("p", "sending", say("sending")));
-  const timer = setInterval(() => {
-    const waited = Date.now() - begun;
-    if (waited < SEEN_AFTER) return;
-    const count = state.sender.tries + 1;
-    const why = noReplyText(state.sender.status, "sending-no-answer");
-    const lines = [element("p", "sending", say("sending-again", { why, count }))];
-    if (waited >= LONG_AFTER) lines.push(element("p", "note", say("sending-long")));
-    outcome.replaceChildren(...lines);
-  }, 500);
-  return () => clearInterval(timer);
-}
-
-// `book` records the request. After a refusal or an error, the function calls `again`, which may enable the button again. After any other result, the
-// function calls `done`, which removes the member's choices.
+// `book` records the request. After a refusal or an error, the function calls `again`, which may enable the button again. After
+// a refusal, `again` gets the refused entry. After any other result, the function calls `done`, which removes the member's choices.
 async function sendBooking({ book, slot, view, outcome, press, whenDone, again, done }) {
   const end = waitingWords(outcome);
   try {
@@ -202,7 +223,7 @@ async function sendBooking({ book, slot, view, outcome, press, whenDone, again, 
       end();
       outcome.replaceChildren(...outcomeOfBooking(now));
       if (stateOf(now) === "refused") {
-        again();
+        again(now);
         return;
       }
       keepLastBooked(slot);
@@ -218,75 +239,10 @@ async function sendBooking({ book, slot, view, outcome, press, whenDone, again, 
   }
 }
 
-// Replaces the pressed button with a button that closes the dialog.
-function finish(press) {
-  const close = button("main wide-button", say("close"), closeDialog);
-  const hadFocus = document.activeElement === press || document.activeElement === document.body;
-  press.replaceWith(close);
-  if (hadFocus && isDialogOpen()) close.focus();
-}
-
 function outcomeOfBooking(entry) {
   if (entry.stopped !== undefined) return [faultBox(say("unknown-booked"), refusalText(entry.stopped))];
   if (stateOf(entry) === "refused") return [faultBox(say("not-booked"), refusalText(entry.book, "book", entry))];
   const { charge, left } = entry.book;
   const lines = [element("strong", "", say("booked")), " ", say("booked-detail", { count: charge, number: String(entry.number) })];
   return [element("p", "done", ...lines, " ", say("booked-left", { count: left })), ...unsavedNote()];
-}
-
-function unsavedNote() {
-  return state.sender.unsaved.size > 0 ? [element("p", "note", say("reply-not-stored"))] : [];
-}
-
-// ---- Cancelling
-
-export function offerCancellation(entry, whenDone) {
-  const facility = titleOf(state.club, entry.facility);
-  const moment = clubMoment();
-  const back = moment === null ? null : refundAt(entry, moment);
-  const outcome = element("div", "outcome-box");
-  outcome.setAttribute("aria-live", "polite");
-  const keep = button("", say("cancel-no"), closeDialog);
-  const press = button("main danger", say("cancel-yes"), async () => {
-    press.disabled = true;
-    keep.remove();
-    await sendCancellation(entry, outcome, press);
-  });
-  openDialog(say("cancel-question"), [
-    element("p", "slot-time", facility, element("br"), slotText(entry)),
-    element("p", "", back === null ? say("gives-back-unknown") : say(stateOf(entry) === "listed" ? "listed-gives-back" : "gives-back", { count: back })),
-    outcome, element("div", "buttons", press, keep),
-  ], whenDone);
-}
-
-async function sendCancellation(entry, outcome, press) {
-  const end = waitingWords(outcome);
-  try {
-    await state.sender.cancel(entry.key, entry.number);
-    state.sender.follow(entry, (now) => {
-      if (unfinished(now) !== null && now.stopped === undefined) return;
-      end();
-      outcome.replaceChildren(...outcomeOfCancellation(now));
-      finish(press);
-    });
-    await state.sender.run();
-  } catch (fault) {
-    end();
-    press.disabled = false;
-    if (!(fault instanceof NotStored)) throw fault;
-    outcome.replaceChildren(faultBox(say("not-stored-title"), say("not-stored")));
-  }
-}
-
-function outcomeOfCancellation(entry) {
-  if (entry.notCancelled !== undefined) return [faultBox(say("not-cancelled-title"), refusalText(entry.notCancelled, "cancel"))];
-  if (entry.stopped !== undefined) return [faultBox(say("not-cancelled-title"), refusalText(entry.stopped, "cancel"))];
-  const words = [element("strong", "", say("cancelled")), " ", say("cancelled-detail", { count: entry.cancel?.refund ?? 0 })];
-  return [element("p", "done", ...words), ...unsavedNote()];
-}
-
-// Returns the last moment for a full refund as a day and a time, such as "Friday 1 May" and "18:00".
-export function fullRefundUntil(entry) {
-  const until = new Date(Date.parse(`${startOf(entry)}Z`) - 86400000).toISOString();
-  return { day: dayText(until.slice(0, 10)), time: until.slice(11, 16) };
 }

@@ -2,10 +2,10 @@
 import { lookAfterBookings, showBookings } from "./bookings_view.mjs";
 import { lookAtAccount, offerRecord, setUpAccount, showAccount, showExport, showLost, showPass } from "./account_view.mjs";
 import { askToPersist, lookWhetherPersists } from "./list_keeping.mjs";
-import { readClub } from "./club.mjs";
+import { fetchClub } from "./club_loading.mjs";
 import { linkTo, showClub } from "./club_view.mjs";
 import { lookWhenBack, setUpDay, showCells, showDay } from "./day_view.mjs";
-import { clockDifference, exchange, noteClock, paused } from "./desk.mjs";
+import { clockDifference, exchange, paused } from "./desk.mjs";
 import { setUpDialog } from "./dialog.mjs";
 import { button, byName, element, put, sayAll } from "./elements.mjs";
 import { keepPage, opensOffline } from "./at_hand.mjs";
@@ -18,7 +18,7 @@ import { findPass, isPassShown, keptElsewhere, passNotices, setUpPasses, showCho
 import { unfinished } from "./record.mjs";
 import { startScreen } from "./screen_view.mjs";
 import { Sender } from "./sender.mjs";
-import { clubTime, ownEntries, state } from "./state.mjs";
+import { clubTime, ownEntries, spentOfKey, state } from "./state.mjs";
 import { Store } from "./store.mjs";
 import { say } from "./words.mjs";
 
@@ -136,22 +136,6 @@ function reportTrouble(fault) {
 
 // ---- Loading
 
-// Loads club.json. If this fails, the page keeps the old list, and the function returns the key of the text that explains the failure.
-// Otherwise, the function returns "".
-async function fetchClub() {
-  if (location.protocol === "file:" && !isToTry()) return "club-missing";
-  try {
-    const response = await fetch("club.json", { cache: "no-cache", credentials: "omit", redirect: "error" });
-    noteClock(response);
-    if (!response.ok) return "club-missing";
-    const club = readClub(await response.json().catch(() => null));
-    state.club = club ?? state.club;
-    return club === null ? "club-odd" : "";
-  } catch {
-    return "club-missing";
-  }
-}
-
 async function loadClub() {
   clubTrouble = await fetchClub();
   show();
@@ -164,7 +148,7 @@ async function openStore() {
     state.store = await Store.open();
     state.sender = new Sender({
       store: state.store, exchange, lock: (work) => navigator.locks.request(placeName("desk"), work), pause: pauseUntilOnline,
-      changed: () => { others?.postMessage("changed"); refresh(); },
+      changed: () => { others?.postMessage("changed"); refresh(); }, guess: spentOfKey,
     });
     state.entries = await state.sender.entries();
   } catch {

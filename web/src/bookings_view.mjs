@@ -1,10 +1,12 @@
 // The view of the member's bookings. It shows the future and past bookings that the record has for the pass's key, and the actions on each booking.
 import { moreOf } from "./again.mjs";
-import { closedOwn, fullRefundUntil, offerCancellation, offerListed, slotText } from "./booking_dialog.mjs";
+import { closedOwn, offerListed } from "./booking_dialog.mjs";
+import { fullRefundUntil, offerCancellation } from "./cancel_dialog.mjs";
 import { titleOf } from "./club.mjs";
 import { hourText, minutesOf, startOf } from "./dates.mjs";
 import { ask, eachAtOnce } from "./desk.mjs";
 import { openDialog } from "./dialog.mjs";
+import { slotText } from "./dialog_parts.mjs";
 import { button, byName, element, put, putCards } from "./elements.mjs";
 import { showListKept } from "./list_keeping.mjs";
 import { amountsOf, canBeAsked, compared, hasBegun, isLive, refundAt, slotName, stateOf, unfinished } from "./record.mjs";

@@ -8,6 +8,7 @@ const NAME_ONLY = new RegExp(`^${NAME}$`);
 const DATE = "20[0-9]{2}-[0-9]{2}-[0-9]{2}";
 export const KINDS = ["court", "boat", "room"];
 export const ACTIONS = ["view", "book", "cancel", "account"];
+export const MOST_POINTS = 999999999; // in a caveat `spend`
 
 // Each kind of line has a pattern, and a function that returns the line's values. The function returns null if the values are wrong.
 const LINES = {

@@ -24,6 +24,7 @@ let isFinding = false; // whether the page shows the search over a week
 let isEarlierShown = false; // whether today's past hours are shown
 // For each facility and hour, the slot, its button, and the desk's last reply.
 let cells = new Map();
+let clubOfTable = null; // the club's list from which the page made the table
 // The number of the latest load of a day. The page drops a reply if its request belongs to an older load.
 let round = 0;
 let lookedAt = 0;
@@ -70,6 +71,7 @@ export function showDay(wanted = day) {
     return;
   }
   cells = new Map();
+  clubOfTable = state.club;
   put("day-fault", ...dayFault(facilities));
   put("facility-choice", ...facilities.map(choiceOf));
   byName("facility-bar").hidden = facilities.length < 2;
@@ -246,6 +248,10 @@ function press(cell) {
     return;
   }
   offerBooking(cell.slot, cell.view, () => {
+    if (state.club !== clubOfTable) {
+      showDay();
+      return;
+    }
     showCells();
     lookAt(cell, round);
     cell.button.focus();

@@ -1,10 +1,8 @@
 // Functions for loans. They return the lines that narrow a pass, the end of a pass, and the free spare passes.
-import { readCaveat } from "./caveats.mjs";
+import { MOST_POINTS, readCaveat } from "./caveats.mjs";
 import { daysLater } from "./dates.mjs";
 import { keyName, readPass } from "./pass.mjs";
 import { Fault } from "./pass_faults.mjs";
-
-const MOST_SPENT = 999999999;
 
 // Returns the caveats of a pass that have this name and that the page understands.
 export function caveatsOf(pass, name) {
@@ -44,7 +42,7 @@ export function linesOf({ kind = "", facility = "", isToLook, last, points, spen
   if (facility !== "") lines.push(`facility = ${facility}`);
   lines.push(`actions = ${isToLook ? "view" : "view,book,cancel"}`);
   if (last !== "") lines.push(`until < ${daysLater(last, 1)}T00:00`);
-  if (points !== null && !isToLook) lines.push(`spend <= ${Math.min(spent + points, MOST_SPENT)}`);
+  if (points !== null && !isToLook) lines.push(`spend <= ${Math.min(spent + points, MOST_POINTS)}`);
   return lines;
 }
 

@@ -6,6 +6,11 @@ export function owedFor(view, guests) {
   return view === null ? 0 : view.price * (guests + 1);
 }
 
+// Returns the points that the member agrees to by booking, or undefined if the page shows no price.
+export function agreedFor(view, guests) {
+  return view === null ? undefined : owedFor(view, guests);
+}
+
 export function isDenied(slot, view, guests) {
   return denial("book", slot, { guests, owed: owedFor(view, guests) }) > 0;
 }

@@ -2,6 +2,8 @@
 //
 // - key, number, facility, day, hour: the identity of the booking at the desk.
 // - guests: the number of guests, or null if the browser knows only the booking's number and slot.
+// - agreed: the points that the member agreed to pay, or undefined if the page showed no price. The desk charges at most
+//   these points (price.mjs).
 // - book: the reply to the PUT of the booking, or null before the reply. In an entry with `listed`, `book` is an empty object.
 // - cancel: the reply to the DELETE of the booking, null before the reply, or undefined without a DELETE.
 // - unsure: whether the desk may have carried out a request of this entry although no reply came.
@@ -16,6 +18,7 @@ import { isDate, minutesOf, startOf } from "./dates.mjs";
 import { isOfPass, NUMBER_USED } from "./replies.mjs";
 
 const LARGEST_NUMBER = 999999999;
+const LARGEST_CHARGE = 499950; // points
 const FULL_REFUND_MINUTES = 1440;
 export const DAYS_AHEAD = 60;
 export const MOST_GUESTS = 49;
@@ -30,9 +33,9 @@ export function drawnNumber(used, random = (array) => crypto.getRandomValues(arr
   }
 }
 
-export function newBooking(key, number, slot, guests, asked) {
+export function newBooking(key, number, slot, guests, asked, agreed) {
   const { facility, day, hour } = slot;
-  return { key, number, facility, day, hour, guests, book: null, unsure: false, asked };
+  return { key, number, facility, day, hour, guests, agreed, book: null, unsure: false, asked };
 }
 
 // Returns the request to send for an entry: "book", "cancel" or null. If the PUT has no reply yet, the page repeats the PUT before it sends the
@@ -73,21 +76,22 @@ export function canBeAsked(entry) {
   return stateOf(entry) === "listed" && entry.guests !== null && entry.listed.charge === undefined;
 }
 
-// Turns a listed entry into a request of this browser, with the same number. `ofList` records that the number comes from a list.
-export function withRequest(entry) {
+// Turns a listed entry into a request of this browser, with the same number. `ofList` records that the number comes from
+// a list.
+export function withRequest(entry, agreed) {
   const { listed, notCancelled, stopped, ...rest } = entry;
-  return { ...rest, book: null, unsure: true, ofList: true };
+  return { ...rest, agreed, book: null, unsure: true, ofList: true };
 }
 
 // Returns whether a stored value is an entry. The page neither shows nor sends other stored values.
 export function isEntry(value) {
   if (typeof value !== "object" || value === null) return false;
-  const { key, number, facility, day, hour, guests, book, cancel, listed, asked } = value;
+  const { key, number, facility, day, hour, guests, agreed, book, cancel, listed, asked } = value;
   const isReply = (reply) => typeof reply === "object" && !Array.isArray(reply);
   return [key, facility].every(isName) && isWithin(number, 1, LARGEST_NUMBER)
     && typeof day === "string" && isDate(day) && isWithin(hour, 0, 23) && (guests === null ? book !== null : isWithin(guests, 0, MOST_GUESTS))
     && isReply(book) && (cancel === undefined || isReply(cancel)) && (listed === undefined || (listed !== null && book !== null && isReply(listed)))
-    && typeof asked === "number";
+    && (agreed === undefined || isWithin(agreed, 0, LARGEST_CHARGE)) && typeof asked === "number";
 }
 
 function isWithin(value, least, most) {

@@ -11,7 +11,9 @@ export const KEY_REVOKED = 10;
 export const CAVEAT_NOT_UNDERSTOOD = 11;
 export const CAVEAT_DENIES = 12;
 export const NUMBER_USED = 13;
+export const NO_SUCH_FACILITY = 14;
 export const NO_SUCH_BOOKING = 15;
+export const NOT_BOOKABLE = 16;
 export const SLOT_CLOSED = 17;
 export const SLOT_HAS_BEGUN = 21;
 const UNAVAILABLE = 22;
@@ -59,8 +61,13 @@ export function readReply(action, asked, status, text) {
   return body;
 }
 
-// Returns whether a refusal concerns the form of the request or its pass. Such a refusal doesn't show whether the desk served an earlier try of the
-// same request.
+// Returns whether the desk refused a booking because its price rose (price.mjs). The refusal has the new price, or null.
+export function isOfPrice(reply) {
+  return reply.fault === CAVEAT_DENIES && reply.price !== undefined;
+}
+
+// Returns whether a refusal concerns the form of the request or its pass. Such a refusal doesn't show whether the desk
+// served an earlier try of the same request. A refusal because of the price shows that the desk served no earlier try.
 export function isOfPass(reply) {
-  return reply.fault <= CAVEAT_DENIES;
+  return reply.fault <= CAVEAT_DENIES && !isOfPrice(reply);
 }

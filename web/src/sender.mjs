@@ -2,6 +2,7 @@
 // reply when it arrives. Only one tab of a browser sends at a time. The tab reads the record before sending, so that two tabs never send the same
 // request.
 import { pauseBefore } from "./desk.mjs";
+import { bookAtPrice } from "./price.mjs";
 import {
   answered, drawnNumber, isAt, isEntry, isLive, newBooking, stateOf, unfinished, wantsOtherNumber, withCancellation, withRequest,
 } from "./record.mjs";
@@ -12,9 +13,10 @@ export class NotStored extends Error {}
 
 export class Sender {
   // `store` keeps the entries, and `exchange(pass, action, entry)` sends one request to the desk. `lock(work)` runs `work` in at most one tab
-  // at a time. `pause(milliseconds)` waits. The sender calls `changed()` after each change. `now()` returns the time in milliseconds.
-  constructor({ store, exchange, lock, pause, changed, now = Date.now, draw = drawnNumber }) {
-    Object.assign(this, { store, exchange, lock, pause, changed, now, draw });
+  // at a time. `pause(milliseconds)` waits. The sender calls `changed()` after each change. `now()` returns the time in milliseconds. `guess()`
+  // returns the points that the key has spent as far as the page knows.
+  constructor({ store, exchange, lock, pause, changed, now = Date.now, draw = drawnNumber, guess = () => 0 }) {
+    Object.assign(this, { store, exchange, lock, pause, changed, now, draw, guess });
     // `pass` is the text of the pass, and `key` is the name of the pass's key.
     this.pass = null;
     this.key = null;
@@ -43,14 +45,14 @@ export class Sender {
   }
 
   // Records a booking with a new number, and returns its entry. If the key already has a booking of this slot and the member doesn't intend a second
-  // booking, the function returns the existing entry as `second`.
-  async book(slot, guests, isMeant) {
+  // booking, the function returns the existing entry as `second`. `agreed` is the shown price of the whole booking, or undefined.
+  async book(slot, guests, isMeant, agreed) {
     const entry = await this.lock(async () => {
       const entries = await this.entries();
       const own = entries.filter((each) => each.key === this.key);
       const second = own.find((each) => isLive(each) && isAt(each, slot));
       if (second !== undefined && !isMeant) return { second };
-      const made = newBooking(this.key, this.draw(new Set(own.map((each) => each.number))), slot, guests, this.now());
+      const made = newBooking(this.key, this.draw(new Set(own.map((each) => each.number))), slot, guests, this.now(), agreed);
       this.fresh.add(`book ${made.key}/${made.number}`);
       await this.written(made);
       return made;
@@ -59,10 +61,10 @@ export class Sender {
   }
 
   // Records a listed booking as a request with the same number, so that run() sends it.
-  async askFor(key, number) {
+  async askFor(key, number, agreed) {
     await this.lock(async () => {
       const entry = await this.store.get(key, number);
-      if (isEntry(entry) && stateOf(entry) === "listed") await this.written(withRequest(entry));
+      if (isEntry(entry) && stateOf(entry) === "listed") await this.written(withRequest(entry, agreed));
     });
   }
 
@@ -141,8 +143,9 @@ export class Sender {
     }
     const isFirst = this.fresh.delete(`${action} ${name}`);
     try {
-      const reply = await this.exchange(this.pass, action, entry);
-      await this.keep(entry, answered({ ...entry, unsure: entry.unsure || !isFirst }, action, reply));
+      const isRepeat = entry.unsure || !isFirst;
+      const reply = await this.replyTo(action, entry, isRepeat);
+      await this.keep(entry, answered({ ...entry, unsure: isRepeat }, action, reply));
       return true;
     } catch (fault) {
       if (!(fault instanceof NoReply)) throw fault;
@@ -153,6 +156,12 @@ export class Sender {
     }
   }
 
+  replyTo(action, entry, isRepeat) {
+    const { exchange, pass: text } = this;
+    if (action !== "book") return exchange(text, action, entry);
+    return bookAtPrice({ exchange, text, entry, isRepeat, guess: this.guess() });
+  }
+
   // Records the desk's reply in an entry. If the key has already used the entry's number for another booking, books again with another number.
   async keep(entry, next) {
     const name = `${entry.key}/${entry.number}`;
@@ -160,7 +169,7 @@ export class Sender {
     const entries = [next];
     if (unfinished(entry) === "book" && wantsOtherNumber(next)) {
       const used = new Set((await this.entries()).filter((each) => each.key === entry.key).map((each) => each.number));
-      entries.push(newBooking(entry.key, this.draw(used), entry, entry.guests, entry.asked));
+      entries.push(newBooking(entry.key, this.draw(used), entry, entry.guests, entry.asked, entry.agreed));
       this.fresh.add(`book ${entry.key}/${entries[1].number}`);
     }
     try {
