@@ -3,8 +3,8 @@
  *
  * A pass is a macaroon without third-party caveats. A pass has an identifier, caveats and a
  * signature. Each caveat narrows the requests that the pass allows. Making a pass needs a secret,
- * the root. Anybody who has a pass can add a caveat to the pass, and nobody can remove a caveat.
- * This library reads, writes and narrows passes in the three forms of libmacaroons. The library
+ * the root. Anybody who has a pass can add a caveat to the pass. Removing one requires forging an
+ * HMAC. This library reads, writes and narrows passes in the three forms of libmacaroons. The library
  * also tests whether a root signed a pass.
  *
  *     #include <clubpass.h>

@@ -276,6 +276,28 @@ def test_first_page_is_short():
     assert len(TEXTS["README.md"].split()) < 900
 
 
+def test_sizes_on_the_first_page():
+    """README's numbers of lines are right to a twentieth. The lines to believe are those of docs/AUDIT.md."""
+    number = r"(\d[\d,]*)"
+    given = re.search(
+        rf"about {number} lines of code, {number} of definitions and {number} of proofs\..* {number} lines of definitions",
+        TEXTS["README.md"],
+    )
+    counted = [
+        sum(len(it.read_text(encoding="utf-8").splitlines()) for it in Path("crates").glob(files))
+        for files in ("*/src/**/*.rt", "*/specs/**/*.antt", "*/proofs/**/*.antt")
+    ]
+    counted.append(
+        int(
+            re.search(
+                rf"^\| together \| \| \d+ \| {number} ", TEXTS["docs/AUDIT.md"], re.MULTILINE
+            )[1]
+        )
+    )
+    for said, lines in zip(given.groups(), counted, strict=True):
+        assert abs(int(said.replace(",", "")) - lines) <= lines / 20, (said, lines)
+
+
 def test_layers():
     """The table of docs/LAYERS.md has the layers (`# NAME: WHAT`) and the crates of crates.txt, in the same order."""
     crates, page = Path("crates.txt").read_text(encoding="utf-8"), TEXTS["docs/LAYERS.md"]
@@ -308,7 +330,7 @@ def test_audit_is_made_of_the_sources():
 
 
 def test_table_of_groups():
-    """The table of docs/TRUST.md has each group of tests/pytest.ini, with the group's description."""
+    """The table of docs/TESTING.md has each group of tests/pytest.ini, with the group's description."""
     groups = re.findall(
         r"^ +(\w+): group: (.*)$",
         Path("tests/pytest.ini").read_text(encoding="utf-8"),
@@ -318,18 +340,18 @@ def test_table_of_groups():
     assert (
         re.findall(
             r"^\| `(\w+)` \| ([^|\n]*) \|$",
-            TEXTS["docs/TRUST.md"].partition("## Scripts beside the gate")[2],
+            TEXTS["docs/TESTING.md"].partition("## Groups")[2],
             re.MULTILINE,
         )
         == groups
     )
 
 
-def test_trust_names_each_crate():
+def test_testing_names_each_crate():
     for crate in re.findall(
         r"^([a-z][a-z_0-9]*)[ :]", Path("crates.txt").read_text(encoding="utf-8"), re.MULTILINE
     ):
-        assert f"`{crate}`" in TEXTS["docs/TRUST.md"], crate
+        assert f"`{crate}`" in TEXTS["docs/TESTING.md"], crate
 
 
 def test_glossary_gives_words_of_code():

@@ -60,7 +60,7 @@ EXCEPTIONS = {
 }
 # Files that this module doesn't read: generated pages, data, and texts that tests compare byte for byte.
 LEFT_OUT = re.compile(
-    r"docs/(AUDIT|RUNS)\.md|.*/more-edits\.txt|.*\.(told|png|svg|lock|toml|edit)|.*/stdout|tests/lib/words\.txt|docs/vectors\.json|web/[a-z]+\.(html|js|webmanifest)"
+    r"docs/AUDIT\.md|.*/more-edits\.txt|.*\.(told|png|svg|lock|toml|edit)|.*/stdout|tests/lib/words\.txt|docs/vectors\.json|web/[a-z]+\.(html|js|webmanifest)"
 )
 # The areas with which the subject of a commit may begin, apart from the crates.
 AREAS = {"docs", "tests", "web", "deploy", "bin", "ci", "man", "examples"}
@@ -383,7 +383,7 @@ def spelled(root):
         *sorted((root / "docs").glob("*.md")),
         *sorted(root.glob("crates/*/README.md")),
     ]
-    yield from ((it, "en") for it in pages if it.name not in ("AUDIT.md", "RUNS.md"))
+    yield from ((it, "en") for it in pages if it.name != "AUDIT.md")
     yield root / "web/src/words/en.json", "en"
     yield root / "web/src/words/de.json", "de_DE"
 

@@ -173,10 +173,10 @@ def test_a_mark_that_is_unknown(tree):
 
 
 def test_records(tree):
-    (tree / "docs" / "RUNS.md").write_text("# Runs\n")
+    (tree / "docs" / "TESTING.md").write_text("# Runs\n")
     run(tree, "--record", "passes", "skips")
     assert (
-        (tree / "docs" / "RUNS.md")
+        (tree / "docs" / "TESTING.md")
         .read_text()
         .rpartition(" | no commit | ")[2]
         .startswith("passes skips | 1 passed, 0 failed, 1 skipped | ")

@@ -1,6 +1,6 @@
 // A pass has a location, an identifier, caveats and a signature, which are all bytes. A pass also has the form of its text: v1, v2 or json. A caveat
 // is a line that narrows the pass. The pass's signature is the key that signs the next caveat. So any holder of a pass can add a caveat without
-// another secret, and nobody can remove a caveat.
+// another secret. Removing one requires forging an HMAC.
 import { bytesOfBase64 } from "./base64.mjs";
 import { bytesOf, characters } from "./bytes.mjs";
 import { NAME } from "./caveats.mjs";
