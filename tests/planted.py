@@ -509,9 +509,9 @@ PLANTS = {
     ),
     "page_books:a-flood-slows-others": (
         "deploy/nginx.conf",
-        "$http_authorization zone=",
+        "$clubdesk_client zone=",
         "$server_name zone=",
-        "another pass in a flood",
+        "another address in a flood",
         ".",
         "days_at_once",
     ),
@@ -533,7 +533,7 @@ PLANTS = {
     ),
     "page_books:any-address": (
         "deploy/nginx.conf",
-        "connect-src https://$http_host/club.json; ",
+        "connect-src $list; ",
         "",
         "what the page that narrows can request",
         ".",
@@ -649,6 +649,30 @@ PLANTS = {
         "test_vectors[go]",
     ),
     "passes_by_pymacaroons": ("clubdesk", "caveat denies", "caveat deniex", "caveat deniex"),
+    "proxies": (
+        "deploy/nginx.conf",
+        "limit_req_zone $clubdesk_client",
+        "limit_req_zone $http_authorization",
+        "test_an_address_has_one_limit",
+    ),
+    "proxies:a-network-has-many-limits": (
+        "deploy/nginx.conf",
+        "limit_req_zone $clubdesk_client",
+        "limit_req_zone $binary_remote_addr",
+        "test_a_network_of_ipv6_counts_as_one_address",
+    ),
+    "proxies:the-visitor-names-the-site": (
+        "deploy/nginx.conf",
+        "https://$server_name:$server_port/club.json",
+        "https://$http_host/club.json",
+        "test_the_policy_names_the_site",
+    ),
+    "proxies:chunks-reach-the-desk": (
+        "deploy/Caddyfile",
+        "respond @chunked",
+        "# respond @chunked",
+        "test_caddy_says_that_it_takes_no_chunks",
+    ),
     "proxy_holds": (
         "deploy/nginx.conf",
         "limit_req_status 429;",

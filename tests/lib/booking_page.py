@@ -84,16 +84,7 @@ def start_proxy(upstream, rate=5000, burst=5000):
         (":8080", f":{upstream}"),
         ("/usr/share/clubdesk/web", f"{here}/www"),
         ("/var/www/club;", f"{here}/www;"),
-        *(
-            [
-                ("rate=400r/s", f"rate={rate}r/s"),
-                ("rate=200r/s", f"rate={rate}r/s"),
-                ("burst=2000", f"burst={burst}"),
-                ("burst=1000", f"burst={burst}"),
-            ]
-            if rate
-            else []
-        ),
+        *([("rate=400r/s", f"rate={rate}r/s"), ("burst=2000", f"burst={burst}")] if rate else []),
         ("    listen [::]:443 ssl http2;\n", ""),
         ("listen 443", f"listen 127.0.0.1:{front}"),
     ]:

@@ -515,7 +515,8 @@ MOST_SECONDS = 0.7  # the longest time that loading a day may take
 
 def days_at_once(passes, server):
     """nginx uses the request limits of the repository's configuration. A member may load ten days at a rate of four days a second. Ten members may
-    share an address. A flood of requests under one pass doesn't disturb another member."""
+    share an address. A flood of requests from one address doesn't disturb a member at another address.
+    """
     front = start_proxy(server.port, rate=None)
     log = pathlib.Path("error.log")
 
@@ -623,6 +624,8 @@ def days_at_once(passes, server):
             "certificate.pem",
             "--resolve",
             f"desk.example.org:{front}:127.0.0.1",
+            "--interface",
+            "127.0.0.2",
             "-Z",
             "--parallel-max",
             "50",
@@ -643,11 +646,13 @@ def days_at_once(passes, server):
     flooded = Counter(flood.communicate()[0].split())
     check(flooded["429"] > 500, "a flood that isn't limited", flooded)
     check(
-        all(set(statuses) == {"200"} for statuses, _ in beside), "another pass in a flood", beside
+        all(set(statuses) == {"200"} for statuses, _ in beside),
+        "another address in a flood",
+        beside,
     )
     check(
         min(seconds for _, seconds in beside) < max(most, 3 * alone),
-        "a day of another pass during a flood",
+        "a day of another address during a flood",
         beside,
         alone,
         is_flooding,
@@ -660,7 +665,7 @@ def days_at_once(passes, server):
     )
     print(
         f"a day in {min(took):.2f} to {max(took):.2f} s{judged}; for ten members at one address in {slowest:.2f} s, none limited; "
-        f"for another pass during a flood with {flooded['429']} limited requests in {min(seconds for _, seconds in beside):.2f} s"
+        f"for another address during a flood with {flooded['429']} limited requests in {min(seconds for _, seconds in beside):.2f} s"
     )
 
 
