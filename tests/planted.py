@@ -673,6 +673,12 @@ PLANTS = {
         "# respond @chunked",
         "test_caddy_says_that_it_takes_no_chunks",
     ),
+    "pictures": (
+        "docs/pictures.sums",
+        "  booking-page.png",
+        "  booking-pale.png",
+        "docs/booking-page.png shows other words",
+    ),
     "proxy_holds": (
         "deploy/nginx.conf",
         "limit_req_status 429;",
@@ -720,12 +726,6 @@ PLANTS = {
         "SITE=https://{domain}",
         "SITE=http://{domain}",
         "the configuration has SITE=https",
-    ),
-    "small_desk": (
-        "web/src/small_desk.mjs",
-        "Math.floor(booking.charge / 2)",
-        "Math.ceil(booking.charge / 2)",
-        "assert one == other",
     ),
     "slow_clients": (
         "clubdesk",
