@@ -155,6 +155,30 @@ PLANTS = {
         "",
         "the refusal shows that nothing is booked",
     ),
+    "modules_hold:lists-without-end": (
+        "web/src/lists.mjs",
+        "latestFirst.slice(0, MOST_AT_ONCE)",
+        "latestFirst",
+        "bookings at once",
+    ),
+    "modules_hold:searches-for-each-card": (
+        "web/src/state.mjs",
+        "  if (own.all === state.entries && own.key === state.key) return own;\n",
+        "",
+        "searches of a long record",
+    ),
+    "modules_hold:titles-break-lines": (
+        "web/src/calendar.mjs",
+        "\\u0085\\u2028",
+        "",
+        "a line that a title brought",
+    ),
+    "modules_hold:spares-of-others": (
+        "web/src/lend.mjs",
+        " || account.member !== member",
+        "",
+        "whose spare passes",
+    ),
     "machine_lives": (
         "deploy/Caddyfile",
         "respond @large 413",

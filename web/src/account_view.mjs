@@ -5,10 +5,11 @@ import { ask } from "./desk.mjs";
 import { question, tell } from "./dialog.mjs";
 import { button, byName, element, put } from "./elements.mjs";
 import { noteTaken } from "./list_keeping.mjs";
+import { MOST_AT_ONCE, newsOf } from "./lists.mjs";
 import { enterAnother, forgetPass, keepThis, keptText, nameField } from "./passes_view.mjs";
 import { fact, keyWarning, limitList } from "./pass_words.mjs";
 import { drawQr } from "./qr_picture.mjs";
-import { fragmentOfRecord, hasBegun, isLive, merged, readRecord, recordText } from "./record.mjs";
+import { fragmentOfRecord, hasBegun, isLive, readRecord, recordText } from "./record.mjs";
 import { limitText, noReplyText, refusalText } from "./refusals.mjs";
 import { NO_SUCH_BOOKING, NoReply, NUMBER_USED } from "./replies.mjs";
 import { canSend, clubMoment, clubTime, denial, ownEntries, state } from "./state.mjs";
@@ -114,17 +115,11 @@ async function importText(text, place) {
     put(place, element("span", "wrong", say("import-wrong", { line: read.wrong })));
     return;
   }
-  const known = new Map(state.entries.map((entry) => [`${entry.key}/${entry.number}`, entry]));
-  const news = [];
-  for (const entry of read.entries) {
-    const name = `${entry.key}/${entry.number}`;
-    const next = merged(known.get(name), entry);
-    if (next !== known.get(name)) news.push(next);
-    known.set(name, next);
-  }
+  const { news, more } = newsOf(state.entries, read.entries);
   await state.store.put(...news);
   const words = news.length > 0 ? say("import-done", { count: news.length, key: read.key }) : say("import-nothing", { key: read.key });
-  put(place, words, ...(read.key === state.key ? [] : [" ", say("import-other-key", { key: read.key })]));
+  const rest = more > 0 ? [" ", say("import-more", { count: more })] : [];
+  put(place, words, ...rest, ...(read.key === state.key ? [] : [" ", say("import-other-key", { key: read.key })]));
 }
 
 // Adds the bookings from a link to this browser's record, but only after the member agrees.
@@ -136,7 +131,8 @@ export async function offerRecord(text, whenDone) {
     return;
   }
   const count = say("import-count", { count: read.entries.length, key: read.key });
-  if (!await question(say("import-question"), [element("p", "key", count)], say("import-button"), say("back"))) return;
+  const part = read.entries.length > MOST_AT_ONCE ? [say("import-part", { count: MOST_AT_ONCE })] : [];
+  if (!await question(say("import-question"), [element("p", "key", count), ...part], say("import-button"), say("back"))) return;
   await importText(text, "import-news");
   whenDone();
 }

@@ -1,6 +1,7 @@
 // The page on which a member looks at slots, books and cancels.
 import { lookAfterBookings, showBookings } from "./bookings_view.mjs";
 import { lookAtAccount, offerRecord, setUpAccount, showAccount, showExport, showLost, showPass } from "./account_view.mjs";
+import { beginCardLists } from "./card_list.mjs";
 import { askToPersist, lookWhetherPersists } from "./list_keeping.mjs";
 import { fetchClub } from "./club_loading.mjs";
 import { linkTo, showClub } from "./club_view.mjs";
@@ -12,12 +13,13 @@ import { keepPage, opensOffline } from "./at_hand.mjs";
 import { isScreen } from "./fragment.mjs";
 import { keepLanguage, keptLanguage } from "./keeping.mjs";
 import { offerLanguages } from "./languages.mjs";
-import { goToLend, offerSpares, passSays, setUpLend, showLend } from "./lend_view.mjs";
+import { goToLend, passSays, setUpLend, showLend } from "./lend_view.mjs";
 import { isToTry, placeName } from "./place.mjs";
 import { findPass, isPassShown, keptElsewhere, passNotices, setUpPasses, showChoice } from "./passes_view.mjs";
 import { unfinished } from "./record.mjs";
 import { startScreen } from "./screen_view.mjs";
 import { Sender } from "./sender.mjs";
+import { offerSpares } from "./spares_view.mjs";
 import { clubTime, ownEntries, spentOfKey, state } from "./state.mjs";
 import { Store } from "./store.mjs";
 import { say } from "./words.mjs";
@@ -80,6 +82,7 @@ function showNotices() {
 
 function go(wanted) {
   view = wanted;
+  beginCardLists();
   show();
   window.scrollTo(0, 0);
   if (view === "day") lookWhenBack();
@@ -178,6 +181,7 @@ function setUp() {
   setUpLend();
   setUpPasses({ begin, show });
   for (const each of VIEWS) byName(`to-${each}`).addEventListener("click", () => go(each));
+  byName("only-listed-drop").addEventListener("click", () => state.sender?.dropListed().catch(reportTrouble));
   byName("list-take").addEventListener("click", () => {
     go("account");
     byName("devices-title").scrollIntoView();
@@ -212,7 +216,7 @@ function offerLinked() {
   const { kind, text } = linked;
   linked = { kind: "none", text: "" };
   if (kind === "record" && state.store !== null) offerRecord(text, refresh);
-  if (kind === "spare") offerSpares(text.split(";"));
+  if (kind === "spare") offerSpares(text.split(";"), showLend);
 }
 
 export async function startPage() {

@@ -7,8 +7,10 @@ import { hourText, minutesOf, startOf } from "./dates.mjs";
 import { ask, eachAtOnce } from "./desk.mjs";
 import { openDialog } from "./dialog.mjs";
 import { slotText } from "./dialog_parts.mjs";
-import { button, byName, element, put, putCards } from "./elements.mjs";
+import { putCardList } from "./card_list.mjs";
+import { button, byName, element, put } from "./elements.mjs";
 import { showListKept } from "./list_keeping.mjs";
+import { onlyListed } from "./lists.mjs";
 import { amountsOf, canBeAsked, compared, hasBegun, isLive, refundAt, slotName, stateOf, unfinished } from "./record.mjs";
 import { noReplyText, refusalText } from "./refusals.mjs";
 import { NoReply } from "./replies.mjs";
@@ -25,10 +27,11 @@ export function showBookings(whenDone) {
   put("bookings-which", ...(state.key === null ? [] : [say("bookings-which", { key: state.key })]));
   byName("bookings-none").hidden = state.entries.length > 0;
   byName("to-come-title").hidden = toCome.length === 0;
-  putCards("to-come", toCome.map((entry) => cardOf(entry, false, whenDone)));
+  putCardList("to-come", toCome, (entry) => cardOf(entry, false, whenDone));
   byName("past-part").hidden = past.length === 0;
-  putCards("past", past.map((entry) => cardOf(entry, true, whenDone)));
+  putCardList("past", past, (entry) => cardOf(entry, true, whenDone));
   showOthers();
+  showOnlyListed();
   showListKept();
   const count = toCome.filter(isLive).length;
   put("bookings-count", ...(count > 0 ? [String(count)] : []));
@@ -48,10 +51,18 @@ function showComparison(own, moment) {
 function showOthers() {
   const others = state.entries.filter((entry) => entry.key !== state.key).sort((a, b) => startOf(a).localeCompare(startOf(b)));
   byName("other-part").hidden = others.length === 0;
-  putCards("others", others.map((entry) => cardOf(entry, true, () => {})));
+  putCardList("others", others, (entry) => cardOf(entry, true, () => {}));
   const open = new Map();
   for (const entry of others) if (unfinished(entry) !== null) open.set(entry.key, (open.get(entry.key) ?? 0) + 1);
   put("needs-pass", ...[...open].map(([key, count]) => element("p", "note", say("needs-pass", { count, key }))));
+}
+
+const OFFERED_FROM = 2; // a single booking has a button of its own
+
+function showOnlyListed() {
+  const { length: count } = onlyListed(state.entries);
+  byName("only-listed").hidden = count < OFFERED_FROM || state.sender === null;
+  put("only-listed-words", say("only-listed", { count }));
 }
 
 function cardOf(entry, isPast, whenDone) {
@@ -157,6 +168,16 @@ function noteSlot(name, { taken, closed }) {
   else state.closed.delete(name);
 }
 
+// The greatest quota of a member. The page looks at no more slots than a member can have open bookings.
+const MOST_OPEN = 99;
+
+// Returns the future slots of the key's bookings. Bookings that the desk confirmed come before bookings from lists.
+function slotsToLookAt(moment) {
+  const isToSee = (entry) => !hasBegun(entry, moment) && denial("view", entry) === 0;
+  const own = ["booked", "listed"].flatMap((wanted) => ownEntries().filter((entry) => stateOf(entry) === wanted && isToSee(entry)));
+  return [...new Map(own.map((entry) => [slotName(entry), entry]))].slice(0, MOST_OPEN);
+}
+
 // The number of the latest check of the slots. The page drops the results of older checks.
 let lookRound = 0;
 
@@ -167,10 +188,9 @@ export async function lookAfterBookings(whenDone) {
   if (moment === null || state.pass === null) return;
   lookRound += 1;
   const mine = lookRound;
-  const slots = new Map(ownEntries()
-    .filter((entry) => ["booked", "listed"].includes(stateOf(entry)) && !hasBegun(entry, moment) && denial("view", entry) === 0)
-    .map((entry) => [slotName(entry), entry]));
-  await eachAtOnce([...slots], async ([name, entry]) => {
+  const slots = slotsToLookAt(moment);
+  const { length } = slots;
+  await eachAtOnce(slots, async ([name, entry]) => {
     try {
       const reply = await ask(state.text, "view", entry, 2);
       if (reply.fault === undefined && mine === lookRound) noteSlot(name, reply);
@@ -178,5 +198,5 @@ export async function lookAfterBookings(whenDone) {
       state.taken.delete(name);
     }
   });
-  if (slots.size > 0) whenDone();
+  if (length > 0) whenDone();
 }

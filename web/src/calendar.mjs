@@ -19,8 +19,10 @@ function stamp(instant) {
   return new Date(instant).toISOString().replace(/[-:]|\.[0-9]{3}/g, "");
 }
 
+// Every character that ends a line in some program becomes a line break of the calendar. A calendar's
+// text may have no other control character.
 function escaped(text) {
-  return text.replace(/[\\;,]/g, "\\$&").replace(/\r?\n/g, "\\n");
+  return text.replace(/[\\;,]/g, "\\$&").replace(/\r\n|[\n\v\f\r\u0085\u2028\u2029]/g, "\\n").replace(/[^\P{Cc}\t]/gu, "");
 }
 
 // Folds a line into pieces of at most 75 bytes, without splitting a character.

@@ -56,6 +56,16 @@ export function passOrNull(text) {
   }
 }
 
+// Returns the passes that the desk refuses or that belong to another member. `accountOf(text)` asks the desk.
+export async function foreignAmong(texts, member, accountOf) {
+  const foreign = [];
+  for (const text of texts) {
+    const account = await accountOf(text);
+    if (account.fault !== undefined || account.member !== member) foreign.push(text);
+  }
+  return foreign;
+}
+
 // Returns the texts of the spare passes that are lent at a moment.
 export function sparesLent(loans, moment) {
   const goesOn = (pass) => pass !== null && (endOf(pass) ?? "9999") > moment;

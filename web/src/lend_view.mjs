@@ -4,11 +4,10 @@ import { titleOf } from "./club.mjs";
 import { KINDS, readCaveat } from "./caveats.mjs";
 import { daysLater, isDate } from "./dates.mjs";
 import { ask } from "./desk.mjs";
-import { question, tell } from "./dialog.mjs";
 import { button, byName, element, put } from "./elements.mjs";
-import { dropLoan, dropSpare, keepLoan, keepSpares, keptLoans, keptSpares, MOST_PASSES, plainName, sparesTooMany } from "./keeping.mjs";
+import { dropLoan, keepLoan, keptLoans, keptSpares, plainName } from "./keeping.mjs";
 import { allowsFacility, caveatsOf, endOf, freeSpares, lastDayOf, limitOf, linesOf, passOrNull, sparesLent } from "./lend.mjs";
-import { canSign, keyName, narrowed, withSpent, writePass } from "./pass.mjs";
+import { canSign, narrowed, withSpent, writePass } from "./pass.mjs";
 import { Fault } from "./pass_faults.mjs";
 import { faultText, sentenceOf } from "./pass_words.mjs";
 import { endedContent } from "./passes_view.mjs";
@@ -252,45 +251,6 @@ async function lookAfterLoans() {
   if (state.account === null) return;
   for (const { text } of sparesToLend()) await accountOfSpare(text, state.account.member).catch(() => null);
   showChosen();
-}
-
-// ---- Spare passes
-
-// Stores the spare passes from a link, but only after the member agrees.
-export async function offerSpares(texts) {
-  const passes = texts.map(passOrNull);
-  if (passes.includes(null) || passes.some((pass) => keyName(pass) === null)) {
-    await tell(say("spares-title"), say("spares-wrong"));
-    return;
-  }
-  const names = element("p", "key", passes.map(keyName).join(", "));
-  if (sparesTooMany(texts) > 0) await makeRoom(texts, names);
-  if (sparesTooMany(texts) > 0) return;
-  if (!await question(say("spares-question"), [names, say("spares-hint")], say("keep-yes"), say("keep-no"))) return;
-  const isKept = keepSpares(texts);
-  await tell(say("spares-title"), say(isKept ? "spares-kept" : "spares-not-kept"));
-  showLend();
-}
-
-// Lets the member remove stored spare passes to make room for the spare passes from a link. The member can't remove a lent spare pass.
-function makeRoom(texts, names) {
-  const free = freeSpares(keptSpares(), keptLoans(), clubMoment() ?? "").filter(({ text }) => !texts.includes(text));
-  const items = free.map(({ text, pass }) => {
-    const item = Object.assign(element("li", ""), { tabIndex: -1 });
-    const remove = button("", say("spares-remove", { key: keyName(pass) }), () => {
-      if (!dropSpare(text)) {
-        put("spares-news", say("spares-not-kept"));
-        return;
-      }
-      put("spares-news", sparesTooMany(texts) > 0 ? "" : say("spares-room"));
-      item.replaceChildren(element("p", "", say("spares-removed", { key: keyName(pass) })));
-      item.focus();
-    });
-    item.append(element("div", "buttons", remove));
-    return item;
-  });
-  const news = Object.assign(element("p", "note", items.length > 0 ? "" : say("lend-spares-lent-title")), { id: "spares-news", role: "status" });
-  return question(say("spares-title"), [names, say("spares-full", { count: sparesTooMany(texts), most: MOST_PASSES }), element("ul", "cards", ...items), news], say("go-on"), null);
 }
 
 // ---- The view

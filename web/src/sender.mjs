@@ -2,6 +2,7 @@
 // reply when it arrives. Only one tab of a browser sends at a time. The tab reads the record before sending, so that two tabs never send the same
 // request.
 import { pauseBefore } from "./desk.mjs";
+import { onlyListed } from "./lists.mjs";
 import { bookAtPrice } from "./price.mjs";
 import {
   answered, drawnNumber, isAt, isEntry, isLive, newBooking, stateOf, unfinished, wantsOtherNumber, withCancellation, withRequest,
@@ -66,6 +67,12 @@ export class Sender {
       const entry = await this.store.get(key, number);
       if (isEntry(entry) && stateOf(entry) === "listed") await this.written(withRequest(entry, agreed));
     });
+  }
+
+  // Removes the bookings that only lists show.
+  async dropListed() {
+    await this.lock(async () => this.store.removeAll(onlyListed(await this.entries())));
+    this.changed();
   }
 
   async cancel(key, number) {

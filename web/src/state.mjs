@@ -3,7 +3,7 @@ import { firstDenial } from "./caveats.mjs";
 import { momentIn } from "./dates.mjs";
 import { serverTime } from "./desk.mjs";
 import { facilityOf } from "./club.mjs";
-import { costOf, isAt, isLive, personsOf, slotName, stateOf } from "./record.mjs";
+import { costOf, isLive, personsOf, slotName, stateOf } from "./record.mjs";
 
 export const state = {
   club: null, // read from club.json
@@ -49,7 +49,9 @@ export function withKind(slot) {
 // reasons, because the page doesn't know every value.
 export function denial(action, slot, more = {}) {
   const place = slot === undefined ? undefined : withKind(slot);
-  return firstDenial(state.pass, { action, moment: clubMoment() ?? "2000-01-01T00:00", slot: place, spent: spentOfKey(), ...more });
+  const known = { action, moment: clubMoment() ?? "2000-01-01T00:00", slot: place };
+  // Only a caveat about points needs the spent points.
+  return firstDenial(state.pass, { ...known, get spent() { return spentOfKey(); }, ...more });
 }
 
 // Returns the points that the key has spent, as the desk reported them with the account. Without this report, the function returns `state.base` plus
@@ -64,15 +66,35 @@ export function isLost(entry) {
   const found = state.taken.get(slotName(entry));
   const isThere = (each) => isLive(each) && (stateOf(each) === "booked" || (stateOf(each) === "listed" && stateOf(entry) === "listed"));
   if (found === undefined || !isThere(entry)) return false;
-  return found < personsOf(ownEntries().filter((each) => slotName(each) === slotName(entry) && isThere(each)));
+  return found < personsOf(ownEntriesAt(entry).filter(isThere));
 }
 
 export function ownEntries() {
-  return state.entries.filter((entry) => entry.key === state.key);
+  return ownNow().entries.slice();
 }
 
 export function liveAt(slot) {
-  return ownEntries().filter((entry) => isLive(entry) && isAt(entry, slot));
+  return ownEntriesAt(slot).filter(isLive);
+}
+
+// The key's entries, also by slot. The page finds them once for each record and key, because the record may be long.
+let own = { all: null, key: null, entries: [], bySlot: new Map() };
+
+function ownNow() {
+  if (own.all === state.entries && own.key === state.key) return own;
+  const entries = state.entries.filter((entry) => entry.key === state.key);
+  const bySlot = new Map();
+  for (const entry of entries) {
+    const name = slotName(entry);
+    if (!bySlot.has(name)) bySlot.set(name, []);
+    bySlot.get(name).push(entry);
+  }
+  own = { all: state.entries, key: state.key, entries, bySlot };
+  return own;
+}
+
+function ownEntriesAt(slot) {
+  return ownNow().bySlot.get(slotName(slot)) ?? [];
 }
 
 // Returns the key's live entries at a slot. Leaves out listed entries if the slot has fewer persons than all live entries need.

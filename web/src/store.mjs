@@ -42,6 +42,11 @@ export class Store {
     return this.change((entriesOf) => entriesOf.delete([key, number]));
   }
 
+  // Removes all of these entries, or none of them.
+  removeAll(entries) {
+    return this.change((entriesOf) => entries.forEach(({ key, number }) => entriesOf.delete([key, number])));
+  }
+
   change(work) {
     return new Promise((done, fail) => {
       const transaction = this.database.transaction(ENTRIES, "readwrite", { durability: "strict" });

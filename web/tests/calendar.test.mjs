@@ -25,3 +25,14 @@ test("the lines of an event", () => {
   for (const line of ["DTSTART:20260501T160000Z", "DTEND:20260501T170000Z", "DTSTAMP:20260420T120000Z", "UID:583920174-court-1-2026-05-01@desk.example.org",
     "LOCATION:TC Blau-Wei\u00df", "TRIGGER:-PT2H", `SUMMARY:${title.replace("\\", "\\\\").replace(",", "\\,").replace(";", "\\;")}`]) assert.ok(whole.includes(line), line);
 });
+
+test("every kind of line break in a text is a line break of the calendar, and no other control character remains", () => {
+  const entry = { number: 1, facility: "court-1", day: "2026-05-01", hour: 18 };
+  for (const each of ["\r\n", "\n", "\r", "\u0085", "\u2028", "\u2029", "\v", "\f"]) {
+    const title = `A\u0000\u0007\u009b\t${each}BEGIN:VALARM`;
+    const text = calendarText({ entry, zone: "UTC", title, place: title, host: "desk.example.org", now: 0 });
+    const lines = text.replaceAll("\r\n ", "").split(/\r\n|[\n\r\u0085\u2028\u2029\v\f]/);
+    assert.equal(lines.filter((line) => line === "BEGIN:VALARM").length, 1, "a line that a title brought");
+    assert.ok(lines.includes("SUMMARY:A\t\\nBEGIN:VALARM"), "a line that a title brought");
+  }
+});
