@@ -1,5 +1,5 @@
 #!/usr/bin/env -S /usr/bin/python3 -B
-"""Each line of a scenario (docs/SCENARIOS.md) gets its stated answer from the rules in Python and from `clubdesk`.
+"""Each line of a scenario (crates/scenarios/README.md) gets its stated answer from the rules in Python and from `clubdesk`.
 
 `tests/reference` has the rules in Python. For `clubdesk`, the club is in a file, and a server receives the requests over a socket. The test tries
 passes in all three forms. With `--self-test`, the test checks that it finds eight faults planted in the rules.

@@ -1,4 +1,4 @@
-"""Reads files of scenarios (docs/SCENARIOS.md) as clubs and their events. If a line can't be read, the reader raises a Fault with the file and the
+"""Reads files of scenarios (crates/scenarios/README.md) as clubs and their events. If a line can't be read, the reader raises a Fault with the file and the
 line."""
 
 import json
@@ -10,7 +10,7 @@ from reference import caveats, club as rules, passes, wire
 
 ROOT = Path(__file__).resolve().parents[2]
 FOLDER = ROOT / "crates" / "scenarios" / "data"
-PAGE = ROOT / "docs" / "SCENARIOS.md"  # the example on this page is a scenario too
+PAGE = ROOT / "crates" / "scenarios" / "README.md"  # the example on this page is a scenario too
 FIRST_ROOT = "00112233445566778899aabbccddeeff"
 NAME = caveats.NAME
 MOST_CREDIT = 1_000_000  # points of one command
