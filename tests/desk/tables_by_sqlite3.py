@@ -1,5 +1,5 @@
 #!/usr/bin/env -S /usr/bin/python3 -B -m pytest -q -p no:cacheprovider
-"""The sqlite3 shell reads a file of `clubdesk`, and the SQL for lists and corrections in docs/RUNNING.md works.
+"""The sqlite3 shell reads a file of `clubdesk`, and the SQL for lists and corrections in examples/ works.
 
 If a file is damaged, or has wrong tables or a row outside the limits, `clubdesk` reports that storage failed.
 
@@ -34,7 +34,10 @@ from kinds import (
 pytestmark = [pytest.mark.programs, pytest.mark.needs("clubdesk"), pytest.mark.wants("sqlite3")]
 
 DAY = "2026-05-01"
-RUNNING = (desk.ROOT / "docs" / "RUNNING.md").read_text(encoding="utf-8")
+RECIPES = "\n".join(
+    (desk.ROOT / "examples" / f"{it}.sql").read_text(encoding="utf-8")
+    for it in ("lists", "corrections", "sums")
+)
 SCHEMA = re.search(
     r"^```sql\n(.*?)^```",
     (desk.ROOT / "docs" / "TABLES.md").read_text(encoding="utf-8"),
@@ -231,22 +234,22 @@ def test_what_sqlite3_writes_is_told(club):
     club.play([it.under(AMY).gets(10) for it in (view(slot("09")), view(), view(ROOM), ACCOUNT)])
 
 
-# ---- docs/RUNNING.md
+# ---- examples/lists.sql, examples/corrections.sql and examples/sums.sql
 
 
 def by_recipe(club, heading):
-    """Runs the SQL block under a heading of docs/RUNNING.md in the sqlite3 shell, and returns the output."""
+    """Runs the statements below a comment that begins with these words in the sqlite3 shell, and returns the output."""
     return shell(
-        club,
-        given=re.search(
-            rf"^### {heading}\n[^#]*?```sql\n(.*?)^```", RUNNING, re.MULTILINE | re.DOTALL
-        )[1],
+        club, given=re.search(rf"^-- {heading}.*\n((?:(?!--).+\n)+)", RECIPES, re.MULTILINE)[1]
     )
 
 
 def sound(club):
-    """Checks the totals with the SQL under "Afterwards" in docs/RUNNING.md, and the integrity of the file."""
-    assert by_recipe(club, "Afterwards") + sql(club, "PRAGMA integrity_check") == "0\n0\n0\nok\n"
+    """Checks the totals with examples/sums.sql, and the integrity of the file."""
+    assert (
+        by_recipe(club, "Tests the stored totals") + sql(club, "PRAGMA integrity_check")
+        == "0\n0\n0\nok\n"
+    )
 
 
 def corrected(club, heading, again):
