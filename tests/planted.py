@@ -106,6 +106,12 @@ PLANTS = {
         "import errno\nimport ast\n",
         "'ast' imported but unused",
     ),
+    "mails_tell": (
+        "deploy/club_office/people.py",
+        'return f"{first} {surname}" if first',
+        'return f"{surname} {first}" if first',
+        "test_names",
+    ),
     "man_pages": (
         "man/clubdesk.1",
         ".It Cm revoke-key Ar FILE KEY",

@@ -250,7 +250,7 @@ class Correction:
         cancelled = [Booking(*it) for it in self.record.content["cancelled"]]
         show_concerned(self.club, [it.member for it in cancelled])
         if getattr(self.words, "mail", False):
-            mail_concerned(self.club, cancelled, slot_text, self.record)
+            mail_concerned(self.club, cancelled, self.record)
 
 
 def refuse_unsound(rows):

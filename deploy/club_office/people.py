@@ -4,6 +4,7 @@ mode and owner of the club's file. Personal data never gets into the book, an ar
 import collections
 import contextlib
 import csv
+import datetime
 import json
 import os
 import re
@@ -15,7 +16,8 @@ from club_office.clubs import back_up_program, wants_file
 from club_office.copies import snapshot, synced
 from club_office.faults import bad_value
 from club_office.lists import wants_row
-from club_office.texts import say
+from club_office.texts import day_text, say
+from club_office.values import date_of
 
 Person = collections.namedtuple("Person", "name mail telephone")
 NOBODY = Person("", "", "")
@@ -126,7 +128,45 @@ def show_concerned(club, members):
         print(say("to tell"), *(f"    {concerned_text(it)}" for it in known), sep="\n")
 
 
-def mail_concerned(club, bookings, slot_text, record):
+def greeted(name):
+    """Returns a full name as a mail greets its owner. `Müller, Bob` becomes `Bob Müller`."""
+    surname, _, first = (it.strip() for it in name.partition(","))
+    return f"{first} {surname}" if first else surname
+
+
+def titles_for_members(club):
+    """Returns the titles of facilities by their names. Without a readable file of titles, a mail has the names."""
+    with contextlib.suppress(OSError, UnicodeDecodeError, TypeError):
+        with open(club.settings.get("titles"), encoding="utf-8-sig") as file:
+            pairs = [line.split(None, 1) for line in file if not line.startswith("#")]
+        return {it[0]: it[1].partition("|")[0].strip() for it in pairs if len(it) == 2}
+    return {}
+
+
+def mail_of(club, name, bookings):
+    """Returns the subject and the text of a mail about a person's cancelled bookings."""
+    titles, several = titles_for_members(club), " several" if len(bookings) > 1 else ""
+    lines = [
+        "- "
+        + say(
+            "mail slot",
+            facility=titles.get(it.facility, it.facility),
+            day=day_text(datetime.date.fromisoformat(date_of(it.day))),
+            hour=it.hour,
+        )
+        for it in bookings
+    ]
+    text = say(
+        f"mail text{several}",
+        name=greeted(name),
+        lines="\n".join(lines),
+        points=sum(it.charge for it in bookings),
+        club=club.title,
+    )
+    return say(f"mail subject{several}", club=club.title), text
+
+
+def mail_concerned(club, bookings, record):
     """Sends each affected person a mail about the person's cancellations, with the machine's mailer. Prints which persons have no address, and which
     mails failed. A person who already got the mail according to the record gets no second mail."""
     people, of_member = read_people(club), collections.defaultdict(list)
@@ -140,20 +180,9 @@ def mail_concerned(club, bookings, slot_text, record):
         if not person.mail:
             print(say("no mail", name=person.name or member))
             continue
-        lines = "\n".join(f"- {slot_text(it.facility, it.day, it.hour)}" for it in its)
-        text = say(
-            "mail text",
-            name=person.name or member,
-            lines=lines,
-            points=sum(it.charge for it in its),
-            club=club.title,
-        )
+        subject, text = mail_of(club, person.name or member, its)
         done = subprocess.run(
-            [mailer, person.mail, say("mail subject", club=club.title)],
-            input=text,
-            text=True,
-            capture_output=True,
-            check=False,
+            [mailer, person.mail, subject], input=text, text=True, capture_output=True, check=False
         )
         is_sent = done.returncode == 0 and not done.stderr
         if is_sent:

@@ -298,10 +298,19 @@ TEXTS = {
     "mailed": ("{name}: mailed", "{name}: E-Mail verschickt"),
     "not mailed": ("{name}: couldn't be mailed", "{name}: E-Mail konnte nicht verschickt werden"),
     "mail subject": ("{club}: your booking was cancelled", "{club}: Deine Buchung wurde abgesagt"),
+    "mail subject several": (
+        "{club}: your bookings were cancelled",
+        "{club}: Deine Buchungen wurden abgesagt",
+    ),
     "mail text": (
         "Dear {name},\n\nthe office had to cancel your booking:\n\n{lines}\n\nYou get {points} points back.\n\n{club}\n",
         "Hallo {name},\n\ndas Büro musste deine Buchung absagen:\n\n{lines}\n\nDu bekommst {points} Punkte zurück.\n\n{club}\n",
     ),
+    "mail text several": (
+        "Dear {name},\n\nthe office had to cancel the following bookings:\n\n{lines}\n\nYou get {points} points back.\n\n{club}\n",
+        "Hallo {name},\n\ndas Büro musste folgende Buchungen absagen:\n\n{lines}\n\nDu bekommst {points} Punkte zurück.\n\n{club}\n",
+    ),
+    "mail slot": ("{facility}, {day}, {hour:02d}:00", "{facility}, {day}, {hour} Uhr"),
     # A list.
     "list read": (
         "the list was read as {letters} with {sign} between the columns: {columns}",
