@@ -185,6 +185,24 @@ PLANTS = {
         "",
         "whose spare passes",
     ),
+    "modules_hold:friday-means-monday": (
+        "web/src/lend.mjs",
+        "lines.push(`days = ${first}..${last}`)",
+        "lines.push()",
+        "the days of a loan",
+    ),
+    "modules_hold:refund-after-the-end": (
+        "web/src/lend.mjs",
+        "end !== null && end < dayBefore ? end : dayBefore",
+        "dayBefore",
+        "the end of a refund",
+    ),
+    "modules_hold:lends-an-ended-loan": (
+        "web/src/lend.mjs",
+        "(ended === true || goesOn(passOrNull(text)))",
+        "goesOn(passOrNull(text))",
+        "an ended loan's spare pass",
+    ),
     "machine_lives": (
         "deploy/Caddyfile",
         "respond @large 413",

@@ -41,8 +41,9 @@ def lends(passes, front, between):
             value,
         )
 
-    def made(page, says, what="kind court", last=day(4), points="600", how="book"):
+    def made(page, says, what="kind court", last=day(4), points="600", how="book", later=False):
         page.view("lend")
+        page.run("byName('lend-later').checked = arguments[0]", later)
         page.run("byName('lend-name').value = 'Max'")
         for group, value in [
             ("lend-what", what),
@@ -99,7 +100,10 @@ def lends(passes, front, between):
         )
         page.view("lend")
         check(page.run("return shownText('lend-which')") == "", "with a spare pass")
-        address = made(page, says)
+        says = (
+            f"Max may book courts until the end of {friday}, also for later days, up to 600 points."
+        )
+        address = made(page, says, later=True)
         wanted = [
             "amy-lend-1",
             "kind = court",
@@ -158,9 +162,10 @@ def lends(passes, front, between):
                 "amy-lend-2",
                 "facility = boat-1",
                 "actions = view,book,cancel",
+                f"days = {day(0)}..{day(4)}",
                 f"until < {day(5)}T00:00",
             ],
-            "the second spare pass",
+            "the second spare pass, until Friday",
             lines_in(page, third),
         )
         has(
@@ -297,7 +302,7 @@ def lends(passes, front, between):
             passes["amy-lend-1"],
             '{"guests":0}',
         )
-        again = made(page, says)
+        again = made(page, f"Max may book courts until the end of {friday}, up to 600 points.")
         check(
             lines_in(page, again)[-1] == "spend <= 800" and again.endswith(";spent=200"),
             "a second loan",
@@ -410,6 +415,7 @@ def tries_the_club(address):
             )
             engine.tap("//button[@id='to-lend']")
             engine.tap("//input[@name='lend-points'][@value='200']/..")
+            engine.tap("//input[@id='lend-later']")
             engine.tap("//button[@id='lend-make']")
             engine.when("document.getElementById('lend-made').offsetParent !== null", "a link")
             lent = engine.run("return document.getElementById('lend-address').value")

@@ -9,10 +9,11 @@ import { closeDialog, openDialog, tell } from "./dialog.mjs";
 import { outcomeBox, slotText } from "./dialog_parts.mjs";
 import { button, element } from "./elements.mjs";
 import { agreedFor, isDenied, owedFor } from "./points.mjs";
-import { hasBegun, isAt, isTooFarAhead, MOST_GUESTS, refundAt, stateOf, unfinished } from "./record.mjs";
+import { hasBegun, isAt, isTooFarAhead, MOST_GUESTS, refundAt, stateOf } from "./record.mjs";
 import { noReplyText, refusalText } from "./refusals.mjs";
 import { NoReply } from "./replies.mjs";
 import { NotStored } from "./sender.mjs";
+import { cancelled, decided } from "./senders.mjs";
 import { canSend, clubMoment, denial, state } from "./state.mjs";
 import { say } from "./words.mjs";
 
@@ -142,15 +143,6 @@ async function confirmChange(entry, slot, guests, whenDone) {
   ], whenDone);
 }
 
-// Waits until the desk has replied to an entry's request or has refused the pass, then returns the entry.
-function decidedOf(entry) {
-  return new Promise((done) => {
-    state.sender.follow(entry, (now) => {
-      if (now.stopped !== undefined || unfinished(now) === null) done(now);
-    });
-  });
-}
-
 async function change({ entry, slot, guests, agreed, outcome, press }) {
   outcome.replaceChildren(element("p", "sending", say("sending")));
   const end = (className, ...words) => {
@@ -159,17 +151,14 @@ async function change({ entry, slot, guests, agreed, outcome, press }) {
   };
   try {
     const made = await state.sender.book(slot, guests, true, agreed);
-    const asked = decidedOf(made);
+    const asked = decided(state.sender, made);
     await state.sender.run();
     const now = await asked;
     if (stateOf(now) !== "booked") {
       end("fault", element("strong", "", say("change-none")), " ", refusalText(now.stopped ?? now.book, "book", now));
       return;
     }
-    await state.sender.cancel(entry.key, entry.number);
-    const cancelling = decidedOf(entry);
-    await state.sender.run();
-    const gone = await cancelling;
+    const gone = await cancelled(entry);
     if (stateOf(gone) === "cancelled") end("done", element("strong", "", say("changed")), " ", say("cancelled-detail", { count: gone.cancel.refund }));
     else end("fault", element("strong", "", say("change-both")), " ", refusalText(gone.notCancelled ?? gone.stopped, "cancel"));
   } catch (fault) {

@@ -210,7 +210,7 @@ export function offerListed(entry, view, whenDone) {
 // `book` records the request. After a refusal or an error, the function calls `again`, which may enable the button again. After
 // a refusal, `again` gets the refused entry. After any other result, the function calls `done`, which removes the member's choices.
 async function sendBooking({ book, slot, view, outcome, press, whenDone, again, done }) {
-  const end = waitingWords(outcome);
+  const end = waitingWords(outcome, state.sender);
   try {
     const entry = await book();
     if (entry.second !== undefined) {
@@ -244,5 +244,5 @@ function outcomeOfBooking(entry) {
   if (stateOf(entry) === "refused") return [faultBox(say("not-booked"), refusalText(entry.book, "book", entry))];
   const { charge, left } = entry.book;
   const lines = [element("strong", "", say("booked")), " ", say("booked-detail", { count: charge, number: String(entry.number) })];
-  return [element("p", "done", ...lines, " ", say("booked-left", { count: left })), ...unsavedNote()];
+  return [element("p", "done", ...lines, " ", say("booked-left", { count: left })), ...unsavedNote(state.sender)];
 }

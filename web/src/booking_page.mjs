@@ -1,6 +1,7 @@
 // The page on which a member looks at slots, books and cancels.
 import { lookAfterBookings, showBookings } from "./bookings_view.mjs";
 import { lookAtAccount, offerRecord, setUpAccount, showAccount, showExport, showLost, showPass } from "./account_view.mjs";
+import { showLoans } from "./loans_view.mjs";
 import { beginCardLists } from "./card_list.mjs";
 import { askToPersist, lookWhetherPersists } from "./list_keeping.mjs";
 import { fetchClub } from "./club_loading.mjs";
@@ -19,6 +20,7 @@ import { findPass, isPassShown, keptElsewhere, passNotices, setUpPasses, showCho
 import { unfinished } from "./record.mjs";
 import { startScreen } from "./screen_view.mjs";
 import { Sender } from "./sender.mjs";
+import { finishSpares } from "./senders.mjs";
 import { offerSpares } from "./spares_view.mjs";
 import { clubTime, ownEntries, spentOfKey, state } from "./state.mjs";
 import { Store } from "./store.mjs";
@@ -48,6 +50,7 @@ function show() {
   showChoice();
   showBookings(refresh);
   if (!isIn) byName("bookings").hidden = state.entries.length === 0;
+  if (view === "lend") showLoans();
   if (view !== "account") return;
   put("at-hand", say(opensOffline() ? "opens-offline" : "opens-not-offline"));
   showPass();
@@ -129,6 +132,7 @@ function goOn() {
   showCells();
   lookAtAccount().then(() => { showPassSays(); showCells(); });
   state.sender?.usePass(state.text, state.key).catch(reportTrouble);
+  finishSpares().catch(reportTrouble);
 }
 
 function reportTrouble(fault) {
@@ -149,14 +153,16 @@ async function openStore() {
   try {
     if (navigator.locks === undefined) throw new Error("no locks");
     state.store = await Store.open();
-    state.sender = new Sender({
+    state.makeSender = () => new Sender({
       store: state.store, exchange, lock: (work) => navigator.locks.request(placeName("desk"), work), pause: pauseUntilOnline,
       changed: () => { others?.postMessage("changed"); refresh(); }, guess: spentOfKey,
     });
+    state.sender = state.makeSender();
     state.entries = await state.sender.entries();
   } catch {
     storageTrouble = navigator.locks === undefined && isSecureContext ? "no-locks" : "storage-none";
     state.sender = null;
+    state.makeSender = null;
   }
 }
 

@@ -14,6 +14,7 @@ import { onlyListed } from "./lists.mjs";
 import { amountsOf, canBeAsked, compared, hasBegun, isLive, refundAt, slotName, stateOf, unfinished } from "./record.mjs";
 import { noReplyText, refusalText } from "./refusals.mjs";
 import { NoReply } from "./replies.mjs";
+import { canCancel } from "./senders.mjs";
 import { canSend, clubMoment, denial, isLost, ownEntries, state } from "./state.mjs";
 import { say } from "./words.mjs";
 
@@ -30,7 +31,7 @@ export function showBookings(whenDone) {
   putCardList("to-come", toCome, (entry) => cardOf(entry, false, whenDone));
   byName("past-part").hidden = past.length === 0;
   putCardList("past", past, (entry) => cardOf(entry, true, whenDone));
-  showOthers();
+  showOthers(moment, whenDone);
   showOnlyListed();
   showListKept();
   const count = toCome.filter(isLive).length;
@@ -48,10 +49,12 @@ function showComparison(own, moment) {
   put("list-says", ...(words === undefined ? [] : [say(words, { count: found.points })]));
 }
 
-function showOthers() {
+// Shows the bookings of other passes. The member can cancel those of a spare pass that this browser keeps.
+function showOthers(moment, whenDone) {
+  const isDone = (entry) => moment === null || hasBegun(entry, moment) || !canCancel(entry);
   const others = state.entries.filter((entry) => entry.key !== state.key).sort((a, b) => startOf(a).localeCompare(startOf(b)));
   byName("other-part").hidden = others.length === 0;
-  putCardList("others", others, (entry) => cardOf(entry, true, () => {}));
+  putCardList("others", others, (entry) => cardOf(entry, isDone(entry), whenDone));
   const open = new Map();
   for (const entry of others) if (unfinished(entry) !== null) open.set(entry.key, (open.get(entry.key) ?? 0) + 1);
   put("needs-pass", ...[...open].map(([key, count]) => element("p", "note", say("needs-pass", { count, key }))));
@@ -114,10 +117,10 @@ function whatCanBeDone(entry, whenDone) {
   const buttons = [];
   const words = [];
   const isListed = stateOf(entry) === "listed";
-  if (canBeAsked(entry) && canSend() && denial("book", entry, { guests: entry.guests }) === 0) {
+  if (canBeAsked(entry) && entry.key === state.key && canSend() && denial("book", entry, { guests: entry.guests }) === 0) {
     buttons.push(button("", say("listed-ask"), () => askAbout(entry, whenDone)));
   }
-  if ((stateOf(entry) === "booked" || isListed) && canSend() && denial("cancel", entry) === 0) {
+  if ((stateOf(entry) === "booked" || isListed) && canCancel(entry)) {
     words.push(...refundWords(entry));
     buttons.push(cancelButton(entry, whenDone));
   }
@@ -142,7 +145,7 @@ function refundWords(entry) {
   const back = moment === null ? null : refundAt(entry, moment);
   if (back !== null && stateOf(entry) === "listed") return [element("p", "hint", say("listed-gives-back", { count: back }))];
   if (back !== null && back > 0 && minutesOf(moment) + 1440 <= minutesOf(startOf(entry))) {
-    return [element("p", "hint", say("gives-back-until", { count: back, ...fullRefundUntil(entry) }))];
+    return [element("p", "hint", say("gives-back-until", { count: back, ...fullRefundUntil(entry, entry.key === state.key ? state.pass : null) }))];
   }
   return back === null ? [] : [element("p", "hint", say("gives-back", { count: back }))];
 }

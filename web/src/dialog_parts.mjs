@@ -3,7 +3,6 @@ import { hourText } from "./dates.mjs";
 import { closeDialog, isDialogOpen } from "./dialog.mjs";
 import { button, element } from "./elements.mjs";
 import { noReplyText } from "./refusals.mjs";
-import { state } from "./state.mjs";
 import { dateText, say } from "./words.mjs";
 
 const SEEN_AFTER = 1000; // milliseconds until the page says that there is no answer yet
@@ -28,14 +27,14 @@ export function outcomeBox() {
 
 // Tells the member after a second that the desk hasn't answered yet, and explains the delay after ten seconds. Returns a function that stops these
 // messages.
-export function waitingWords(outcome) {
+export function waitingWords(outcome, sender) {
   const begun = Date.now();
   outcome.replaceChildren(element("p", "sending", say("sending")));
   const timer = setInterval(() => {
     const waited = Date.now() - begun;
     if (waited < SEEN_AFTER) return;
-    const count = state.sender.tries + 1;
-    const why = noReplyText(state.sender.status, "sending-no-answer");
+    const count = sender.tries + 1;
+    const why = noReplyText(sender.status, "sending-no-answer");
     const lines = [element("p", "sending", say("sending-again", { why, count }))];
     if (waited >= LONG_AFTER) lines.push(element("p", "note", say("sending-long")));
     outcome.replaceChildren(...lines);
@@ -51,6 +50,6 @@ export function finish(press) {
   if (hadFocus && isDialogOpen()) close.focus();
 }
 
-export function unsavedNote() {
-  return state.sender.unsaved.size > 0 ? [element("p", "note", say("reply-not-stored"))] : [];
+export function unsavedNote(sender) {
+  return sender.unsaved.size > 0 ? [element("p", "note", say("reply-not-stored"))] : [];
 }

@@ -143,7 +143,8 @@ function isLoan(each) {
 // In a loan, `given` is the text that the member handed on, `says` is the sentence about the loan, and `spare` is the spare pass that the member
 // narrowed. If the member narrowed no spare pass, `spare` is "".
 export function keptLoans() {
-  return [...loansOfPage, ...keptList("loans", isLoan)].map(({ given, says, spare }) => ({ given, says, spare, ...splitGiven(given) }));
+  return [...loansOfPage, ...keptList("loans", isLoan)]
+    .map(({ given, says, spare, ended }) => ({ given, says, spare, ended: ended === true, ...splitGiven(given) }));
 }
 
 // Adds a loan, and returns whether the browser stored the loan. If the browser can't store another loan, only the page knows this loan, until the
@@ -154,6 +155,13 @@ export function keepLoan({ given, says, spare }) {
   const isKept = others.length < MOST_LOANS && keep(true, "loans", JSON.stringify([loan, ...others]));
   if (!isKept) loansOfPage = [loan, ...loansOfPage];
   return isKept;
+}
+
+// Notes that the member ended a loan. Returns whether the browser stored this.
+export function endLoan({ given }) {
+  const ended = (each) => each.given === given ? { ...each, ended: true } : each;
+  loansOfPage = loansOfPage.map(ended);
+  return keep(true, "loans", JSON.stringify(keptList("loans", isLoan).map(ended)));
 }
 
 export function dropLoan({ given }) {

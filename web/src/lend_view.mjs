@@ -4,9 +4,10 @@ import { titleOf } from "./club.mjs";
 import { KINDS, readCaveat } from "./caveats.mjs";
 import { daysLater, isDate } from "./dates.mjs";
 import { ask } from "./desk.mjs";
-import { button, byName, element, put } from "./elements.mjs";
-import { dropLoan, keepLoan, keptLoans, keptSpares, plainName } from "./keeping.mjs";
-import { allowsFacility, caveatsOf, endOf, freeSpares, lastDayOf, limitOf, linesOf, passOrNull, sparesLent } from "./lend.mjs";
+import { byName, element, put } from "./elements.mjs";
+import { keepLoan, keptLoans, keptSpares, plainName } from "./keeping.mjs";
+import { allowsFacility, caveatsOf, freeSpares, lastDayOf, limitOf, linesOf, sparesLent } from "./lend.mjs";
+import { lookAtLoans, setUpLoans, showLoans } from "./loans_view.mjs";
 import { canSign, narrowed, withSpent, writePass } from "./pass.mjs";
 import { Fault } from "./pass_faults.mjs";
 import { faultText, sentenceOf } from "./pass_words.mjs";
@@ -21,8 +22,6 @@ const DAYS_TO_CHOOSE = 7;
 const POINTS = [200, 600, 1000];
 const LONGEST_LOAN = 365; // days
 
-// Maps the text of a spare pass to the points spent with it, from the desk's last reply.
-const spentBy = new Map();
 const unfit = new Set(); // the texts of spare passes that the desk refuses or that belong to another member
 let isMaking = false;
 
@@ -75,18 +74,20 @@ function chosenLoan() {
   const last = valueOf("lend-until") === "other" ? byName("lend-day").value : valueOf("lend-until");
   const points = valueOf("lend-points") === "other" ? byName("lend-count").value.trim() : valueOf("lend-points");
   const isToLook = valueOf("lend-how") === "look";
+  const first = byName("lend-later").checked ? "" : clubMoment().slice(0, 10);
   if (!isDate(last) || last < byName("lend-day").min || last > byName("lend-day").max) return { wrong: "lend-wrong-day", field: "lend-day" };
   if (!isToLook && points !== "none" && !/^[1-9][0-9]{0,5}$/.test(points)) return { wrong: "lend-wrong-points", field: "lend-count" };
   return {
-    name: plainName(byName("lend-name").value), last, isToLook, points: points === "none" || isToLook ? null : Number(points),
+    name: plainName(byName("lend-name").value), first, last, isToLook, points: points === "none" || isToLook ? null : Number(points),
     kind: what.startsWith("kind ") ? what.slice(5) : "", facility: what === "one" ? byName("lend-facility").value : "",
   };
 }
 
 // Describes the loan in a sentence. If the loan narrows the member's own pass and this pass has limits, a second sentence mentions these limits.
-function loanText({ name, kind, facility, isToLook, last, points }, isOfOwn) {
+function loanText({ name, kind, facility, isToLook, first, last, points }, isOfOwn) {
   const what = kind !== "" ? say(`kinds-${kind}`) : facility !== "" ? titleOf(state.club, facility) : say("lend-everything");
-  const loan = say(isToLook ? "lend-says-look" : "lend-says-book", {
+  const words = isToLook ? "lend-says-look" : first === "" ? "lend-says-later" : "lend-says-book";
+  const loan = say(words, {
     who: name || say("lend-somebody"), what, day: dayText(last), points: points === null ? "" : say("lend-says-points", { count: points }),
   });
   return isOfOwn && state.pass.caveats.length > 0 ? `${loan} ${say("lend-within")}` : loan;
@@ -96,7 +97,7 @@ function showChosen() {
   byName("lend-facility-part").hidden = valueOf("lend-what") !== "one";
   byName("lend-day-part").hidden = valueOf("lend-until") !== "other";
   byName("lend-count-part").hidden = valueOf("lend-points") !== "other";
-  byName("lend-points-part").hidden = valueOf("lend-how") === "look";
+  for (const id of ["lend-points-part", "lend-later-part"]) byName(id).hidden = valueOf("lend-how") === "look";
   const loan = chosenLoan();
   const isOfOwn = loan.isToLook || sparesToLend().length === 0;
   put("lend-says", loan.wrong === undefined ? loanText(loan, isOfOwn) : wrongText(loan));
@@ -219,35 +220,9 @@ async function copyLoan() {
 
 // ---- What is lent
 
-function showLoans() {
-  const loans = keptLoans();
-  byName("loans-part").hidden = loans.length === 0;
-  put("loans", ...loans.map(loanCard));
-}
-
-function loanCard(loan) {
-  const pass = passOrNull(loan.text);
-  const isOver = pass !== null && (endOf(pass) ?? "9999") <= clubMoment();
-  const spent = spentBy.get(loan.spare);
-  const limit = pass === null ? null : limitOf(pass);
-  const facts = [];
-  if (isOver) facts.push(say("lend-over"));
-  if (spent !== undefined && limit !== null) facts.push(say("lend-used", { spent: Math.max(0, spent - loan.spent), most: limit - loan.spent }));
-  // A member can remove only a loan that has ended, because the spare pass of a current loan is still lent.
-  const press = isOver ? button("", say("remove"), () => { dropLoan(loan); showLend(); })
-    : button("", say("lend-again"), () => showMade(loan.given, loan.says));
-  return element("li", isOver ? "card cancelled" : "card booked", element("p", "", loan.says), element("p", "hint", facts.join(" \u00b7 ")),
-    element("div", "buttons", press));
-}
-
 // Asks the desk for the points spent with each lent spare pass. Also asks which of the other spare passes the member can use.
 async function lookAfterLoans() {
-  const lent = sparesLent(keptLoans(), clubMoment());
-  for (const text of lent) {
-    const reply = await ask(text, "account", {}, 2).catch(() => null);
-    if (reply?.spent !== undefined) spentBy.set(text, reply.spent);
-  }
-  if (lent.size > 0) showLoans();
+  await lookAtLoans(sparesLent(keptLoans(), clubMoment()));
   if (state.account === null) return;
   for (const { text } of sparesToLend()) await accountOfSpare(text, state.account.member).catch(() => null);
   showChosen();
@@ -273,6 +248,7 @@ export function goToLend() {
 }
 
 export function setUpLend() {
+  setUpLoans({ showMade, showLend, look: () => { showLend(); lookAfterLoans(); } });
   byName("lend-form").addEventListener("submit", lend);
   byName("lend-form").addEventListener("input", showChosen);
   byName("lend-copy").addEventListener("click", copyLoan);

@@ -18,6 +18,7 @@ export const state = {
   isKept: false,
   store: null, // null if the browser stores nothing
   sender: null,
+  makeSender: null, // makes a sender for another pass; null if the browser stores nothing
   entries: [], // the record's bookings, under all keys
   // The desk's reply about the account, with the time of the reply in `at`.
   account: null,
