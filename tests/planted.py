@@ -125,6 +125,24 @@ PLANTS = {
         "allocations after the commit",
     ),
     "modules_hold": ("web/src/dates.mjs", '"mon", "tue"', '"tue", "mon"', "not ok"),
+    "modules_hold:no-cancellation": (
+        "web/src/again.mjs",
+        "await state.sender.cancel(entry.key, entry.number);",
+        "",
+        "a changed booking is made first",
+    ),
+    "modules_hold:dearer-than-shown": (
+        "web/src/points.mjs",
+        "view.price * (guests + 1)",
+        "view.price",
+        "a booking costs the price for each person",
+    ),
+    "modules_hold:caches-the-account": (
+        "web/src/worker.js",
+        " || !PAGES.includes(path)",
+        "",
+        "the worker leaves the desk's requests",
+    ),
     "modules_hold:lists-doubt": (
         "web/src/state.mjs",
         '(stateOf(each) === "listed" && stateOf(entry) === "listed")',
