@@ -127,8 +127,8 @@ PLANTS = {
     "modules_hold": ("web/src/dates.mjs", '"mon", "tue"', '"tue", "mon"', "not ok"),
     "modules_hold:no-cancellation": (
         "web/src/again.mjs",
-        "await state.sender.cancel(entry.key, entry.number);",
-        "",
+        "const gone = await cancelled(entry);",
+        "const gone = entry;",
         "a changed booking is made first",
     ),
     "modules_hold:dearer-than-shown": (
