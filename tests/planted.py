@@ -221,6 +221,24 @@ PLANTS = {
         "goesOn(passOrNull(text))",
         "an ended loan's spare pass",
     ),
+    "modules_hold:begins-with-an-empty-day": (
+        "web/src/club.mjs",
+        "`${hourText(shuts - 1)}:00` > time",
+        "true",
+        "the first day",
+    ),
+    "modules_hold:counts-facilities": (
+        "web/src/points.mjs",
+        "sum + Math.max(0, places - taken)",
+        "sum + 1",
+        "not ok",
+    ),
+    "modules_hold:keeps-refused-passes": (
+        "web/src/replies.mjs",
+        "fault >= PASS_TOO_LONG && fault <= CAVEAT_NOT_UNDERSTOOD",
+        "fault > CAVEAT_NOT_UNDERSTOOD",
+        "refusals of the pass",
+    ),
     "machine_lives": (
         "deploy/Caddyfile",
         "respond @large 413",

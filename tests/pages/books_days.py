@@ -854,7 +854,7 @@ def finds_a_time(page, passes):
         "return [...byName('find-grid').tBodies[0].rows].map((row) => [...row.cells].slice(1).map((cell) => cell.innerText.trim()))"
     )
     check(
-        len(grid) == 7 and grid[0] == ["Full", "3 free"] and grid[1] == ["3 free", "2 free"],
+        len(grid) == 7 and grid[0] == ["Full", "10 free"] and grid[1] == ["10 free", "6 free"],
         "the week's courts from 18 to 20",
         grid,
     )
@@ -866,7 +866,7 @@ def finds_a_time(page, passes):
     grid = page.run(
         "return [...byName('find-grid').tBodies[0].rows].map((row) => [...row.cells].slice(1).map((cell) => cell.innerText.trim()))"
     )
-    check(grid[0] == ["2 free", "2 free"], "boats", grid)
+    check(grid[0] == ["6 free", "6 free"], "boats", grid)
     page.press("Courts", "find-kinds")
     for field, hour in (("find-to", "19"), ("find-from", "18")):
         page.run(

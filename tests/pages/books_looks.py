@@ -227,6 +227,10 @@ def hall_screen(passes, front, server):
             ),
             "no scrolling",
         )
+        letters = page.run(
+            "return Math.min(...[...document.querySelectorAll('#screen td.free')].map((each) => parseFloat(getComputedStyle(each).fontSize)))"
+        )
+        check(letters >= 26, "letters that the far wall can read", letters)
         keep("screen-1920-dark.png", page.command("Page.captureScreenshot")["data"])
         first = {
             path: count - asked[method, path]

@@ -6,7 +6,7 @@ import { question, tell } from "./dialog.mjs";
 import { button, byName, element, put } from "./elements.mjs";
 import { noteTaken } from "./list_keeping.mjs";
 import { MOST_AT_ONCE, newsOf } from "./lists.mjs";
-import { enterAnother, forgetPass, keepThis, keptText, nameField } from "./passes_view.mjs";
+import { canBeKept, enterAnother, forgetPass, keepThis, keptText, nameField, noteRefusal } from "./passes_view.mjs";
 import { fact, keyWarning, limitList } from "./pass_words.mjs";
 import { drawQr } from "./qr_picture.mjs";
 import { fragmentOfRecord, hasBegun, isLive, readRecord, recordText } from "./record.mjs";
@@ -29,6 +29,7 @@ export async function lookAtAccount() {
     const reply = await ask(state.text, "account", {});
     state.account = reply.fault === undefined ? { ...reply, at: clubTime() } : null;
     showAccount(reply.fault === undefined ? "" : refusalText(reply));
+    noteRefusal(reply);
   } catch (fault) {
     if (!(fault instanceof NoReply)) throw fault;
     showAccount(noReplyText(fault.status, "account-failed"));
@@ -69,7 +70,7 @@ export function showPass() {
     if (!await question(say("forget-pass"), [say("forget-question", { name: state.name })], say("forget-pass"), say("back"))) return;
     forgetPass();
   });
-  put("pass-buttons", ...(state.isKept ? [] : [keep]), copy, button("", say("enter-another"), enterAnother), drop);
+  put("pass-buttons", ...(state.isKept || !canBeKept() ? [] : [keep]), copy, button("", say("enter-another"), enterAnother), drop);
   put("trap-device", say("trap-device", { key: state.account?.member ?? state.key?.replace(/-[0-9]+$/, "") ?? "" }));
 }
 

@@ -1,7 +1,7 @@
 // The club's list is the file club.json, which deploy/club_json makes. The page needs the list because the desk's replies contain neither the club's
 // time zone nor the opening hours.
 import { isName, KINDS } from "./caveats.mjs";
-import { isDate, isZone } from "./dates.mjs";
+import { daysLater, hourText, isDate, isZone } from "./dates.mjs";
 
 function isWhole(value, least, most) {
   return Number.isInteger(value) && value >= least && value <= most;
@@ -61,6 +61,12 @@ export function titleOf(club, name) {
 // Returns the office's reason for closing a slot, or "". Only the desk knows whether the slot is still closed.
 export function whyClosed(club, { facility, day, hour }) {
   return club?.closures.find((each) => each.facility === facility && each.day === day && each.from <= hour && hour < each.until)?.why ?? "";
+}
+
+// Returns the first day on which a facility has a slot that hasn't begun: the day of a moment, or the next day.
+export function firstDayOf(facilities, moment) {
+  const [today, time] = moment.split("T");
+  return facilities.some(({ shuts }) => `${hourText(shuts - 1)}:00` > time) ? today : daysLater(today, 1);
 }
 
 // Returns the hours at which a facility's slots begin.

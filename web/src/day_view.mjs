@@ -1,6 +1,6 @@
 // The table of a day has a column for each facility and a row for each hour. The page sends a request for each slot, at most six at the same time. A
 // narrow screen shows only one facility, and the page requests the slots of this facility first.
-import { facilityOf, hoursOf, titleOf, whyClosed } from "./club.mjs";
+import { facilityOf, firstDayOf, hoursOf, titleOf, whyClosed } from "./club.mjs";
 import { offerBooking, offerClosed } from "./booking_dialog.mjs";
 import { firstDenial } from "./caveats.mjs";
 import { daysLater, hourText, isDate } from "./dates.mjs";
@@ -8,7 +8,8 @@ import { ask, eachAtOnce } from "./desk.mjs";
 import { button, byName, element, put } from "./elements.mjs";
 import { showFind, setUpFind } from "./find_view.mjs";
 import { lastBooked } from "./keeping.mjs";
-import { endedContent, enterAnother } from "./passes_view.mjs";
+import { endedContent, enterAnother, noteRefusal } from "./passes_view.mjs";
+import { isToTry } from "./place.mjs";
 import { DAYS_AHEAD, hasBegun, isTooFarAhead, personsOf, stateOf } from "./record.mjs";
 import { limitText, refusalText } from "./refusals.mjs";
 import { CAVEAT_DENIES, NoReply } from "./replies.mjs";
@@ -38,6 +39,17 @@ function today() {
   return clubMoment().slice(0, 10);
 }
 
+// After the day's last slot, the page begins with the next day. The trial club begins with a day on which the first facility has slots to press.
+function dayToBegin() {
+  const allowed = state.club.facilities.filter((facility) => denial("view", { facility: facility.name, day: today(), hour: facility.opens }) === 0);
+  return firstDayOf(isToTry() ? allowed.slice(0, 1) : allowed, clubMoment());
+}
+
+function firstWithSlots(facilities) {
+  const moment = clubMoment();
+  return facilities.find((facility) => slotsOf(facility).some((slot) => !hasBegun(slot, moment))) ?? facilities[0];
+}
+
 function lastDay() {
   return daysLater(today(), DAYS_AHEAD);
 }
@@ -58,10 +70,10 @@ function isOpenToPass(slot) {
 
 export function showDay(wanted = day) {
   if (state.club === null || state.pass === null) return;
-  day = wanted ?? today();
+  day = wanted ?? dayToBegin();
   const facilities = state.club.facilities.filter((facility) => slotsOf(facility).some(isOpenToPass));
   const isThere = (name) => facilities.some((facility) => facility.name === name);
-  if (!isThere(chosen)) chosen = isThere(lastBooked()?.facility) ? lastBooked().facility : facilities[0]?.name ?? null;
+  if (!isThere(chosen)) chosen = isThere(lastBooked()?.facility) ? lastBooked().facility : firstWithSlots(facilities)?.name ?? null;
   showDayBar();
   byName("find-part").hidden = !isFinding;
   byName("day-part").hidden = isFinding;
@@ -330,6 +342,7 @@ function refused(cell, reply) {
   cell.state = "denied";
   if (reply.fault === CAVEAT_DENIES || reply.fault > CAVEAT_DENIES) return;
   round += 1;
+  noteRefusal(reply);
   byName("progress").hidden = true;
   put("looked");
   put("day-fault", element("span", "", refusalText(reply)), button("", say("enter-another"), enterAnother));

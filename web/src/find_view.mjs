@@ -9,7 +9,7 @@ import { closeDialog, openDialog } from "./dialog.mjs";
 import { button, byName, element, put } from "./elements.mjs";
 import { keepSearch, keptSearch, lastBooked } from "./keeping.mjs";
 import { endedContent } from "./passes_view.mjs";
-import { isDenied } from "./points.mjs";
+import { isDenied, placesLeft } from "./points.mjs";
 import { DAYS_AHEAD, hasBegun, isTooFarAhead, slotName, stateOf } from "./record.mjs";
 import { refusalText } from "./refusals.mjs";
 import { NoReply } from "./replies.mjs";
@@ -120,7 +120,7 @@ function cellFor(day, hour) {
   const isMine = slots.some(hasOwn);
   const isWaiting = slots.some((slot) => !views.has(slotName(slot)));
   const isFailed = slots.some((slot) => views.get(slotName(slot)) === "failed");
-  const words = isWaiting ? "\u2026" : free.length > 0 ? say("find-free", { count: free.length }) : isFailed ? say("cell-failed")
+  const words = isWaiting ? "\u2026" : free.length > 0 ? say("find-free", { count: placesLeft(free.map((slot) => views.get(slotName(slot)))) }) : isFailed ? say("cell-failed")
     : slots.length === 0 ? "\u2013" : say(slots.some(hasRoom) ? "cell-too-dear" : "cell-full");
   const made = button(`slot ${isMine ? "mine" : free.length > 0 ? "free" : "past"}`, words, () => offerFound(day, hour));
   if (isMine) made.replaceChildren(element("span", "", say("cell-mine-only")), element("small", "", words));

@@ -7,6 +7,7 @@ import { endOf } from "./lend.mjs";
 import { keyName, pastedText, readPass, sentText, splitGiven, withSpent } from "./pass.mjs";
 import { Fault } from "./pass_faults.mjs";
 import { faultContent, untilText } from "./pass_words.mjs";
+import { refusesPass } from "./replies.mjs";
 import { clubMoment, state } from "./state.mjs";
 import { say } from "./words.mjs";
 
@@ -31,7 +32,7 @@ function takePass(whole) {
   const kept = keptPasses().find((each) => each.text === given);
   const name = kept?.name ?? used.get(given) ?? freeName(plainName(key ?? shown(pass.identifier)) || "?");
   used.set(given, name);
-  Object.assign(state, { pass, text: sent, given, base: spent, key, name, isKept: kept !== undefined, account: null });
+  Object.assign(state, { pass, text: sent, given, base: spent, key, name, isKept: kept !== undefined, isRefused: false, account: null });
   isEntering = false;
   keepTrouble = "";
 }
@@ -127,7 +128,7 @@ function useEntered(event) {
   byName("given").removeAttribute("aria-invalid");
   isAsked = false;
   holdPass(state.given);
-  if (byName("keep").checked) keepThis();
+  if (byName("keep").checked && canBeKept()) keepThis();
   else if (!state.isKept) keepForTab(state.given);
   page.begin();
 }
@@ -167,7 +168,7 @@ export function forgetPass() {
 }
 
 function loseState() {
-  Object.assign(state, { pass: null, text: "", given: "", base: 0, key: null, name: "", account: null, isKept: false });
+  Object.assign(state, { pass: null, text: "", given: "", base: 0, key: null, name: "", account: null, isKept: false, isRefused: false });
   if (state.sender !== null) Object.assign(state.sender, { pass: null, key: null });
   isAsked = false;
   isEntering = false;
@@ -187,7 +188,7 @@ export function passNotices() {
   const notices = [];
   if (!state.isKept && keptPasses().length > 0) notices.push([say("other-pass-kept", { name: state.name })]);
   if (keepTrouble !== "" && !state.isKept) notices.push([keptText()]);
-  if (isAsked) {
+  if (isAsked && canBeKept()) {
     const answer = (isWanted) => () => {
       if (isWanted) keepThis();
       else keepForTab(state.given);
@@ -197,6 +198,18 @@ export function passNotices() {
     notices.push([say("keep-question"), button("", say("keep-yes"), answer(true)), button("", say("keep-no"), answer(false))]);
   }
   return notices;
+}
+
+// Returns whether the page offers to keep the pass in use. It doesn't offer this for a pass that has ended or that the desk refuses.
+export function canBeKept() {
+  return !state.isRefused && endedContent().length === 0;
+}
+
+// Notes a refusal. Shows the page anew if the desk refuses every request under the pass.
+export function noteRefusal(reply) {
+  if (state.isRefused || !refusesPass(reply)) return;
+  state.isRefused = true;
+  page.show();
 }
 
 // Returns the text about a pass that has ended: its end, and what the member can do. Returns no text if the pass hasn't ended.

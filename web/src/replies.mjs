@@ -6,6 +6,7 @@ const STATUSES = {
   1: 400, 2: 404, 3: 405, 4: 401, 5: 400, 6: 400, 7: 400, 8: 400, 9: 401, 10: 403, 11: 403, 12: 403,
   13: 409, 14: 404, 15: 404, 16: 409, 17: 409, 18: 409, 19: 409, 20: 402, 21: 409, 22: 503,
 };
+const PASS_TOO_LONG = 5;
 export const NOT_VERIFIED = 9;
 export const KEY_REVOKED = 10;
 export const CAVEAT_NOT_UNDERSTOOD = 11;
@@ -32,6 +33,11 @@ export class NoReply extends Error {
 // Throws if the response is the proxy's message that there were too many requests.
 export function refuseTooMany(status, retryAfter) {
   if (status === TOO_MANY_REQUESTS) throw new NoReply(`status ${status}`, status, 1000 * (Number(retryAfter) || 1));
+}
+
+// Returns whether the desk refuses every request under the pass.
+export function refusesPass({ fault }) {
+  return fault !== undefined && fault >= PASS_TOO_LONG && fault <= CAVEAT_NOT_UNDERSTOOD;
 }
 
 function isCount(value) {

@@ -91,15 +91,18 @@ async function renew() {
 }
 
 function showScreen(days) {
-  const rows = Math.max(...days.map((day) => new Set(slotsOn(day).map((slot) => slot.hour)).size));
-  const hasSentences = state.club.facilities.some((facility) => facility.about !== "");
-  document.documentElement.style.setProperty("--rows", String(rows + (hasSentences ? 5 : 3)));
-  document.documentElement.style.setProperty("--columns", String(state.club.facilities.length + 1));
   const isStale = newsAt !== null && Date.now() - newsAt > STALE;
   const stand = newsAt === null ? "" : say(isStale ? "screen-stale" : "screen-stand", { time: newsTime });
   const clock = element("p", "screen-clock", element("strong", "", clubTime()), " ", element("span", isStale ? "wrong" : "", stand));
   const tables = days.map((day, place) => tableOf(day, say(place === 0 ? "screen-today" : "screen-tomorrow", { day: dayText(day) }), place));
-  put("screen", clock, ...(trouble === "" ? [] : [element("p", "fault", trouble)]), element("div", "screen-days", ...tables));
+  put("screen", clock, ...(trouble === "" ? [] : [element("p", "fault", trouble)]), element("div", `screen-days${slotsOn(days[0]).length === 0 ? " day-over" : ""}`, ...tables));
+}
+
+// A table's letters are as large as its rows and columns allow, because they must be readable from the far wall.
+function sizeTable(part, hours, facilities) {
+  const hasSentences = facilities.some((facility) => facility.about !== "");
+  part.style.setProperty("--rows", String(hours.length + (hasSentences ? 3 : 2)));
+  part.style.setProperty("--columns", String(facilities.length + 1));
 }
 
 function tableOf(day, title, place) {
@@ -111,6 +114,7 @@ function tableOf(day, title, place) {
   }
   const facilities = state.club.facilities.filter((facility) => slots.some((slot) => slot.facility === facility.name));
   const hours = [...new Set(slots.map((slot) => slot.hour))].sort((a, b) => a - b);
+  sizeTable(part, hours, facilities);
   const head = element("tr", "", element("th", "hour", say("hour")), ...facilities.map((facility) => headOf(facility)));
   const rows = hours.map((hour) => element("tr", "", element("th", "hour", `${hourText(hour)}:00`), ...facilities.map((facility) => {
     const isThere = slots.some((slot) => slot.facility === facility.name && slot.hour === hour);

@@ -16,6 +16,7 @@ export const state = {
   key: null,
   name: "", // the label of the pass, which a member chooses
   isKept: false,
+  isRefused: false, // whether the desk refused the pass itself
   store: null, // null if the browser stores nothing
   sender: null,
   makeSender: null, // makes a sender for another pass; null if the browser stores nothing

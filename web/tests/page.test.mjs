@@ -5,9 +5,11 @@ import { mkdtempSync, readdirSync, readFileSync, rmSync, writeFileSync } from "n
 import { tmpdir } from "node:os";
 import { join } from "node:path";
 import { test } from "node:test";
-import { facilityOf, hoursOf, readClub, titleOf, whyClosed } from "../src/club.mjs";
+import { facilityOf, firstDayOf, hoursOf, readClub, titleOf, whyClosed } from "../src/club.mjs";
 import { daysLater, isDate, isZone, minutesOf, momentIn, startOf, weekdayOf } from "../src/dates.mjs";
+import { placesLeft } from "../src/points.mjs";
 import { qrRows } from "../src/qr.mjs";
+import { refusesPass } from "../src/replies.mjs";
 import { dateText, grouped, languageFor, listed, say, shortDayText } from "../src/words.mjs";
 import { speak, TABLES } from "./kit.mjs";
 
@@ -79,6 +81,23 @@ test("the club's list", () => {
     { zone: "UTC", facilities: [court, court] }, ...[["name", "Court"], ["kind", "pool"], ["opens", 24], ["opens", 22], ["shuts", 25], ["opens", "8"],
       ["title", ""], ["title", 7], ["name", 7]].map(([name, value]) => ({ zone: "UTC", facilities: [{ ...court, [name]: value }] }))];
   for (const value of odd) assert.equal(readClub(value), null, JSON.stringify(value));
+});
+
+test("the page begins with a day that has slots left", () => {
+  const courts = [{ opens: 8, shuts: 22 }, { opens: 7, shuts: 23 }];
+  const rows = [["2026-05-01T00:00", "2026-05-01"], ["2026-05-01T20:59", "2026-05-01"], ["2026-05-01T21:59", "2026-05-01"], ["2026-05-01T22:00", "2026-05-02"],
+    ["2026-05-31T23:30", "2026-06-01"]];
+  for (const [moment, day] of rows) assert.equal(firstDayOf(courts, moment), day, "the first day");
+  assert.equal(firstDayOf(courts.slice(0, 1), "2026-05-01T21:00"), "2026-05-02", "the first day");
+});
+
+test("free places are counted over several facilities", () => {
+  assert.equal(placesLeft([{ places: 4, taken: 1 }, { places: 2, taken: 2 }, { places: 2, taken: 3 }]), 3, "places");
+});
+
+test("a refusal of the pass is told from a refusal of a request", () => {
+  assert.deepEqual(Array.from({ length: 22 }, (_, place) => place + 1).filter((fault) => refusesPass({ fault })), [5, 6, 7, 8, 9, 10, 11], "refusals of the pass");
+  assert.ok(!refusesPass({ member: "amy" }));
 });
 
 test("every module of the page compiles", () => {
