@@ -45,7 +45,6 @@ FACILITIES = [
     ("boat-2", "Coxed four", "boat", 4, 250, 6, 22),
     ("room-1", None, "room", 1, 601, 8, 22),
 ]
-FILES = ("book.html", "pass.html", "demo.html", "worker.js", "app.webmanifest")
 CELLS = sum(shuts - opens for *_, opens, shuts in FACILITIES)
 
 

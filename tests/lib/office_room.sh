@@ -46,7 +46,7 @@ mkdir -p /usr/lib/clubdesk /usr/share/doc/clubdesk/examples /usr/share/clubdesk/
 install -m 755 "$top/deploy/clubdesk-setup" /usr/bin/clubdesk-setup
 find "$top/deploy" -maxdepth 1 -type f -perm -100 ! -name office ! -name clubdesk-setup -exec install -m 755 -t /usr/lib/clubdesk {} +
 install -m 644 -t /usr/share/doc/clubdesk/examples "$top"/deploy/*.conf "$top/deploy/Caddyfile"
-find "$top/web" -maxdepth 1 -type f -exec install -m 644 -t /usr/share/clubdesk/web {} +
+"$top/bin/pages" --to /usr/share/clubdesk/web
 
 # page_block HEADING: prints the command lines for root under this heading of docs/RUNNING.md. Omits lines that install Debian packages.
 page_block() {

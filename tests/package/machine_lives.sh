@@ -126,8 +126,9 @@ echo "the first booking, $took seconds after the first command"
 
 # Like nginx, caddy serves the pages with their security policies, and refuses some requests itself.
 head_of() { inside curl -sS --max-time 20 --cacert /root/ca.pem -o /dev/null -D - "$@" | tr -d '\r' | tr "[:upper:]" "[:lower:]"; }
+"$top/bin/pages" --to pages
 for page in book.html pass.html demo.html worker.js app.webmanifest; do
-    same "the page $page" "$(sha256sum <"$top/web/$page")" "$(inside curl -sS --cacert /root/ca.pem "https://desk.example.org/$page" | sha256sum)"
+    same "the page $page" "$(sha256sum <"pages/$page")" "$(inside curl -sS --cacert /root/ca.pem "https://desk.example.org/$page" | sha256sum)"
     head_of "https://desk.example.org/$page" >heads
     grep -qx 'cache-control: no-cache' heads || fail "the caching of $page: $(cat heads)"
 done

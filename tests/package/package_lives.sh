@@ -150,8 +150,9 @@ day=$(TZ=CET-1CEST,M3.5.0,M10.5.0/3 date -d '+2 days' +%F)
 books 'a booking behind TLS'
 served=$(($(date +%s) - installed))
 [ "$served" -lt 600 ] || fail "setting up a club behind TLS took $served seconds"
+"$top/bin/pages" --to pages
 for page in book.html pass.html demo.html worker.js app.webmanifest; do
-    same "the page $page" "$(sha256sum <"$top/web/$page")" "$(inside curl -sS --cacert /etc/ssl/clubdesk/certificate.pem \
+    same "the page $page" "$(sha256sum <"pages/$page")" "$(inside curl -sS --cacert /etc/ssl/clubdesk/certificate.pem \
         --resolve desk.example.org:443:127.0.0.1 "https://desk.example.org/$page" | sha256sum)"
 done
 holds 'a letter' inside grep -q svg /root/amy-1.html

@@ -157,7 +157,7 @@ court='{"name":"court-1","title":"Court 1","kind":"court","opens":0,"shuts":24}'
 same "the club's list" "{\"name\":\"Our club\",\"zone\":\"Europe/Berlin\",\"facilities\":[$court]}" "$(curl $site/club.json)"
 for page in book pass; do
     curl --compressed -D fields -o told $site/$page.html
-    same "the page $page" "$(sha256sum <"$top/web/$page.html") 1" "$(sha256sum <told) $(grep -ci '^content-encoding: gzip' fields)"
+    same "the page $page" "$(sha256sum <"/usr/share/clubdesk/web/$page.html") 1" "$(sha256sum <told) $(grep -ci '^content-encoding: gzip' fields)"
 done
 same '/' "302 $site/book.html" "$(curl -o told -w '%{http_code} %{redirect_url}' $site/)"
 same "a pass of the other club" '{"fault":9,"text":"not verified"}' "$(seen rowing desk account)"

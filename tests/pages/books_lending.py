@@ -956,7 +956,7 @@ def club_to_try():
     says_what_it_keeps(address)
     tries_the_club(address)
     # If the member opens web/book.html from a folder, the page says so, and links to web/demo.html.
-    shutil.copy(f"{TOP}/web/book.html", "book.html")
+    shutil.copy("www/book.html", "book.html")
     with Browser() as page:
         page.open(pathlib.Path("book.html").absolute().as_uri())
         time.sleep(1)

@@ -29,9 +29,7 @@ part also runs in Firefox and WebKitGTK. The test covers:
 
 import atexit
 import json
-import os
 import pathlib
-import shutil
 import sys
 from pathlib import Path
 
@@ -42,7 +40,6 @@ from booking_page import (
     BookingPage,
     DESK,
     FACILITIES,
-    FILES,
     RULE,
     Server,
     TOP,
@@ -113,8 +110,9 @@ def main():
         *"openssl req -x509 -newkey rsa:2048 -nodes -days 2 -subj /CN=desk.example.org -addext subjectAltName=DNS:desk.example.org"
         " -keyout key.pem -out certificate.pem".split()
     )
+    printed(f"{TOP}/bin/pages", "--to", "www")
     policy_holds(
-        pathlib.Path(TOP, "web/book.html"),
+        pathlib.Path("www/book.html"),
         {
             "connect-src": "'self'",
             "worker-src": "'self'",
@@ -126,9 +124,6 @@ def main():
         "app.webmanifest",
     )
     passes = make_club()
-    os.mkdir("www")
-    for name in FILES:
-        shutil.copy(f"{TOP}/web/{name}", "www")
     listed = club_list("".join(f"{name} {title}\n" for name, title, *_ in FACILITIES if title))
     pathlib.Path("www/club.json").write_text(listed)
     names = [
