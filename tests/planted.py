@@ -231,7 +231,7 @@ PLANTS = {
         "web/src/points.mjs",
         "sum + Math.max(0, places - taken)",
         "sum + 1",
-        "not ok",
+        "places of several facilities",
     ),
     "modules_hold:keeps-refused-passes": (
         "web/src/replies.mjs",

@@ -92,7 +92,7 @@ test("the page begins with a day that has slots left", () => {
 });
 
 test("free places are counted over several facilities", () => {
-  assert.equal(placesLeft([{ places: 4, taken: 1 }, { places: 2, taken: 2 }, { places: 2, taken: 3 }]), 3, "places");
+  assert.equal(placesLeft([{ places: 4, taken: 1 }, { places: 2, taken: 0 }, { places: 2, taken: 3 }]), 5, "places of several facilities");
 });
 
 test("a refusal of the pass is told from a refusal of a request", () => {
