@@ -98,12 +98,12 @@ test("the buttons beside the day lead to the next day and back", async () => {
 
 // ---- A free time
 
-test("a week shows how many facilities of a kind are free at each hour", async () => {
+test("a week shows how many places of a kind are free at each hour", async () => {
   showFind("2026-05-01");
   await settled();
   assert.equal(byName("find-kinds").children.length, 2);
   assert.equal(byName("find-grid").querySelectorAll("tr").length, 1 + 7);
-  assert.ok(shownIn("find-grid").includes(say("find-free", { count: 1 })));
+  assert.ok(shownIn("find-grid").includes(say("find-free", { count: 4 })));
 });
 
 test("the next free time is on the first day with a free slot", async () => {
