@@ -126,9 +126,9 @@ PLANTS = {
     ),
     "modules_hold": ("web/src/dates.mjs", '"mon", "tue"', '"tue", "mon"', "not ok"),
     "modules_hold:no-cancellation": (
-        "web/src/again.mjs",
-        "const gone = await cancelled(entry);",
-        "const gone = entry;",
+        "web/src/sender.mjs",
+        "await this.replacedBy(next) : null;",
+        "null : null;",
         "a changed booking is made first",
     ),
     "modules_hold:dearer-than-shown": (
@@ -238,6 +238,30 @@ PLANTS = {
         "fault >= PASS_TOO_LONG && fault <= CAVEAT_NOT_UNDERSTOOD",
         "fault > CAVEAT_NOT_UNDERSTOOD",
         "refusals of the pass",
+    ),
+    "modules_hold:second-half-is-lost": (
+        "web/src/sender.mjs",
+        "    return withCancellation(old);\n",
+        "    return null;\n",
+        "the second half is recorded with the first reply",
+    ),
+    "modules_hold:two-tabs-change-twice": (
+        "web/src/sender.mjs",
+        '(isReplaced || old === undefined || stateOf(old) !== "booked")',
+        "false",
+        "two tabs",
+    ),
+    "modules_hold:series-books-twice": (
+        "web/src/sender.mjs",
+        "        if (second !== undefined) return { second };\n        const made",
+        "        const made",
+        "a second tab",
+    ),
+    "modules_hold:series-without-a-rest": (
+        "web/src/choice_dialog.mjs",
+        "plan.filter(({ why }) => why === null).map",
+        "plan.map",
+        "the honest rest",
     ),
     "machine_lives": (
         "deploy/Caddyfile",
@@ -664,7 +688,7 @@ PLANTS = {
         "club_to_try",
     ),
     "page_books:forgets-the-end": (
-        "web/src/booking_dialog.mjs",
+        "web/src/choice_dialog.mjs",
         "end === null || end > startOf(slot)",
         "end === null || end < startOf(slot)",
         "a slot after the pass's end",

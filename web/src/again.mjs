@@ -2,19 +2,15 @@
 // the booking.
 import { offerBooking } from "./booking_dialog.mjs";
 import { calendarText } from "./calendar.mjs";
-import { facilityOf, hoursOf, titleOf, whyClosed } from "./club.mjs";
-import { daysLater, hourText } from "./dates.mjs";
-import { ask } from "./desk.mjs";
-import { closeDialog, openDialog, tell } from "./dialog.mjs";
-import { outcomeBox, slotText } from "./dialog_parts.mjs";
+import { lookedUp, offerChange } from "./change_dialog.mjs";
+import { titleOf } from "./club.mjs";
+import { daysLater } from "./dates.mjs";
+import { tell } from "./dialog.mjs";
+import { slotText } from "./dialog_parts.mjs";
 import { button, element } from "./elements.mjs";
-import { agreedFor, isDenied, owedFor } from "./points.mjs";
-import { hasBegun, isAt, isTooFarAhead, MOST_GUESTS, refundAt, stateOf } from "./record.mjs";
-import { noReplyText, refusalText } from "./refusals.mjs";
-import { NoReply } from "./replies.mjs";
-import { NotStored } from "./sender.mjs";
-import { cancelled, decided } from "./senders.mjs";
-import { canSend, clubMoment, denial, state } from "./state.mjs";
+import { stateOf } from "./record.mjs";
+import { whyNot } from "./series.mjs";
+import { canSend, denial, state } from "./state.mjs";
 import { say } from "./words.mjs";
 
 // Makes the buttons below "More" on a booking's card.
@@ -62,107 +58,12 @@ async function invite(entry) {
   }
 }
 
-// Returns the desk's reply about a slot as `view`. If the pass doesn't allow viewing the slot, `view` is null. If the request fails, the function
-// tells the member why, and returns null.
-async function lookedUp(slot, title) {
-  try {
-    const reply = denial("view", slot) > 0 ? null : await ask(state.text, "view", slot, 2);
-    if (reply?.fault === undefined) return { view: reply };
-    await tell(title, refusalText(reply));
-  } catch (fault) {
-    if (!(fault instanceof NoReply)) throw fault;
-    await tell(title, noReplyText(fault.status, "account-failed"));
-  }
-  return null;
-}
-
 async function offerNextWeek(entry, whenDone) {
   const slot = { facility: entry.facility, day: daysLater(entry.day, 7), hour: entry.hour };
   const title = say("next-week");
   const found = await lookedUp(slot, title);
   if (found === null) return;
   const why = whyNot(slot, found.view);
-  if (why === null) offerBooking(slot, found.view, whenDone);
+  if (why === null) offerBooking(slot, found.view, whenDone, entry.guests ?? 0);
   else await tell(title, [slotText(slot), why].join(": "));
-}
-
-function whyNot(slot, view) {
-  const moment = clubMoment();
-  if (hasBegun(slot, moment)) return say("cell-past");
-  if (isTooFarAhead(slot, moment)) return say("cell-far");
-  if (isDenied(slot, view, 0)) return say("cell-denied");
-  if (view?.closed) return [say("cell-closed"), whyClosed(state.club, slot)].filter((each) => each !== "").join(", ");
-  return view !== null && view.taken >= view.places ? say("cell-full") : null;
-}
-
-// ---- Changing a booking. The page first makes a new booking, and then cancels the old booking
-
-function offerChange(entry, whenDone) {
-  const facility = facilityOf(state.club, entry.facility);
-  const moment = clubMoment();
-  const hours = facility === null ? [entry.hour] : hoursOf(facility).filter((hour) => !hasBegun({ ...entry, hour }, moment));
-  const hourField = element("select", "", ...hours.map((hour) => new Option(`${hourText(hour)}:00`, String(hour), false, hour === entry.hour)));
-  const guestField = Object.assign(element("input", ""), { type: "number", min: 0, max: MOST_GUESTS, value: entry.guests });
-  hourField.id = "change-hour";
-  guestField.id = "change-guests";
-  const labels = [["lost-hour", hourField], ["guests-label", guestField]].map(([words, field]) => {
-    const label = element("label", "", say(words));
-    label.htmlFor = field.id;
-    return element("div", "", label, field);
-  });
-  const outcome = outcomeBox();
-  const next = button("main wide-button", say("change-look"), async () => {
-    const guests = Number(guestField.value);
-    const slot = { facility: entry.facility, day: entry.day, hour: Number(hourField.value) };
-    if (!Number.isInteger(guests) || guests < 0 || guests > MOST_GUESTS) outcome.replaceChildren(element("p", "wrong", say("wrong-guests")));
-    else if (isAt(entry, slot) && guests === entry.guests) outcome.replaceChildren(element("p", "wrong", say("change-same")));
-    else await confirmChange(entry, slot, guests, whenDone);
-  });
-  openDialog(say("change-title", { facility: titleOf(state.club, entry.facility) }), [
-    element("p", "slot-time", slotText(entry)), element("div", "pair", ...labels), outcome, element("div", "buttons", next),
-  ], whenDone);
-}
-
-// Shows the cost of the new booking, the refund of the old booking, and what happens if one of the two requests fails. The page sends these requests
-// only after the member presses the button.
-async function confirmChange(entry, slot, guests, whenDone) {
-  const title = say("change-title", { facility: titleOf(state.club, entry.facility) });
-  const found = await lookedUp(slot, title);
-  if (found === null) return;
-  const why = isDenied(slot, found.view, guests) ? say("cell-denied") : null;
-  const outcome = outcomeBox();
-  const back = refundAt(entry, clubMoment());
-  const press = button("main wide-button", say(found.view === null ? "change-now-unseen" : "change-now", { count: owedFor(found.view, guests) }), () => {
-    press.disabled = true;
-    change({ entry, slot, guests, agreed: agreedFor(found.view, guests), outcome, press });
-  });
-  openDialog(title, [
-    element("p", "slot-time", slotText(slot)), element("p", "", say("persons", { count: guests + 1 })),
-    ...(back === null ? [] : [element("p", "", say("change-back", { count: back }))]), element("p", "hint", say("change-hint")),
-    ...(why === null ? [] : [element("p", "wrong", why)]), outcome, element("div", "buttons", ...(why === null ? [press] : []), button("", say("back"), closeDialog)),
-  ], whenDone);
-}
-
-async function change({ entry, slot, guests, agreed, outcome, press }) {
-  outcome.replaceChildren(element("p", "sending", say("sending")));
-  const end = (className, ...words) => {
-    outcome.replaceChildren(element("p", className, ...words));
-    press.replaceWith(button("main wide-button", say("close"), closeDialog));
-  };
-  try {
-    const made = await state.sender.book(slot, guests, true, agreed);
-    const asked = decided(state.sender, made);
-    await state.sender.run();
-    const now = await asked;
-    if (stateOf(now) !== "booked") {
-      end("fault", element("strong", "", say("change-none")), " ", refusalText(now.stopped ?? now.book, "book", now));
-      return;
-    }
-    const gone = await cancelled(entry);
-    if (stateOf(gone) === "cancelled") end("done", element("strong", "", say("changed")), " ", say("cancelled-detail", { count: gone.cancel.refund }));
-    else end("fault", element("strong", "", say("change-both")), " ", refusalText(gone.notCancelled ?? gone.stopped, "cancel"));
-  } catch (fault) {
-    if (!(fault instanceof NotStored)) throw fault;
-    end("fault", say("not-stored"));
-  }
 }

@@ -4,6 +4,8 @@
 // - guests: the number of guests, or null if the browser knows only the booking's number and slot.
 // - agreed: the points that the member agreed to pay, or undefined if the page showed no price. The desk charges at most
 //   these points (price.mjs).
+// - replaces: the number of the booking that this booking replaces. Once the desk has made this booking, the page cancels the
+//   other booking.
 // - book: the reply to the PUT of the booking, or null before the reply. In an entry with `listed`, `book` is an empty object.
 // - cancel: the reply to the DELETE of the booking, null before the reply, or undefined without a DELETE.
 // - unsure: whether the desk may have carried out a request of this entry although no reply came.
@@ -33,9 +35,10 @@ export function drawnNumber(used, random = (array) => crypto.getRandomValues(arr
   }
 }
 
-export function newBooking(key, number, slot, guests, asked, agreed) {
+// `more` may have the fields `agreed` and `replaces`.
+export function newBooking(key, number, slot, guests, asked, more = {}) {
   const { facility, day, hour } = slot;
-  return { key, number, facility, day, hour, guests, agreed, book: null, unsure: false, asked };
+  return { key, number, facility, day, hour, guests, ...more, book: null, unsure: false, asked };
 }
 
 // Returns the request to send for an entry: "book", "cancel" or null. If the PUT has no reply yet, the page repeats the PUT before it sends the
@@ -86,12 +89,13 @@ export function withRequest(entry, agreed) {
 // Returns whether a stored value is an entry. The page neither shows nor sends other stored values.
 export function isEntry(value) {
   if (typeof value !== "object" || value === null) return false;
-  const { key, number, facility, day, hour, guests, agreed, book, cancel, listed, asked } = value;
+  const { key, number, facility, day, hour, guests, agreed, replaces, book, cancel, listed, asked } = value;
   const isReply = (reply) => typeof reply === "object" && !Array.isArray(reply);
   return [key, facility].every(isName) && isWithin(number, 1, LARGEST_NUMBER)
     && typeof day === "string" && isDate(day) && isWithin(hour, 0, 23) && (guests === null ? book !== null : isWithin(guests, 0, MOST_GUESTS))
     && isReply(book) && (cancel === undefined || isReply(cancel)) && (listed === undefined || (listed !== null && book !== null && isReply(listed)))
-    && (agreed === undefined || isWithin(agreed, 0, LARGEST_CHARGE)) && typeof asked === "number";
+    && (agreed === undefined || isWithin(agreed, 0, LARGEST_CHARGE))
+    && (replaces === undefined || isWithin(replaces, 1, LARGEST_NUMBER)) && typeof asked === "number";
 }
 
 function isWithin(value, least, most) {

@@ -46,19 +46,44 @@ export class Sender {
   }
 
   // Records a booking with a new number, and returns its entry. If the key already has a booking of this slot and the member doesn't intend a second
-  // booking, the function returns the existing entry as `second`. `agreed` is the shown price of the whole booking, or undefined.
-  async book(slot, guests, isMeant, agreed) {
+  // booking, the function returns the existing entry as `second`. `agreed` is the shown price of the whole booking, or undefined. `replaces` is the
+  // number of a booking that the sender cancels once the desk has made the new booking. If another tab already replaces it, the function returns it
+  // as `second`.
+  async book(slot, guests, isMeant, agreed, replaces) {
     const entry = await this.lock(async () => {
       const entries = await this.entries();
       const own = entries.filter((each) => each.key === this.key);
       const second = own.find((each) => isLive(each) && isAt(each, slot));
       if (second !== undefined && !isMeant) return { second };
-      const made = newBooking(this.key, this.draw(new Set(own.map((each) => each.number))), slot, guests, this.now(), agreed);
+      const old = own.find((each) => each.number === replaces);
+      const isReplaced = own.some((each) => each.replaces === replaces && each.book === null);
+      if (replaces !== undefined && (isReplaced || old === undefined || stateOf(old) !== "booked")) return { second: old };
+      const made = newBooking(this.key, this.draw(new Set(own.map((each) => each.number))), slot, guests, this.now(), { agreed, replaces });
       this.fresh.add(`book ${made.key}/${made.number}`);
       await this.written(made);
       return made;
     });
     return entry;
+  }
+
+  // Records several bookings in one change of the record, each with a new number. An order has a slot, guests and the agreed points. Returns for each
+  // order its entry, or the key's earlier booking of the slot as `second`.
+  bookAll(orders) {
+    return this.lock(async () => {
+      const own = (await this.entries()).filter((each) => each.key === this.key);
+      const used = new Set(own.map((each) => each.number));
+      const found = orders.map(({ slot, guests, agreed }, place) => {
+        const second = own.find((each) => isLive(each) && isAt(each, slot));
+        if (second !== undefined) return { second };
+        const made = newBooking(this.key, this.draw(used), slot, guests, this.now() + place, { agreed });
+        used.add(made.number);
+        return made;
+      });
+      const made = found.filter((each) => each.second === undefined);
+      for (const { key, number } of made) this.fresh.add(`book ${key}/${number}`);
+      await this.written(...made);
+      return found;
+    });
   }
 
   // Records a listed booking as a request with the same number, so that run() sends it.
@@ -169,24 +194,38 @@ export class Sender {
     return bookAtPrice({ exchange, text, entry, isRepeat, guess: this.guess() });
   }
 
-  // Records the desk's reply in an entry. If the key has already used the entry's number for another booking, books again with another number.
+  // Records the desk's reply in an entry. If the key has already used the entry's number for another booking, books again with another number. If the
+  // desk made a booking that replaces another, also records the cancellation of the other booking.
   async keep(entry, next) {
     const name = `${entry.key}/${entry.number}`;
     if (unfinished(next) !== null && next.stopped !== undefined) this.stopped.add(name);
-    const entries = [next];
-    if (unfinished(entry) === "book" && wantsOtherNumber(next)) {
-      const used = new Set((await this.entries()).filter((each) => each.key === entry.key).map((each) => each.number));
-      entries.push(newBooking(entry.key, this.draw(used), entry, entry.guests, entry.asked, entry.agreed));
-      this.fresh.add(`book ${entry.key}/${entries[1].number}`);
-    }
+    const isBooking = unfinished(entry) === "book";
+    const again = isBooking && wantsOtherNumber(next) ? await this.bookedAgain(entry) : null;
+    const replaced = isBooking && stateOf(next) === "booked" ? await this.replacedBy(next) : null;
+    const more = [again, replaced].filter((each) => each !== null);
     try {
-      await this.store.put(...entries);
+      await this.store.put(next, ...more);
       this.unsaved.delete(name);
     } catch (fault) {
-      if (entries.length > 1) throw new NotStored(String(fault));
+      if (more.length > 0) throw new NotStored(String(fault));
       this.unsaved.set(name, next);
     }
-    this.tell(entries.at(-1), entry);
+    this.tell(again ?? next, entry);
     this.changed();
+  }
+
+  async bookedAgain({ key, facility, day, hour, guests, asked, agreed, replaces }) {
+    const used = new Set((await this.entries()).filter((each) => each.key === key).map((each) => each.number));
+    const made = newBooking(key, this.draw(used), { facility, day, hour }, guests, asked, { agreed, replaces });
+    this.fresh.add(`book ${key}/${made.number}`);
+    return made;
+  }
+
+  // Returns the entry that a new booking replaces, with a request to cancel it. Returns null if there is no such entry.
+  async replacedBy({ key, replaces }) {
+    const old = replaces === undefined ? undefined : await this.store.get(key, replaces);
+    if (!isEntry(old) || stateOf(old) !== "booked") return null;
+    this.fresh.add(`cancel ${key}/${replaces}`);
+    return withCancellation(old);
   }
 }

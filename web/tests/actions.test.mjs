@@ -171,7 +171,7 @@ test("the same hour a week later is offered with its price", async () => {
   await buttonIn("notices", say("next-week")).click();
   await settled();
   assert.match(shownIn("dialog"), /8\s+?May/);
-  await press(say("book-for", { count: 200 }));
+  await press(say("book-for", { count: 400 }));
   assert.match(requests()[1], /^PUT \/slots\/court-1\/2026-05-08\/18\//);
 });
 

@@ -15,7 +15,7 @@ function listOf(count, first = 1, day = "2026-05-01") {
 }
 
 const SLOT = { facility: "court-1", day: "2026-05-01", hour: 18 };
-const OWN = answered(newBooking("amy-1", 1, SLOT, 1, 1000, 400), "book", { booking: "amy-1/1", charge: 400, left: 2 });
+const OWN = answered(newBooking("amy-1", 1, SLOT, 1, 1000, { agreed: 400 }), "book", { booking: "amy-1/1", charge: 400, left: 2 });
 
 test("one press adds at most 300 bookings of a list, the latest first", () => {
   let entries = [];
@@ -40,7 +40,7 @@ test("a list adds nothing that is known, and changes only what it may", () => {
 });
 
 test("what only lists show is removed, and nothing else", async () => {
-  const asked = newBooking("amy-1", 2, SLOT, 0, 1000, 200);
+  const asked = newBooking("amy-1", 2, SLOT, 0, 1000, { agreed: 200 });
   const [listed, noted, cancelling] = readRecord("record of amy-1\n7 court-1 2026-05-01 18 guests 0 charge 200 left 3\n"
     + "8 court-1 2026-05-01 19\n9 court-1 2026-05-01 20 guests 0 charge 200 left 3\n", 5).entries;
   const rows = [OWN, asked, listed, noted, withCancellation(cancelling), { ...listed, key: "bob-1" }];

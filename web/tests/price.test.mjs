@@ -25,7 +25,7 @@ function makeDesk() {
 }
 
 function entryOf(number = 7, guests = 0, agreed = 200) {
-  return newBooking("amy-1", number, SLOT, guests, 1000, agreed);
+  return newBooking("amy-1", number, SLOT, guests, 1000, { agreed });
 }
 
 const UNSEEN = { ...entryOf(), agreed: undefined }; // the page showed no price

@@ -135,7 +135,7 @@ export async function booked(slot = SLOT, guests = 1) {
 
 // Waits until the page has done what it does after a press: no request is open for a while.
 export async function settled() {
-  for (let quiet = 0; quiet < 10; quiet += 1) {
+  for (let quiet = 0; quiet < 25; quiet += 1) {
     await new Promise((done) => { setTimeout(done, 1); });
     if (open > 0) quiet = 0;
   }
