@@ -3,10 +3,11 @@
 
 ghost use Rattle.std.specs.Prelude.{◌≡◌, ◌≢◌, ◌↔◌, ◌+◌, ◌<◌, ◌≤◌, ◌⊎◌, ℕ, List, Err, IfOk, IsTrue};
 ghost use Rattle.std.specs.Prelude.{MatchOption, length, slice_get};
-ghost use Rattle.pass_c.specs.{Ask.Answers, Code.{code_of, memory_code, no_caveat_code}};
-ghost use Rattle.pass_c.specs.Code.{number_of_form, ok_code, result_of, too_many_code};
-ghost use Rattle.pass_c.specs.Object.{IsEmpty, filled, form_in, held, room, room_code, taken};
-ghost use Rattle.pass_c.specs.Output.{IsCopied, IsLeft, IsTextCopied, WritesForm};
+ghost use Rattle.pass_calls.specs.{Ask.Answers, Code.{code_of, memory_code, no_caveat_code}};
+ghost use Rattle.pass_calls.specs.Code.{number_of_form, ok_code, result_of, too_many_code};
+ghost use Rattle.pass_calls.specs.Object.{IsEmpty, fields_len, filled, form_in, held, room};
+ghost use Rattle.pass_calls.specs.Object.{room_code, taken};
+ghost use Rattle.pass_calls.specs.Output.{IsCopied, IsLeft, IsTextCopied, WritesForm};
 ghost use Rattle.pass_caveats.specs.{Caveat.Understood, Fault.IsFirstFault};
 ghost use Rattle.pass_caveats.specs.declared.caveat.Caveat.{Caveat};
 ghost use Rattle.pass_forms.specs.declared.fault.FormFault.TheVariants.{Memory, TooMany};
@@ -15,12 +16,10 @@ ghost use Rattle.pass_forms.specs.{Pass.{IsSigned, minted_pass}, declared.form.F
 ghost use Rattle.pass_forms.specs.Writing.{with_caveat};
 ghost use Rattle.pass_json.specs.{AnyForm.{IsAnyReading, MayRunOut}, computed.AnyForm.reading};
 
-use crate::ask::AskObject;
-use crate::code::{
-    BAD_ASK, MEMORY, NO_CAVEAT, NO_FORM, OK, code_of, fault_code, form_of, verdict_of,
+use pass_calls::{
+    AskObject, BAD_ASK, MEMORY, NO_CAVEAT, NO_FORM, OK, PassObject, code_of, fault_code, form_of,
+    put, verdict_of,
 };
-use crate::object::PassObject;
-use crate::output::put;
 use pass_caveats::laws::reads_what_is_understood;
 use pass_forms::Form;
 use std::alloc::Global;
@@ -33,6 +32,7 @@ pub extern "C" fn clubpass_read(alloc: Global, text: &[u8], pass: &mut PassObjec
         (filled (result_of result) pass.new) }
     ensures memory { result_of result ≡ Err Memory → MayRunOut text.now }
     ensures code { result ≡ code_of (result_of result) }
+    ensures taken { result ≡ ok_code → taken pass.new ≡ fields_len (held pass.new) }
     ensures form { result ≡ ok_code → pass.new.form ≡ number_of_form (form_in pass.new) }
     ensures empty { result ≢ ok_code → IsEmpty pass.new }
 {
@@ -144,6 +144,8 @@ pub extern "C" fn clubpass_mint(
     ensures value { result ≡ ok_code
         → held pass.new ≡ minted_pass root.now location.now identifier.now }
     ensures signed { result ≡ ok_code → IsSigned root.now (held pass.new) }
+    ensures taken { result ≡ ok_code
+        → taken pass.new ≡ length location.now + length identifier.now }
     ensures form { result ≡ ok_code → pass.new.form ≡ number_of_form V2 }
     ensures empty { result ≢ ok_code → IsEmpty pass.new }
 {
@@ -161,6 +163,7 @@ pub extern "C" fn clubpass_narrow(pass: &mut PassObject, caveat: &[u8]) -> u32
     ensures value { result ≡ ok_code → held pass.new ≡ with_caveat caveat.now (held pass.old) }
     ensures signed { result ≡ ok_code
         → (root : List ℕ) → IsSigned root (held pass.old) → IsSigned root (held pass.new) }
+    ensures taken { result ≡ ok_code → taken pass.new ≡ taken pass.old + length caveat.now }
     ensures unchanged { result ≢ ok_code → pass.new ≡ pass.old }
     ensures form { pass.new.form ≡ pass.old.form }
     ensures too_many { (result ≡ too_many_code) ↔ (max_caveats ≤ length (held pass.old).caveats) }

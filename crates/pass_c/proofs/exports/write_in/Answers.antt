@@ -1,5 +1,5 @@
 use Rattle.std.{proofs.Common.{refl, subst, Ok, Err, List, ℕ}, specs.String.string_bytes}
-use Rattle.pass_c.specs.Output.{IsCopied}
+use Rattle.pass_calls.specs.Output.{IsCopied}
 use Rattle.pass_c.proofs.exports.write_in.Goals as goal
 
 pub returns-in-Ok : goal.returns-in-Ok

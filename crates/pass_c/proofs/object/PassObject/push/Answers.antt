@@ -1,6 +1,0 @@
-use Rattle.pass_c.proofs.object.PassObject.push.Goals as goal
-use Rattle.std.proofs.Common.{arith}
-use Rattle.pass_c.proofs.HeldLemmas.{held_push}
-
-pub returns-clause-more : goal.returns-clause-more
-returns-clause-more c = grind (arith, held_push)

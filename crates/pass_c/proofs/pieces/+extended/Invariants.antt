@@ -1,5 +1,0 @@
-use Rattle.std.proofs.Common.{length}
-use Rattle.pass_c.proofs.pieces.+extended.Given as goal
-
-abbrev pub decreases-extended : goal.decreases-extended
-decreases-extended l = length l.lens.now

@@ -1,5 +1,0 @@
-use Rattle.std.proofs.Common.{length}
-use Rattle.pass_c.proofs.pieces.+first_fault_in.Given as goal
-
-abbrev pub decreases-first_fault_in : goal.decreases-first_fault_in
-decreases-first_fault_in l = length l.lens.now

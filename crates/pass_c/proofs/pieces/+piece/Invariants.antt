@@ -1,5 +1,0 @@
-use Rattle.std.proofs.Common.{length}
-use Rattle.pass_c.proofs.pieces.+piece.Given as goal
-
-abbrev pub decreases-piece : goal.decreases-piece
-decreases-piece l = length l.lens.now

@@ -1,5 +1,0 @@
-use Rattle.std.proofs.Common.{length}
-use Rattle.pass_c.proofs.pieces.+total.Given as goal
-
-abbrev pub decreases-total : goal.decreases-total
-decreases-total l = length l.lens.now
