@@ -853,6 +853,18 @@ PLANTS = {
         "SITE=http://{domain}",
         "the configuration has SITE=https",
     ),
+    "stack_bounds": (
+        "docs/TRUST.md",
+        "at most 256 KiB of stack",
+        "at most 64 KiB of stack",
+        "test_commands",
+    ),
+    "small_desk": (
+        "web/src/small_desk.mjs",
+        "Math.floor(booking.charge / 2)",
+        "Math.ceil(booking.charge / 2)",
+        "assert one == other",
+    ),
     "slow_clients": (
         "clubdesk",
         BY_HAND,
