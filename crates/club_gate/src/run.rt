@@ -8,15 +8,9 @@ ghost use Rattle.club_gate.specs.computed.DecodedPass.{machine_events, machine_e
 ghost use Rattle.club_core.specs.Run as machine;
 
 use crate::desk::{Desk, are_bytes};
-use crate::event::{Event, EventReply, OfficeReply};
-use crate::laws::{decodes, sees_events};
+use crate::event::{Event, EventReply};
+use crate::laws::{decodes, followed_runs_are_lawful, follows_one_more, sees_events};
 use club_core::ClubStore;
-use club_laws::conservation::sound_clubs_have_places;
-use club_laws::failed::leaves_out_failed;
-use club_laws::runs_with_failures::{
-    cancellations_return_the_record, conserves_points, keeps_sound, repeats_after_one_more,
-    repeats_return_the_same, solo_law, solo_law_of_two,
-};
 use std::alloc::AllocError;
 
 /// Proves that every value in an event is within its limits.
@@ -63,15 +57,7 @@ impl<S: ClubStore> Desk<S> {
             (responses_of replies.items)) }
     {
         sees_events();
-        leaves_out_failed::<OfficeReply>();
-        keeps_sound::<OfficeReply>();
-        solo_law::<OfficeReply>();
-        solo_law_of_two::<OfficeReply>();
-        repeats_return_the_same::<OfficeReply>();
-        cancellations_return_the_record::<OfficeReply>();
-        repeats_after_one_more::<OfficeReply>();
-        conserves_points::<OfficeReply>();
-        sound_clubs_have_places();
+        followed_runs_are_lawful::<S>();
         self.follow(events)
     }
 
@@ -89,6 +75,7 @@ impl<S: ClubStore> Desk<S> {
             (machine_events events.now) (responses_of replies.items)) }
     {
         decodes();
+        follows_one_more::<S>();
         let mut replies = Vec::with_capacity(self.alloc, events.len())?;
         for event in events {
             event_within(event);

@@ -1,8 +1,8 @@
 use Rattle.club_core.specs.Run as machine
 use Rattle.club_gate.proofs.desk.Desk.follow.Goals as goal
-use Rattle.std.proofs.{Common.◌+◌, lemmas.{Grind.common_steps, List.{length-map, length-take, map-append, take_more, Elements.All-push}}}
+use Rattle.std.proofs.{Common.◌+◌, lemmas.{Grind.common_steps, List.{length-map, length-take, map-append, take_all, take_more, Elements.All-push}}}
 use Rattle.club_gate.proofs.Common.{◌≡◌, [], ◌∷◌, ◌++◌, ◌∙◌, length, take, ap, sym, subst, arith, All-nil, IsEvent, Steps, responses_of, IsEventOfBytes}
-use Rattle.club_gate.{proofs.{Common.machine_events, DeskLemmas.event_is, FollowedRuns.{followed_none, followed_more}}, specs.Response.response_of}
+use Rattle.club_gate.{proofs.{Common.machine_events, DeskLemmas.event_is}, specs.Response.response_of}
 use Rattle.club_gate.specs.{Runs.AreHandled.{no_event, one_event}, computed.DecodedPass.machine_event}
 
 pub loop-event-init : goal.loop-event-init
@@ -14,7 +14,7 @@ loop-event-init g c = record {
   within = All-nil IsEvent;
   bytes = All-nil IsEventOfBytes;
   handled = rw c.in_ok-replies.ensures.items no_event;
-  followed = λ _ club others s. rw c.in_ok-replies.ensures.items (followed_none g.S.ClubStore.ghosts c.args.self.now club others s);
+  followed = λ _ club others s. rw c.in_ok-replies.ensures.items (c.follows_one_more.ensures.none c.args.self.now club others s);
 }
 
 pub loop-event-preserved : goal.loop-event-preserved
@@ -42,7 +42,11 @@ loop-event-preserved g c =
           let steps = subst Stepped (sym (event_is c.decodes.ensures event did.0 c.event_within.ensures.bytes did.1)) did.2 in
           let each = c.loop-event.invariant.each in
           rw (next_seen, c.in_ok-push.ensures.items, map-append response_of replies (c.event.result ∷ []))
-          (followed_more g.S.ClubStore.ghosts c.loop-event.self c.event.new.self club others (machine_events first) (responses_of replies)
+          (c.follows_one_more.ensures.more c.loop-event.self c.event.new.self club others (machine_events first) (responses_of replies)
           (machine_event event) (response_of c.event.result) (simp (length-map, length-take) (omega arith))
           (c.loop-event.invariant.followed (c.event.ensures.was_clean h) club others s) steps);
     }
+
+pub returns-clause-followed : goal.returns-clause-followed
+returns-clause-followed g c = λ clean club others s.
+    rw (take_all c.loop-event.event-index c.args.events.now c.loop-event-test.false) at (c.loop-event.invariant.followed clean club others s)
