@@ -1,7 +1,7 @@
 -- The desk's reply to a decoded request, the calls that read a request, and the calls that write a
 -- reply.
 use Rattle.std.specs.Prelude.{◌≡◌, ℕ, List, Err, ◌⊎◌, ◌<◌, ◌≤◌, [], ◌++◌, length, take, Option, Some, None}
-use Rattle.club_core.specs.{Request.Words, Store.StoreGhosts, declared.{reply.Reply.Reply, request.Request.Request}}
+use Rattle.club_core.specs.{Request.Words, Run.IsRequest, Store.StoreGhosts, declared.{reply.Reply.Reply, request.Request.Request}}
 use Rattle.club_gate.specs.{DecodedPass.AreWordsOf, Desk.{DecidesOrFails, FailsForCause, OfItsClub}, Served.{IsLawful, RefusesByFormFault}}
 use Rattle.http_request.specs.{Frame.IsWhole, Length.max_request_len}
 use Rattle.pass_forms.specs.declared.fault.FormFault.{FormFault}
@@ -11,6 +11,7 @@ use Rattle.pass_json.specs.AnyForm.{IsAnyReading}
 -- rules of the club. A disk is clean if every read returns the bytes that were written, and no
 -- other program writes to the disk.
 pub record AnswersBy {S : Type 0} (ghosts : StoreGhosts S) (moment : ℕ) (text : List ℕ) (request : Request) (old : S) (reply : Reply) (new : S) : Type 0 where
+  pub within : IsRequest request
   pub was_clean : ghosts.is_clean new → ghosts.is_clean old
   pub steps : ghosts.is_clean new → (words : Words) × AreWordsOf text request words × DecidesOrFails ghosts old new words moment reply
   pub lawful : OfItsClub ghosts old new (λ club. IsLawful club text request moment reply)

@@ -14,6 +14,7 @@ impl<S: ClubStore> Responder for Desk<S> {
     ghost answers = { AnswersBy S.ghosts };
 
     fn ask(&mut self, moment: Moment, words: &Words<'_>) -> Reply {
+        words.request.within();
         Desk::ask(self, moment, words)
     }
 }
