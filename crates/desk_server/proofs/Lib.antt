@@ -1,1 +1,2 @@
 pub mod ServerLemmas
+pub mod Tracing

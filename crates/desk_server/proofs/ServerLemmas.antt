@@ -4,9 +4,10 @@ use Rattle.desk_server.specs.Log as log
 use Rattle.desk_server.specs.Served as served
 use Rattle.club_http.specs.Calls as calls
 use Rattle.desk_server.specs.Between as between
+use Rattle.desk_server.specs.Trace as trace
 use Rattle.std.proofs.Common.{◌∙◌, ℕ, List, Option, ap, refl, ◌<◌, ◌+◌, suc, arith, [], ◌∷◌, ◌++◌, length, take, Result, Ok, Err, ◌≡◌, append_assoc, append-nil}
 use Rattle.std.proofs.{Common.{sym, ◌≤◌, length-append, inl, inr, rules, Some, None, IfSome}, KnownBytes.{Keeps-refl, Keeps-trans, Appends-trans, Appends-kept}}
-use Rattle.std.proofs.{KnownBytes.Appends-nil, Math.Seq.take-append-add, lemmas.{List.{take_all, take-append-le, length-take-le}, Option.IfSome_then}}
+use Rattle.std.proofs.{KnownBytes.Appends-nil, Math.Seq.take-append-add, lemmas.{List.{map-append, take_all, take-append-le, length-take-le}, Option.IfSome_then}}
 use Rattle.std.specs.Io.KnownBytes.{Appends, Keeps}
 use Rattle.club_clock.specs.Moments.{GivesMoment}
 use Rattle.club_core.specs.declared.reply.Reply.{Reply}
@@ -14,8 +15,9 @@ use Rattle.club_http.specs.{Calls.{Call, Gives, ReadsNoFurther, ArePut}, Exchang
 use Rattle.club_http.specs.{Exchange.{AnswerRelation, IsReplied}, declared.fault.AnswerFault.{AnswerFault, TheVariants.{Read, Write}}}
 use Rattle.desk_server.specs.{Accepted.{HasMoved, HasWaited, Comes, IsEnded, IsRead, IsWritten, Talks}, Between.{CommandsAlone, AreWaits, Awaits}}
 use Rattle.desk_server.specs.{Limits.{AreInterrupted, Calls}, Log.{WritesLines, AreWritten, IsTextWritten, line_text}, Served.{answer_bytes, AreNotedMeanwhile}}
-use Rattle.desk_server.specs.Served.{IsBegun, Notes, Turn, events_in, AreNoted, AreServed, CommandRelation, CountsOn, Ends, IsDue, IsNoted, ServesOne, alone}
-use Rattle.desk_server.specs.{Served.{client_in, clients_in, AreCommanded, Meanwhile, ExchangesBetween, IsExchanged}, Server.IsCommanded}
+use Rattle.desk_server.specs.Served.{IsBegun, Notes, Turn, events_in, AreNoted, CommandRelation, CountsOn, Ends, IsNoted}
+use Rattle.desk_server.specs.{Served.{AreCommanded, Meanwhile, ExchangesBetween, IsExchanged}, Server.IsCommanded}
+use Rattle.desk_server.specs.Trace.{Ending, IsDue, IsTraced, TakesTurn, Trace, TracedTurn, client_in, clients_in, noted, turn_alone, turn_of, turns_of}
 use Rattle.desk_server.specs.declared.{between.Between.Between, limit.Limit.Limit, log.LogEvent.{LogEvent, TheVariants.{Absent, Overrun, Commanded}}}
 use Rattle.desk_server.specs.declared.timed.Accepted.{Accepted}
 use Rattle.http_response.specs.Text.{reply_text}
@@ -99,46 +101,50 @@ module _ {Log : Type 0} (Begins : Log → Log → Type 0) (Noted : Notes Log) (t
       rw (events_more turns turn, ← append_assoc (events_in turns) turn.meanwhile (turn.event ∷ []))
       (line_behind (lines_behind (if_begun turn.event noted.begins (writes_lines old l turns before)) noted.meanwhile) noted.notes)
 
-clients_more : (turns : List Turn) (turn : Turn) → clients_in (turns ++ turn ∷ []) ≡ clients_in turns + client_in turn.event
+clients_more : (trace : Trace) (turn : TracedTurn) → clients_in (trace ++ turn ∷ []) ≡ clients_in trace + client_in turn.ending
 clients_more [] turn = omega arith
-clients_more (first ∷ turns) turn = omega (arith, clients_more turns turn)
+clients_more (first ∷ trace) turn = omega (arith, clients_more trace turn)
 
 module _ {Clock Desk Source Log : Type 0} (Gives : GivesMoment Clock) (Answers : ℕ → AnswerRelation Desk) (Carries : CommandRelation Desk)
     (Ended : Ends) (waited failures : Source → ℕ) (Begins : Log → Log → Type 0) (Noted : Notes Log) where
-  -- The effect of the server's turns before an iteration of the server's loop. The server has
-  -- counted exactly `clients` clients for these turns. There are at least `commands` turns.
+  -- The server's trace before an iteration of the server's loop. The server has counted exactly
+  -- `clients` clients for the turns of the trace. There are at least `commands` turns.
   pub record SoFar (clients commands : ℕ) (s s' : Source) (c : Clock) (d : Desk) (l : Log) (c' : Clock) (d' : Desk) (l' : Log) : Type 0 where
-    pub turns : List Turn
-    pub so_many : clients_in turns ≡ clients
-    pub no_fewer : commands ≤ length turns
-    pub served : AreServed Gives Answers Carries Ended c d (failures s) turns c' d' (failures s')
-    pub noted : AreNoted Begins Noted l turns l'
-    pub called : CountsOn (waited s) (length turns) (waited s')
+    pub all : Trace
+    pub so_many : clients_in all ≡ clients
+    pub no_fewer : commands ≤ length all
+    pub traced : IsTraced Gives Answers Carries Ended c d (failures s) all c' d' (failures s')
+    pub noted : AreNoted Begins Noted l (turns_of all) l'
+    pub called : CountsOn (waited s) (length all) (waited s')
 
 module _ {Clock Desk Source Log : Type 0} {Gives : GivesMoment Clock} {Answers : ℕ → AnswerRelation Desk} {Carries : CommandRelation Desk}
     {Ended : Ends} {waited failures : Source → ℕ} {Begins : Log → Log → Type 0} {Noted : Notes Log} {clients commands : ℕ} {s s1 : Source}
     {c c1 : Clock} {d d1 : Desk} {l l1 : Log}
     (first : SoFar Gives Answers Carries Ended waited failures Begins Noted clients commands s s1 c d l c1 d1 l1) where
-  pub one_more : (turn : Turn) (clients' commands' : ℕ) (s' : Source) (c' : Clock) (d' : Desk) (l' : Log) → clients' ≡ clients + client_in turn.event
-      → commands' ≤ commands + 1 → IsDue first.turns turn.event
-      → ServesOne Gives Answers Carries Ended c1 d1 (failures s1) turn.meanwhile turn.event c' d' (failures s') → IsNoted Begins Noted l1 turn l'
-      → CountsOn (waited s) (length first.turns + 1) (waited s')
+  pub noted_more : (turn : TracedTurn) (l' : Log) → IsNoted Begins Noted l1 (turn_of turn) l' → AreNoted Begins Noted l (turns_of (first.all ++ turn ∷ [])) l'
+  noted_more turn l' noted =
+      rw (map-append turn_of first.all (turn ∷ [])) (served.one_noted (turns_of first.all) (turn_of turn) l1 l' first.noted noted)
+
+  pub one_more : (turn : TracedTurn) (clients' commands' : ℕ) (s' : Source) (c' : Clock) (d' : Desk) (l' : Log)
+      → clients' ≡ clients + client_in turn.ending → commands' ≤ commands + 1 → IsDue first.all turn.ending
+      → TakesTurn Gives Answers Carries Ended c1 d1 (failures s1) turn.meanwhile turn.ending c' d' (failures s')
+      → IsNoted Begins Noted l1 (turn_of turn) l' → CountsOn (waited s) (length first.all + 1) (waited s')
       → SoFar Gives Answers Carries Ended waited failures Begins Noted clients' commands' s s' c d l c' d' l'
   one_more turn clients' commands' s' c' d' l' so_many no_fewer due one noted called = record {
-    turns = first.turns ++ turn ∷ [];
-    so_many = omega (arith, clients_more first.turns turn, first.so_many);
-    no_fewer = omega (arith, length-append first.turns (turn ∷ []), first.no_fewer);
-    served = served.more first.turns turn c1 d1 (failures s1) c' d' (failures s') first.served due one;
-    noted = served.one_noted first.turns turn l1 l' first.noted noted;
-    called = rw (length-append first.turns (turn ∷ [])) called;
+    all = first.all ++ turn ∷ [];
+    so_many = omega (arith, clients_more first.all turn, first.so_many);
+    no_fewer = omega (arith, length-append first.all (turn ∷ []), first.no_fewer);
+    traced = trace.one_turn first.all turn c1 d1 (failures s1) c' d' (failures s') first.traced due one;
+    noted = noted_more turn l' noted;
+    called = rw (length-append first.all (turn ∷ [])) called;
   }
 
-  pub one_call : (s' : Source) → CountsOn (waited s1) 1 (waited s') → CountsOn (waited s) (length first.turns + 1) (waited s')
+  pub one_call : (s' : Source) → CountsOn (waited s1) 1 (waited s') → CountsOn (waited s) (length first.all + 1) (waited s')
   one_call s' waits fits = let before = first.called (omega arith) in let last = waits (omega arith) in omega arith
 
-pub noted_alone : {Log : Type 0} {Begins : Log → Log → Type 0} {Noted : Notes Log} {log log' : Log} (begun : Log) (event : LogEvent)
-    → IsBegun Begins Noted log event begun → Noted begun event log' → IsNoted Begins Noted log (alone event) log'
-noted_alone begun event begins notes = record { begun = begun; awaited = begun; begins = begins; meanwhile = served.no_note; notes = notes }
+pub noted_alone : {Log : Type 0} {Begins : Log → Log → Type 0} {Noted : Notes Log} {log log' : Log} (begun : Log) (ending : Ending)
+    → IsBegun Begins Noted log (noted ending) begun → Noted begun (noted ending) log' → IsNoted Begins Noted log (turn_of (turn_alone ending)) log'
+noted_alone begun ending begins notes = record { begun = begun; awaited = begun; begins = begins; meanwhile = served.no_note; notes = notes }
 
 pub filled : (room part : List ℕ) (len n k : ℕ) → len ≤ length room → n ≤ length part → take (len + n) (put_mid len k room part) ≡ take len room ++ take n part
 filled room part len n k within few =

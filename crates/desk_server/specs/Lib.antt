@@ -3,5 +3,6 @@ pub mod Server
 pub mod RequestLine
 pub mod Log
 pub mod Served
+pub mod Trace
 pub mod Between
 pub mod Accepted

@@ -78,30 +78,11 @@ pub record Turn : Type 0 where
   pub meanwhile : List LogEvent
   pub event : LogEvent
 
--- The turn with the given event, during which no other commands came.
-abbrev pub alone : LogEvent → Turn
-alone event = record { meanwhile = []; event = event }
-
 -- The events of the turns, in the order in which the log notes them. In each turn, the field
 -- `event` comes after the events in `meanwhile`.
 abbrev pub events_in : List Turn → List LogEvent
 events_in [] = []
 events_in (turn ∷ turns) = (turn.meanwhile ++ turn.event ∷ []) ++ events_in turns
-
--- The number of clients that the server counts for an event: 0 for a command, otherwise 1.
-abbrev pub client_in : LogEvent → ℕ
-client_in (Commanded moment carried) = 0
-client_in event = 1
-
--- The number of clients that the server counts for a list of turns.
-abbrev pub clients_in : List Turn → ℕ
-clients_in [] = 0
-clients_in (turn ∷ turns) = client_in turn.event + clients_in turns
-
--- An event `Overrun` comes only after at least 2 ^ 64 - 1 turns.
-abbrev pub IsDue : List Turn → LogEvent → Type 0
-IsDue turns Overrun = 2 ^ 64 ≤ suc (length turns)
-IsDue turns event = Unit {0}
 
 module _ {Clock Desk : Type 0} (Gives : GivesMoment Clock) (Carries : CommandRelation Desk) where
   -- The desk carried out consecutive commands. The desk carried out a command even if the clock
@@ -111,67 +92,6 @@ module _ {Clock Desk : Type 0} (Gives : GivesMoment Clock) (Carries : CommandRel
     one_command : (events : List LogEvent) (moment : Option ℕ) (carried : Option Carried) (c : Clock) (d : Desk) (c' : Clock) (d' : Desk)
         → AreCommanded clock desk events c d → Gives c moment c' → IsCarriedOut Carries d carried d'
         → AreCommanded clock desk (events ++ Commanded moment carried ∷ []) c' d'
-
-module _ {Clock Desk : Type 0} (Gives : GivesMoment Clock) (Answers : ℕ → AnswerRelation Desk) (Carries : CommandRelation Desk) (Ended : Ends) where
-  -- The effect of a client on the clock and the desk. The clock first gave the client's moment.
-  -- While the server waited for the client's request, the desk carried out commands, each at its
-  -- own moment. After the commands, the client's exchange took place. The relation `Ended` allows
-  -- the bytes and the outcome of this exchange.
-  pub record IsAttended (meanwhile : List LogEvent) (moment : ℕ) (line : List ℕ) (outcome : Result Reply AnswerFault) (clock : Clock) (desk : Desk)
-      (clock' : Clock) (desk' : Desk) : Type 0 where
-    pub given : Clock
-    pub left : Desk
-    pub gives : Gives clock (Some moment) given
-    pub commanded : AreCommanded Gives Carries given desk meanwhile clock' left
-    pub bytes : List ℕ
-    pub written : List ℕ
-    pub begins : line ≡ take 96 bytes
-    pub exchanged : IsExchanged (Answers moment) bytes left written outcome desk'
-    pub ended : Ended bytes written outcome
-
-  -- The effect of one arrival on the clock, the desk and the count of failed waits.
-  --
-  -- - If waiting failed, only the count grew.
-  -- - A command is carried out even if the clock gives no moment.
-  -- - Commands can interrupt only a client's turn.
-  -- - An event `Overrun` changes nothing.
-  abbrev pub ServesOne : Clock → Desk → ℕ → List LogEvent → LogEvent → Clock → Desk → ℕ → Type 0
-  ServesOne clock desk failures meanwhile Absent clock' desk' failures' =
-      (meanwhile ≡ []) × (failures' ≡ one_more failures) × (clock' ≡ clock) × (desk' ≡ desk)
-  ServesOne clock desk failures meanwhile Overrun clock' desk' failures' =
-      (meanwhile ≡ []) × (failures' ≡ failures) × (clock' ≡ clock) × (desk' ≡ desk)
-  ServesOne clock desk failures meanwhile (Exchanged moment line outcome) clock' desk' failures' =
-      (failures' ≡ failures) × IsAttended meanwhile moment line outcome clock desk clock' desk'
-  ServesOne clock desk failures meanwhile (Commanded moment carried) clock' desk' failures' =
-      (meanwhile ≡ []) × (failures' ≡ failures) × Gives clock moment clock' × IsCarriedOut Carries desk carried desk'
-  ServesOne clock desk failures meanwhile Unanswered clock' desk' failures' = ⊥
-
-  -- The server took the given turns one after the other.
-  pub data AreServed (clock : Clock) (desk : Desk) (failures : ℕ) : List Turn → Clock → Desk → ℕ → Type 0 where
-    none : AreServed clock desk failures [] clock desk failures
-    more : (turns : List Turn) (turn : Turn) (c : Clock) (d : Desk) (f : ℕ) (c' : Clock) (d' : Desk) (f' : ℕ)
-        → AreServed clock desk failures turns c d f → IsDue turns turn.event → ServesOne c d f turn.meanwhile turn.event c' d' f'
-        → AreServed clock desk failures (turns ++ turn ∷ []) c' d' f'
-
-  -- The effect of a server for `count` clients. The server served all `count` clients, or stopped
-  -- because the clock failed. The list `all` has all turns of the server. If the clock failed, the
-  -- last turn in `all` has the event `Unanswered`.
-  pub record ServesTurns (all : List Turn) (count : ℕ) (clock : Clock) (desk : Desk) (failures : ℕ) (outcome : Result Unit ClockOutOfRange)
-      (clock' : Clock) (desk' : Desk) (failures' : ℕ) : Type 0 where
-    pub turns : List Turn
-    pub last : Clock
-    pub before : AreServed clock desk failures turns last desk' failures'
-    pub ends : MatchResult outcome
-        (λ done. (clients_in turns ≡ count) × (clock' ≡ last) × (all ≡ turns))
-        (λ stopped. (clients_in turns < count) × Gives last None clock' × (all ≡ turns ++ alone Unanswered ∷ []))
-
-  -- The effect of a server for `count` clients. The list of the server's turns also has the
-  -- property `Besides`.
-  pub record Serves (count : ℕ) (clock : Clock) (desk : Desk) (failures : ℕ) (outcome : Result Unit ClockOutOfRange) (clock' : Clock) (desk' : Desk)
-      (failures' : ℕ) (Besides : List Turn → Type 0) : Type 0 where
-    pub all : List Turn
-    pub serves : ServesTurns all count clock desk failures outcome clock' desk' failures'
-    pub besides : Besides all
 
 -- A relation `Notes` describes a call of `note` by three terms: the log before the call, the event,
 -- and the log after the call.

@@ -4,7 +4,8 @@ use Rattle.std.specs.{Prelude.{ℕ, List, Option, Some, None, Result, String, le
 use Rattle.club_clock.specs.Moments.{GivesMoment}
 use Rattle.club_core.specs.declared.store.StoreFault.{StoreFault}
 use Rattle.club_http.specs.Exchange.{AnswerRelation}
-use Rattle.desk_server.specs.{Served.{AreNoted, CommandRelation, CountsOn, Ends, IsCarriedOut, Notes, Serves}, declared.databases.Reached.Reached}
+use Rattle.desk_server.specs.{Served.{AreNoted, CommandRelation, CountsOn, Ends, IsCarriedOut, Notes}, Trace.{Serves, turns_of}}
+use Rattle.desk_server.specs.declared.databases.Reached.{Reached}
 use Rattle.desk_server.specs.declared.{log.LogEvent.TheVariants.Commanded, office.Carried.Carried, serve.ClockOutOfRange.ClockOutOfRange}
 
 -- An `Opening` describes a call of `open` by four terms: the databases before the call, the name,
@@ -49,7 +50,7 @@ module _ {Clock Desk Log : Type 0} (Gives : GivesMoment Clock) (Begins : Log →
       → Source → Clock → Desk → Log → Result Unit ClockOutOfRange → Source → Clock → Desk → Log → Type 0
   ServesLogged Answers Carries Ended waited failures count source clock desk log result source' clock' desk' log' =
       Serves Gives Answers Carries Ended count clock desk (failures source) result clock' desk' (failures source')
-      (λ turns. CountsOn (waited source) (length turns) (waited source') × AreNoted Begins Noted log turns log')
+      (λ all. CountsOn (waited source) (length all) (waited source') × AreNoted Begins Noted log (turns_of all) log')
 
 module _ {Clock Desk : Type 0} (Gives : GivesMoment Clock) where
   -- The effect of a server without a log. The server serves up to `count` clients from a source of
@@ -58,4 +59,4 @@ module _ {Clock Desk : Type 0} (Gives : GivesMoment Clock) where
       → Source → Clock → Desk → Result Unit ClockOutOfRange → Source → Clock → Desk → Type 0
   ServesOn Answers Carries Ended waited failures count source clock desk result source' clock' desk' =
       Serves Gives Answers Carries Ended count clock desk (failures source) result clock' desk' (failures source')
-      (λ turns. CountsOn (waited source) (length turns) (waited source'))
+      (λ all. CountsOn (waited source) (length all) (waited source'))
