@@ -1,2 +1,2 @@
 pub mod RunLemmas
-pub mod MachineLemmas
+pub mod FollowedTrace

@@ -1,8 +1,8 @@
--- Lemmas for comparing the servers of two desks, for reducing a server over a store and a clock to
--- a server over the store, and for the proof of `run`.
+-- Lemmas for comparing the servers of two desks or over two kinds of connections, for reducing a
+-- server over a store and a clock to a server over the store, and for the proof of `run`.
 use Rattle.club_http.specs.Exchange as replied
 use Rattle.clubdesk_commands.specs.Run as run
-use Rattle.desk_server.specs.Served as served
+use Rattle.desk_server.specs.Trace as trace
 use Rattle.club_core.specs.declared.store.StoreFault.TheVariants as store
 use Rattle.std.proofs.Common.{◌≡◌, ℕ, List, Option, Some, None, Result, Ok, Err, refl, ◌∙◌, arith, ◌∷◌, suc, zero, ◌<◌, [], get_or, length, map, option_copied}
 use Rattle.std.{proofs.{Common.{option_map, slice_get, string_bytes, ap, sym, inr, rules}, lemmas.Option.{slice_get-map, slice_get_past}}, specs.Borrow.Bor}
@@ -10,43 +10,39 @@ use Rattle.std.specs.{Prelude.String, Slice.IsItemAt}
 use Rattle.clap.specs.Words.{Text}
 use Rattle.club_clock.specs.Moments.{GivesMoment, showing}
 use Rattle.club_core.specs.{Store.StoreGhosts, declared.{reply.Reply.Reply, request.Request.Request, store.StoreFault.StoreFault}}
-use Rattle.club_http.specs.{Exchange.{AnswerRelation, IsReplied}, declared.fault.AnswerFault.{AnswerFault, TheVariants.{Read, Write}}}
+use Rattle.club_http.specs.{Exchange.{AnswerRelation, IsReplied}, declared.fault.AnswerFault.AnswerFault}
 use Rattle.clubdesk_arguments.specs.{Arguments.{AskFor, ReadsArguments}, Fault.fault_of_opening, Values.JobModel, declared.fault.Fault.Fault}
 use Rattle.clubdesk_arguments.specs.declared.task.{Service.Service, Work.Work}
 use Rattle.clubdesk_commands.specs.{OfficeDesk.{answers_with_clock, carries_out_with_clock}, Output.{EndsWork, Stream}, Run.{RunsServer, over_socket}}
 use Rattle.clubdesk_commands.specs.Run.{Announces, Serves}
 use Rattle.command_line.specs.declared.job.Asked.{Asked as AskedJob, TheVariants.Perform}
-use Rattle.desk_server.specs.Served.{AreCommanded, AreServed, CommandRelation, Ends, IsCarriedOut, IsExchanged, ServesOne, ServesTurns, Turn}
-use Rattle.desk_server.specs.declared.{databases.{Databases.Ghosts as DatabasesWords, Visit.Ghosts as VisitWords}, log.LogEvent.{LogEvent, TheVariants.Absent}}
-use Rattle.desk_server.specs.declared.{log.LogEvent.TheVariants.{Overrun, Unanswered, Exchanged, Commanded}, office.{Answer.Answer, Carried.Carried}}
+use Rattle.desk_server.specs.Trace.{AnsweredCommand, AreCarriedOut, CarriesOutIfCame, Ending, Ending.{nobody, overrun, unanswered, from_office, from_client}}
+use Rattle.desk_server.specs.Trace.{IsTraced, OfficeConnection, RepliesIfRead, ServesTrace, TakesTurn, Trace}
+use Rattle.desk_server.specs.Served.{CommandRelation, Ends, Turn}
+use Rattle.desk_server.specs.declared.databases.{Databases.Ghosts as DatabasesWords, Visit.Ghosts as VisitWords}
+use Rattle.desk_server.specs.declared.office.Answer.{Answer}
 use Rattle.desk_server.specs.declared.serve.ClockOutOfRange.{ClockOutOfRange}
 use Rattle.jiff_core.specs.declared.timestamp.Timestamp.{Timestamp}
 use Rattle.serde_json.specs.{Data.{Data, items_depth, string}, Find.as_str, View.{items_of, view}, declared.value.Value.Value}
 
-module _ {D E : Type 0} (Clean : D → Type 0) (Represents : D → E → Type 0) where
-  -- If the first desk is clean after the change, it was clean before the change. In this case,
+module _ {D E : Type 0} (Represents : D → E → Type 0) where
   -- `Gives` relates each state of the second desk that the old desk represents to a state that the
   -- new desk represents.
   pub record Simulates (old new : D) (Gives : E → E → Type 0) : Type 0 where
-    pub was_clean : Clean new → Clean old
-    pub follows : Clean new → (e : E) → Represents old e → (next : E) × Represents new next × Gives e next
+    pub follows : (e : E) → Represents old e → (next : E) × Represents new next × Gives e next
 
-  pub same : {old new : D} {Gives : E → E → Type 0} → new ≡ old → ((e : E) → Gives e e) → Simulates old new Gives
-  same is gives = record { was_clean = λ clean. rw (← is) clean; follows = λ clean e represents. (e, rw is represents, gives e) }
+  same : {old new : D} {Gives : E → E → Type 0} → new ≡ old → ((e : E) → Gives e e) → Simulates old new Gives
+  same is gives = record { follows = λ e represents. (e, rw is represents, gives e) }
 
-  pub so : {old new : D} {Gives Wanted : E → E → Type 0} → Simulates old new Gives → ((e next : E) → Gives e next → Wanted e next) → Simulates old new Wanted
-  so simulates wants = record {
-    was_clean = simulates.was_clean;
-    follows = λ clean e represents. let next = simulates.follows clean e represents in (next.0, next.1, wants _ _ next.2);
-  }
+  so : {old new : D} {Gives Wanted : E → E → Type 0} → Simulates old new Gives → ((e next : E) → Gives e next → Wanted e next) → Simulates old new Wanted
+  so simulates wants = record { follows = λ e represents. let next = simulates.follows e represents in (next.0, next.1, wants _ _ next.2) }
 
   after : {old mid new : D} {First Second Wanted : E → E → Type 0} → Simulates old mid First → Simulates mid new Second
       → ((e now next : E) → First e now → Second now next → Wanted e next) → Simulates old new Wanted
   after first second wants = record {
-    was_clean = λ clean. first.was_clean (second.was_clean clean);
-    follows = λ clean e represents.
-        let now = first.follows (second.was_clean clean) e represents in
-        let next = second.follows clean now.0 now.1 in
+    follows = λ e represents.
+        let now = first.follows e represents in
+        let next = second.follows now.0 now.1 in
         (next.0, next.1, wants _ _ _ now.2 next.2);
   }
 
@@ -63,114 +59,109 @@ module _ {D E : Type 0} (Clean : D → Type 0) (Represents : D → E → Type 0)
           so (answered moment decoded.pass decoded.request _ reply _ answers) (λ e next answers. replied.desk_reply decoded reads answers)
       replies moment bytes reply (replied.out_of_memory holds is kept) = same kept (λ e. replied.out_of_memory holds is refl)
 
-      exchanges : (moment : ℕ) (bytes : List ℕ) {old new : D} (written : List ℕ) (outcome : Result Reply AnswerFault)
-          → IsExchanged (Answers moment) bytes old written outcome new
-          → Simulates old new (λ e next. IsExchanged (Answers' moment) bytes e written outcome next)
-      exchanges moment bytes written (Ok reply) (is, wrote) = so (replies moment bytes reply is) (λ e next gives. (gives, wrote))
-      exchanges moment bytes written (Err Read) (kept, nothing) = same kept (λ e. (refl, nothing))
-      exchanges moment bytes written (Err (Write n)) (reply, is, fewer, wrote) =
-          so (replies moment bytes reply is) (λ e next gives. (reply, gives, fewer, wrote))
+      gave : (moment : ℕ) (bytes : List ℕ) {old new : D} (reply : Option Reply) → RepliesIfRead (Answers moment) bytes old reply new
+          → Simulates old new (λ e next. RepliesIfRead (Answers' moment) bytes e reply next)
+      gave moment bytes None kept = same kept (λ e. refl)
+      gave moment bytes (Some reply) is = replies moment bytes reply is
 
-      carried_out : (carried : Option Carried) {old new : D} → IsCarriedOut Carries old carried new
-          → Simulates old new (λ e next. IsCarriedOut Carries' e carried next)
+      carried_out : (command : Option AnsweredCommand) {old new : D} → CarriesOutIfCame Carries old command new
+          → Simulates old new (λ e next. CarriesOutIfCame Carries' e command next)
       carried_out None kept = same kept (λ e. refl)
-      carried_out (Some carried) (bytes, answer, carries, is) = so (commanded bytes _ answer _ carries) (λ e next carries. (bytes, answer, carries, is))
+      carried_out (Some command) carries = commanded command.bytes _ command.answer _ carries
 
       module _ {Clock : Type 0} (Given : GivesMoment Clock) where
-        are_commanded : {clock : Clock} {old : D} {events : List LogEvent} {clock' : Clock} {new : D} → AreCommanded Given Carries clock old events clock' new
-            → Simulates old new (λ e next. AreCommanded Given Carries' clock e events clock' next)
-        are_commanded served.no_command = same refl (λ e. served.no_command)
-        are_commanded (served.one_command events moment carried c d c' new before gives is) =
-            after (are_commanded before) (carried_out carried is)
-            (λ e now next before is. served.one_command events moment carried c now c' next before gives is)
+        are_carried_out : {clock : Clock} {old : D} {list : List OfficeConnection} {clock' : Clock} {new : D}
+            → AreCarriedOut Given Carries clock old list clock' new → Simulates old new (λ e next. AreCarriedOut Given Carries' clock e list clock' next)
+        are_carried_out trace.no_connection = same refl (λ e. trace.no_connection)
+        are_carried_out (trace.one_connection list one c d c' new before gives is) =
+            after (are_carried_out before) (carried_out one.command is)
+            (λ e now next before is. trace.one_connection list one c now c' next before gives is)
 
-        module _ (Ended : Ends) where
-          one : (clock : Clock) (old : D) (f : ℕ) (meanwhile : List LogEvent) (event : LogEvent) (clock' : Clock) (new : D) (f' : ℕ)
-              → ServesOne Given Answers Carries Ended clock old f meanwhile event clock' new f'
-              → Simulates old new (λ e next. ServesOne Given Answers' Carries' over_socket clock e f meanwhile event clock' next f')
-          one clock old f meanwhile Absent clock' new f' (none, counted, still, kept) = same kept (λ e. (none, counted, still, refl))
-          one clock old f meanwhile Overrun clock' new f' (none, counted, still, kept) = same kept (λ e. (none, counted, still, refl))
-          one clock old f meanwhile (Commanded moment carried) clock' new f' (none, counted, gives, is) =
-              so (carried_out carried is) (λ e next is. (none, counted, gives, is))
-          one clock old f meanwhile Unanswered clock' new f' never = absurd never
-          one clock old f meanwhile (Exchanged moment line outcome) clock' new f' (counted, client) =
-              after (are_commanded client.commanded) (exchanges moment client.bytes client.written outcome client.exchanged)
-              (λ e now next commanded exchanged. (
-                counted,
-                record {
-                  given = client.given;
-                  left = now;
-                  gives = client.gives;
-                  commanded = commanded;
-                  bytes = client.bytes;
-                  written = client.written;
-                  begins = client.begins;
-                  exchanged = exchanged;
-                  ended = tt;
-                },
-              ))
+        module _ (Ended Ended' : Ends)
+            (ends : (bytes written : List ℕ) (outcome : Result Reply AnswerFault) → Ended bytes written outcome → Ended' bytes written outcome)
+          where
+            one : (clock : Clock) (old : D) (f : ℕ) (meanwhile : List OfficeConnection) (ending : Ending) (clock' : Clock) (new : D) (f' : ℕ)
+                → TakesTurn Given Answers Carries Ended clock old f meanwhile ending clock' new f'
+                → Simulates old new (λ e next. TakesTurn Given Answers' Carries' Ended' clock e f meanwhile ending clock' next f')
+            one clock old f meanwhile nobody clock' new f' (none, counted, still, kept) = same kept (λ e. (none, counted, still, refl))
+            one clock old f meanwhile overrun clock' new f' (none, counted, still, kept) = same kept (λ e. (none, counted, still, refl))
+            one clock old f meanwhile (from_office came) clock' new f' (none, counted, gives, is) =
+                so (carried_out came.command is) (λ e next is. (none, counted, gives, is))
+            one clock old f meanwhile unanswered clock' new f' never = absurd never
+            one clock old f meanwhile (from_client exchange) clock' new f' (counted, client) =
+                after (are_carried_out client.carried_out) (gave exchange.moment exchange.bytes exchange.reply client.replies)
+                (λ e now next carried_out replies. (
+                  counted,
+                  record {
+                    given = client.given;
+                    left = now;
+                    gives = client.gives;
+                    carried_out = carried_out;
+                    replies = replies;
+                    writes = client.writes;
+                    ended = ends exchange.bytes exchange.written exchange.outcome client.ended;
+                  },
+                ))
 
-          all : {clock : Clock} {old : D} {f : ℕ} {turns : List Turn} {clock' : Clock} {new : D} {f' : ℕ}
-              → AreServed Given Answers Carries Ended clock old f turns clock' new f'
-              → Simulates old new (λ e next. AreServed Given Answers' Carries' over_socket clock e f turns clock' next f')
-          all served.none = same refl (λ e. served.none)
-          all (served.more turns turn c d f1 c' new f' before due it) =
-              after (all before) (one c d f1 turn.meanwhile turn.event c' new f' it)
-              (λ e now next before it. served.more turns turn c now f1 c' next f' before due it)
+            all : {clock : Clock} {old : D} {f : ℕ} {turns : Trace} {clock' : Clock} {new : D} {f' : ℕ}
+                → IsTraced Given Answers Carries Ended clock old f turns clock' new f'
+                → Simulates old new (λ e next. IsTraced Given Answers' Carries' Ended' clock e f turns clock' next f')
+            all trace.no_turn = same refl (λ e. trace.no_turn)
+            all (trace.one_turn turns turn c d f1 c' new f' before due it) =
+                after (all before) (one c d f1 turn.meanwhile turn.ending c' new f' it)
+                (λ e now next before it. trace.one_turn turns turn c now f1 c' next f' before due it)
 
-          serves : {turns : List Turn} {count : ℕ} {clock : Clock} {old : D} {f : ℕ} {outcome : Result Unit ClockOutOfRange} {clock' : Clock} {new : D} {f' : ℕ}
-              → ServesTurns Given Answers Carries Ended turns count clock old f outcome clock' new f'
-              → Simulates old new (λ e next. ServesTurns Given Answers' Carries' over_socket turns count clock e f outcome clock' next f')
-          serves it = so (all it.before) (λ e next before. record { turns = it.turns; last = it.last; before = before; ends = it.ends })
+            serves : {turns : Trace} {count : ℕ} {clock : Clock} {old : D} {f : ℕ} {outcome : Result Unit ClockOutOfRange} {clock' : Clock} {new : D} {f' : ℕ}
+                → ServesTrace Given Answers Carries Ended turns count clock old f outcome clock' new f'
+                → Simulates old new (λ e next. ServesTrace Given Answers' Carries' Ended' turns count clock e f outcome clock' next f')
+            serves it = so (all it.before) (λ e next before. record { served = it.served; last = it.last; before = before; ends = it.ends })
 
-      pub run_alike : {Machine : Type 0} (Shows : Machine → Option Timestamp → Type 0) (machine : Machine) (service : Service) (turns : List Turn)
+      pub run_alike : {Machine : Type 0} (Shows : Machine → Option Timestamp → Type 0) (machine : Machine) (service : Service) (turns : Trace)
           (Noted : List Turn → Type 0) {old new : D} (result : Result Unit Fault) → RunsServer Shows machine Answers Carries service turns old new Noted result
           → Simulates old new (λ e next. RunsServer Shows machine Answers' Carries' service turns e next Noted result)
       run_alike Shows machine service turns Noted result (run.listened outcome last failures is it noted) =
-          so (serves (showing Shows) over_socket it) (λ e next it. run.listened outcome last failures is it noted)
+          so (serves (showing Shows) over_socket over_socket (λ bytes written outcome ended. ended) it) (λ e next it. run.listened outcome last failures is it noted)
       run_alike Shows machine service turns Noted result (run.not_listened fault none kept nothing) = same kept (λ e. run.not_listened fault none refl nothing)
 
-by_itself : {Desk : Type 0} {old new : Desk} {Gives : Desk → Desk → Type 0} → Gives old new → Simulates (λ desk. Unit {0}) (λ desk e. desk ≡ e) old new Gives
-by_itself {new} gives = record { was_clean = λ clean. tt; follows = λ clean e is. (new, refl, rw (← is) gives) }
+by_itself : {Desk : Type 0} {old new : Desk} {Gives : Desk → Desk → Type 0} → Gives old new → Simulates (λ desk e. desk ≡ e) old new Gives
+by_itself {new} gives = record { follows = λ e is. (new, refl, rw (← is) gives) }
 
--- A server over any connections is also a server over sockets.
-pub over_sockets : {Clock Desk : Type 0} {Given : GivesMoment Clock} {Answers : ℕ → AnswerRelation Desk} {Carries : CommandRelation Desk} {Ended : Ends}
-    {turns : List Turn} {count : ℕ} {clock : Clock} {desk : Desk} {f : ℕ} {outcome : Result Unit ClockOutOfRange} {clock' : Clock} {desk' : Desk} {f' : ℕ}
-    → ServesTurns Given Answers Carries Ended turns count clock desk f outcome clock' desk' f'
-    → ServesTurns Given Answers Carries over_socket turns count clock desk f outcome clock' desk' f'
-over_sockets {Given} {Answers} {Carries} {Ended} {desk} it =
-    let over = (serves _ _ Answers Answers Carries Carries (λ moment text request old reply new answers. by_itself answers)
-    (λ bytes old answer new carries. by_itself carries) Given Ended it).follows tt desk refl in
+-- If every exchange over some connections may also be an exchange over other connections, a server
+-- over the former is also a server over the latter.
+pub over_others : {Clock Desk : Type 0} {Given : GivesMoment Clock} {Answers : ℕ → AnswerRelation Desk} {Carries : CommandRelation Desk} {Ended Ended' : Ends}
+    {all : Trace} {count : ℕ} {clock : Clock} {desk : Desk} {f : ℕ} {outcome : Result Unit ClockOutOfRange} {clock' : Clock} {desk' : Desk} {f' : ℕ}
+    → ((bytes written : List ℕ) (outcome : Result Reply AnswerFault) → Ended bytes written outcome → Ended' bytes written outcome)
+    → ServesTrace Given Answers Carries Ended all count clock desk f outcome clock' desk' f'
+    → ServesTrace Given Answers Carries Ended' all count clock desk f outcome clock' desk' f'
+over_others {Given} {Answers} {Carries} {Ended} {Ended'} {desk = desk} ends it =
+    let over = (serves _ Answers Answers Carries Carries (λ moment text request old reply new answers. by_itself answers)
+    (λ bytes old answer new carries. by_itself carries) Given Ended Ended' ends it).follows desk refl in
     rw over.1 over.2
 
 module _ {S Machine : Type 0} (Shows : Machine → Option Timestamp → Type 0) (machine : Machine) (Answers : ℕ → AnswerRelation S)
     (Carries : (Option Timestamp → Type 0) → CommandRelation S)
   where
-    abbrev Always : S × Machine → Type 0
-    Always desk = Unit {0}
-
     -- The desk has this store, and its clock is `machine`.
     abbrev Has : S × Machine → S → Type 0
     Has desk store = (desk.0 ≡ store) × (desk.1 ≡ machine)
 
     answered : (moment : ℕ) (text : List ℕ) (request : Request) (old : S × Machine) (reply : Reply) (new : S × Machine)
-        → answers_with_clock Answers moment text request old reply new
-        → Simulates Always Has old new (λ store next. Answers moment text request store reply next)
+        → answers_with_clock Answers moment text request old reply new → Simulates Has old new (λ store next. Answers moment text request store reply next)
     answered moment text request old reply new (answers, still) =
-        record { was_clean = λ always. tt; follows = λ always store has. (new.0, (refl, still ∙ has.1), rw has.0 at answers) }
+        record { follows = λ store has. (new.0, (refl, still ∙ has.1), rw has.0 at answers) }
 
     commanded : (bytes : List ℕ) (old : S × Machine) (answer : Answer) (new : S × Machine)
         → carries_out_with_clock Shows Carries bytes old answer new
-        → Simulates Always Has old new (λ store next. Carries (Shows machine) bytes store answer next)
+        → Simulates Has old new (λ store next. Carries (Shows machine) bytes store answer next)
     commanded bytes old answer new (carries, still) =
-        record { was_clean = λ always. tt; follows = λ always store has. (new.0, (refl, still ∙ has.1), rw (has.0, has.1) at carries) }
+        record { follows = λ store has. (new.0, (refl, still ∙ has.1), rw (has.0, has.1) at carries) }
 
-    pub over_the_store : (service : Service) (turns : List Turn) (store left : S) (still : Machine) (Noted : List Turn → Type 0) (result : Result Unit Fault)
-        → RunsServer Shows machine (answers_with_clock Answers) (carries_out_with_clock Shows Carries) service turns (store, machine) (left, still) Noted result
-        → RunsServer Shows machine Answers (Carries (Shows machine)) service turns store left Noted result
-    over_the_store service turns store left still Noted result runs =
-        let alike = run_alike _ _ _ Answers _ (Carries (Shows machine)) answered commanded Shows machine service turns Noted result runs in
-        let it = alike.follows tt store (refl, refl) in
+    pub over_the_store : (service : Service) (all : Trace) (store left : S) (still : Machine) (Noted : List Turn → Type 0) (result : Result Unit Fault)
+        → RunsServer Shows machine (answers_with_clock Answers) (carries_out_with_clock Shows Carries) service all (store, machine) (left, still) Noted result
+        → RunsServer Shows machine Answers (Carries (Shows machine)) service all store left Noted result
+    over_the_store service all store left still Noted result runs =
+        let alike = run_alike _ _ Answers _ (Carries (Shows machine)) answered commanded Shows machine service all Noted result runs in
+        let it = alike.follows store (refl, refl) in
         rw it.1.0 it.2
 
 pub no_depth : (texts : List Text) → items_depth (items_of (map string texts)) ≡ 0
@@ -218,4 +209,4 @@ pub serves_well : {D S R V Machine : Type 0} {databases : DatabasesWords D S R V
     → Serves databases visits ghosts Shows machine file service old new written Noted result → EndsWork written.no_change result
 serves_well (run.not_opened fault opens is kept nothing) = not_opened fault is kept
 serves_well (run.no_door fault store between opens closes is kept nothing) = not_opened fault is kept
-serves_well (run.server_done store left between turns opens serves follows announces closes) = announces_well _ _ _ announces
+serves_well (run.server_done store left between all opens serves follows announces closes) = announces_well _ _ _ announces

@@ -6,7 +6,7 @@ use Rattle.club_gate.specs.declared.fault.Fault.TheVariants as desk
 use Rattle.std.specs.{Prelude.{◌≡◌, ℕ, List, [], ◌∷◌, ◌++◌, codes, Option, MatchOption, Result, Ok, Err, IfOk, String}, String.string_bytes}
 use Rattle.std.specs.declared.alloc.Global.{Global}
 use Rattle.club_clock.specs.Moments.{IsMomentOf}
-use Rattle.club_core.specs.{Club.Club, Run.ToOffice, Sheet.IsSheet, Store.{KeepsClub, StoreGhosts}, declared.command.Command.Command}
+use Rattle.club_core.specs.{Club.Club, Office.IsCommand, Run.ToOffice, Sheet.IsSheet, Store.{KeepsClub, StoreGhosts}, declared.command.Command.Command}
 use Rattle.club_gate.specs.{DecodedPass.{key_pass, minted_signature}, Desk.{OfItsClub, Steps}, Listing.{ReturnsListing, account_listing, slot_listing}}
 use Rattle.club_gate.specs.declared.{event.OfficeReply.OfficeReply, fault.Fault.Fault as DeskFault}
 use Rattle.clubdesk_arguments.specs.declared.task.{KeyChange.{KeyChange, TheVariants.{Add, Rotate}}, Task.TheVariants.{Give, Key, Sheet, ShowAccount, ShowSlot}}
@@ -48,6 +48,7 @@ module _ {S : Type 0} (ghosts : StoreGhosts S) where
   -- a fault.
   pub record IsGiven (command : Command) (text : List ℕ) (answer : Result (List ℕ) Fault) (old new : S) : Type 0 where
     pub reply : OfficeReply
+    pub within : IsCommand command
     pub was_clean : ghosts.is_clean new → ghosts.is_clean old
     pub steps : ghosts.is_clean new → Steps ghosts old new (machine.Commanded command) (ToOffice reply)
     pub answers : GivesReply text answer reply

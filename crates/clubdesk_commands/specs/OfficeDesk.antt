@@ -1,12 +1,9 @@
 -- Defines how a command changes the desk of a server that receives the command. The state of the
 -- desk is a store or a club.
-use Rattle.desk_server.specs.Served as served
 use Rattle.std.specs.{Prelude.{◌≡◌, ◌⊎◌, ℕ, List, [], ◌++◌, take, slice_get, codes, IfSome, Option, Some, None, Result, Ok, Err}, String.string_bytes}
 use Rattle.clap.specs.{Words.Text, declared.error.Error.Error}
-use Rattle.club_core.specs.{Club.Club, Request.Words, Run.{Asked, ToMember}, Store.StoreGhosts}
-use Rattle.club_gate.specs.{DecodedPass.AreWordsOf, Response.desk_presentation}
+use Rattle.club_core.specs.{Club.Club, Store.StoreGhosts}
 use Rattle.club_http.specs.Exchange.{AnswerRelation}
-use Rattle.club_laws.specs.Failed.{IsStep}
 use Rattle.clubdesk_arguments.specs.{Arguments.{AskFor, ReadsArguments}, Fault.{fault_line, fault_status, of_arguments}, declared.fault.Fault.Fault}
 use Rattle.clubdesk_arguments.specs.declared.{fault.Fault.TheVariants.{Arguments, BadValue}, task.{KeyCommand.KeyCommand, Service.Service, Task.Task}}
 use Rattle.clubdesk_arguments.specs.declared.task.{Task.TheVariants.Key, Work.TheVariants.{Office, Rootless, Serve}}
@@ -86,13 +83,3 @@ carries_out_with_clock Shows Carries bytes old answer new = Carries (Shows old.1
 -- Used as a store, a club represents only itself.
 abbrev pub itself : StoreGhosts Club
 itself = record { is_clean = λ club. Unit {0}; represents = λ now club others. now ≡ club; fails = λ wish old fault new. ⊥ }
-
--- The reply and the next club are the result of one step of the club's state machine. If the
--- request fails, the club is unchanged.
-abbrev pub machine_answers : ℕ → AnswerRelation Club
-machine_answers moment text request club reply next =
-    (words : Words) × AreWordsOf text request words × IsStep desk_presentation club (Asked words moment) (ToMember reply) next
-
--- A command has the same effect on a club as on a store that represents the club.
-abbrev pub machine_commands : (Option Timestamp → Type 0) → served.CommandRelation Club
-machine_commands Given bytes club answer next = CarriesOutBy itself Given bytes club answer next

@@ -11,10 +11,10 @@ use Rattle.clubdesk_arguments.specs.{Arguments.{AskFor, ReadsArguments}, Fault.{
 use Rattle.clubdesk_arguments.specs.declared.fault.Fault.{Fault, TheVariants.{Memory, ClockOutOfRange, InputOutput, NoAnswer, Answered}}
 use Rattle.clubdesk_arguments.specs.declared.task.{KeyCommand.KeyCommand, Service.Service, Task.{Task, TheVariants.Key}, Work.TheVariants.{Office, Rootless}}
 use Rattle.clubdesk_arguments.specs.declared.task.Work.TheVariants.{Serve}
-use Rattle.clubdesk_commands.specs.{Does.Does, HandedCommand.{SpellsCommand, TakesRoot}, OfficeDesk.{machine_answers, machine_commands, CarriesOutBy}}
+use Rattle.clubdesk_commands.specs.{Does.Does, Events.IsRunOfClub, HandedCommand.{SpellsCommand, TakesRoot}, OfficeDesk.CarriesOutBy}
 use Rattle.clubdesk_commands.specs.Output.{EndsWork, LogChange, Prints, Stream}
 use Rattle.command_line.specs.{Arguments.IsOfKind, Process.AppendsFront, declared.{errors.ArgumentsFault.ArgumentsFault, job.Asked.TheVariants.ShowText}}
-use Rattle.desk_server.specs.{Served.{Ends, Turn}, Server.Giving, declared.databases.{Databases.Ghosts as DatabasesWords, Reached.TheVariants.{Opened, Served}}}
+use Rattle.desk_server.specs.{Served.{Ends, Turn}, Server.Giving, Trace.{ServesTrace, Trace, happened, turns_of}, declared.databases.{Databases.Ghosts as DatabasesWords, Reached.TheVariants.{Opened, Served}}}
 use Rattle.desk_server.specs.declared.{databases.Visit.Ghosts as VisitWords, serve.ClockOutOfRange.ClockOutOfRange as ClockFault}
 use Rattle.hex.specs.Hex.{encode_lower}
 use Rattle.jiff_core.specs.declared.timestamp.Timestamp.{Timestamp}
@@ -40,13 +40,13 @@ outcome_of_server (Err stopped) = Err ClockOutOfRange
 -- turns. If the server can't listen, can't write its address or runs out of memory, it serves no
 -- client, and its log notes no turn.
 pub data RunsServer {Desk Machine : Type 0} (Shows : Machine → Option Timestamp → Type 0) (machine : Machine)
-    (Answers : ℕ → AnswerRelation Desk) (Carries : served.CommandRelation Desk) (service : Service) (turns : List Turn) (old new : Desk)
+    (Answers : ℕ → AnswerRelation Desk) (Carries : served.CommandRelation Desk) (service : Service) (all : Trace) (old new : Desk)
     (Noted : List Turn → Type 0) (result : Result Unit Fault) : Type 0 where
   listened : (outcome : Result Unit ClockFault) (last : Clock × Machine) (failures : ℕ) → result ≡ outcome_of_server outcome
-      → served.ServesTurns (showing Shows) Answers Carries over_socket turns service.count (service.clock, machine) old 0 outcome last new failures
-      → IfLogged service Noted turns → RunsServer Shows machine Answers Carries service turns old new Noted result
-  not_listened : (result ≡ Err Memory) ⊎ (result ≡ Err InputOutput) → turns ≡ [] → new ≡ old → Noted []
-      → RunsServer Shows machine Answers Carries service turns old new Noted result
+      → ServesTrace (showing Shows) Answers Carries over_socket all service.count (service.clock, machine) old 0 outcome last new failures
+      → IfLogged service Noted (turns_of all) → RunsServer Shows machine Answers Carries service all old new Noted result
+  not_listened : (result ≡ Err Memory) ⊎ (result ≡ Err InputOutput) → all ≡ [] → new ≡ old → Noted []
+      → RunsServer Shows machine Answers Carries service all old new Noted result
 
 -- The line that a server writes when it listens on this port of the loopback address.
 abbrev pub listening_line : ℕ → List ℕ
@@ -76,17 +76,12 @@ Announces asked written (Ok done) = IsAnnounced asked written
 Announces asked written (Err ClockOutOfRange) = IsAnnounced asked written
 Announces asked written (Err fault) = StopsBefore asked written fault
 
-module _ {Store Machine : Type 0} (ghosts : StoreGhosts Store) (Shows : Machine → Option Timestamp → Type 0) (machine : Machine)
-  where
-    -- If the disk stayed clean, a server over the club takes the same turns as the server over the
-    -- store. The server over the club returns the replies and answers of the club's state machine.
-    -- Failed events change nothing. At the end, the store represents the club `last`, which is the
-    -- final state of the server over the club.
-    abbrev pub FollowsMachine : Service → List Turn → Store → Store → (List Turn → Type 0) → Result Unit Fault → Type 0
-    FollowsMachine service turns store left Noted result =
-        ghosts.is_clean left → (club : Club) (others : List Club) → ghosts.represents store club others
-        → (last : Club) × (still : List Club) × ghosts.represents left last still
-        × RunsServer Shows machine machine_answers (machine_commands (Shows machine)) service turns club last Noted result
+-- If the disk stayed clean, all that happened is a lawful run of the club's state machine. This
+-- holds for each club that the store represented before the first turn.
+abbrev pub FollowsMachine : {Store : Type 0} → StoreGhosts Store → (Option Timestamp → Type 0) → Trace → Store → Store → Type 0
+FollowsMachine ghosts Given all store left =
+    ghosts.is_clean left → (club : Club) (others : List Club) → ghosts.represents store club others
+    → IsRunOfClub ghosts Given (happened all) store left club others
 
 -- The root of a task in hexadecimal. The text is empty if the task has no root.
 abbrev pub handed_root : Task → Text
@@ -139,9 +134,9 @@ module _ {D S R V Machine : Type 0} (databases : DatabasesWords D S R V) (visits
           → Serves file service old new written Noted result
       no_door : (fault : StoreFault) (store : S) (between : D) → databases.opens old file (Ok store) between → databases.closes between store new
           → result ≡ Err (fault_of_opening fault) → written.no_change → Noted [] → Serves file service old new written Noted result
-      server_done : (store left : S) (between : D) (turns : List Turn) → databases.opens old file (Ok store) between
-          → RunsServer Shows machine (AnswersBy ghosts) (CarriesOutBy ghosts (Shows machine)) service turns store left Noted result
-          → FollowsMachine ghosts Shows machine service turns store left Noted result
+      server_done : (store left : S) (between : D) (all : Trace) → databases.opens old file (Ok store) between
+          → RunsServer Shows machine (AnswersBy ghosts) (CarriesOutBy ghosts (Shows machine)) service all store left Noted result
+          → FollowsMachine ghosts (Shows machine) all store left
           → Announces service.port written result → databases.closes between left new → Serves file service old new written Noted result
 
     -- The effect of a run with these arguments.

@@ -60,6 +60,7 @@ fn give<S: ClubStore>(desk: &mut Desk<S>, command: &Command, text: String) -> Re
         (text_of result) desk.old desk.new }
     ensures worked { IfErr result IsWorkFault }
 {
+    command.within();
     match desk.office(command) {
         OfficeReply::Refused(fault) => Err(fault_of_desk(fault)),
         OfficeReply::Done | OfficeReply::Key { .. } => Ok(text),

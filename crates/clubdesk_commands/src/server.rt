@@ -1,12 +1,13 @@
 //! Runs a server that passes requests and commands to a desk.
 
-ghost use Rattle.std.specs.Prelude.{◌≡◌, IfOk, List, MatchResult, false};
-ghost use Rattle.desk_server.specs.Served.{AreNoted, Turn};
-ghost use Rattle.clubdesk_commands.specs.Output.{stream};
+ghost use Rattle.std.specs.Prelude.{◌≡◌, IfOk, MatchResult, false};
+ghost use Rattle.desk_server.specs.{Served.AreNoted, Trace.Trace};
+ghost use Rattle.clubdesk_commands.specs.{Output.stream};
 ghost use Rattle.clubdesk_commands.specs.Run as spec;
 
 use crate::office_desk::OfficeDesk;
 use club_clock::{Instants, MomentsOf};
+use club_gate::laws::{followed_runs_are_lawful, follows_one_more};
 use club_http::Face;
 use clubdesk_arguments::{Fault, Service};
 use command_line::write_text;
@@ -46,6 +47,8 @@ pub fn serve_file<C: Instants + MonotonicClock, D: Databases, W: Write, G: Log>(
         (λ turns. AreNoted G.begins G.notes log.old turns log.new) result }
     ensures unlogged { service.entry.log ≡ false → log.new ≡ log.old }
 {
+    follows_one_more::<D::Store>();
+    followed_runs_are_lawful::<D::Store>();
     let store = match databases.open(file) {
         Ok(store) => store,
         Err(fault) => return Err(Fault::from(fault)),
@@ -96,8 +99,8 @@ pub fn serve<D: Office, C: Instants + MonotonicClock, W: Write, G: Log>(
     writer: &mut W,
     log: &mut G,
 ) -> Result<(), Fault>
-    ensures served { (turns : List Turn) × spec.RunsServer C.Instants.shows machine.now
-        D.answers D.commands service.entry turns desk.old desk.new
+    ensures served { (all : Trace) × spec.RunsServer C.Instants.shows machine.now
+        D.answers D.commands service.entry all desk.old desk.new
         (λ noted. AreNoted G.begins G.notes log.old noted log.new) result }
     ensures announced { spec.Announces service.entry.port
         (stream W.contents writer.old writer.new) result }

@@ -2,7 +2,7 @@ use Rattle.desk_server.specs.Served as served
 use Rattle.clubdesk_commands.specs.Run as spec
 use Rattle.clubdesk_commands.proofs.server.serve_file.Goals as goal
 use Rattle.std.proofs.Common.{Err, ap, refl}
-use Rattle.clubdesk_commands.{proofs.{MachineLemmas.follows_machine, RunLemmas.over_the_store}, specs.OfficeDesk.CarriesOutBy}
+use Rattle.clubdesk_commands.{proofs.{FollowedTrace.follows_machine, RunLemmas.over_the_store}, specs.OfficeDesk.CarriesOutBy}
 
 pub returns-in-Err-clause-done : goal.returns-in-Err-clause-done
 returns-in-Err-clause-done g c = spec.not_opened c.in-Err.fault c.in-Err.ensures (ap Err c.from.ensures) refl served.nothing
@@ -19,5 +19,7 @@ returns-clause-done g c =
     c.serve-outcome.new.desk.0 c.serve-outcome.new.desk.1 _ c.serve-outcome.result served.1
     in
     spec.server_done c.in-Ok.store c.serve-outcome.new.desk.0 c.open.new.self served.0 c.in-Ok.ensures
-    over (follows_machine _ _ _ c.args.service served.0 _ _ _ c.serve-outcome.result over) c.serve-outcome.ensures.announced
+    over (follows_machine _ _ _ c.args.service served.0 _ c.serve-outcome.result _ _ c.follows_one_more.ensures.none
+    c.follows_one_more.ensures.more c.followed_runs_are_lawful.ensures
+    (g.met.D.Store.ClubStore.sound c.in-Ok.store) over) c.serve-outcome.ensures.announced
     (rw c.into_store.ensures at c.close-2.ensures)
