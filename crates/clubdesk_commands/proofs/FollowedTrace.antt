@@ -317,7 +317,7 @@ module _ {S Machine : Type 0} (ghosts : StoreGhosts S) (Shows : Machine → Opti
         whole = lawful ghosts (Shows machine) none one_more laws serves clean club others sound represents;
         at_each_point = λ front rest is.
             let parts : Parts Answers Carries front rest store left = in_parts Answers Carries front rest store left
-                (subst (λ (endings : List Ending). ServesEndings Answers Carries store endings left) is serves) in
+            (subst (λ (endings : List Ending). ServesEndings Answers Carries store endings left) is serves) in
             let was_clean = (so_far ghosts (Shows machine) none one_more parts.after).was_clean clean in
             record {
               now = parts.now;

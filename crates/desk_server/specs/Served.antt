@@ -1,12 +1,12 @@
 -- This file defines the effect of a server. The server serves clients and commands of the office
 -- one after the other. While the server waits for a client's request, it also carries out commands.
-use Rattle.std.specs.{Io.KnownBytes.Appends, Prelude.{◌≡◌, ℕ, suc, ◌+◌, ◌^◌, ◌<◌, ◌≤◌, length, List, [], ◌∷◌, ◌++◌, take, Option, Some, None, IfSome, Result}}
-use Rattle.std.specs.{Prelude.MatchResult, String.string_bytes}
+use Rattle.std.specs.{Io.KnownBytes.Appends, Prelude.{◌≡◌, ℕ, ◌+◌, ◌^◌, ◌<◌, List, [], ◌∷◌, ◌++◌, take, Option, Some, None, IfSome, Result}}
+use Rattle.std.specs.{String.string_bytes}
 use Rattle.club_clock.specs.Moments.{GivesMoment}
 use Rattle.club_core.specs.declared.reply.Reply.{Reply}
-use Rattle.club_http.specs.{Exchange.{one_more, Exchanges, AnswerRelation, IsReplied}, declared.fault.AnswerFault.AnswerFault}
-use Rattle.desk_server.specs.declared.{log.LogEvent.{LogEvent, TheVariants.{Absent, Overrun, Unanswered, Exchanged, Commanded}}, office.Answer.Answer}
-use Rattle.desk_server.specs.declared.{office.Carried.Carried, serve.ClockOutOfRange.ClockOutOfRange}
+use Rattle.club_http.specs.{Exchange.{Exchanges, AnswerRelation, IsReplied}, declared.fault.AnswerFault.AnswerFault}
+use Rattle.desk_server.specs.declared.{log.LogEvent.{LogEvent, TheVariants.{Absent, Overrun, Commanded}}, office.Answer.Answer}
+use Rattle.desk_server.specs.declared.{office.Carried.Carried}
 
 -- A counter that starts at `count` grows by `more`, unless the sum overflows a u64.
 abbrev pub CountsOn : ℕ → ℕ → ℕ → Type 0

@@ -23,4 +23,4 @@ pub returns-clause-served : goal.returns-clause-served
 returns-clause-served g c =
     let it = rw c.new-arrivals.ensures.failures at c.serve_on.ensures in
     rw c.outcome_of-else-logs.ensures
-        (it.all, spec.listened _ _ _ refl (over_others (λ bytes written outcome ended. tt) it.serves) (λ asked. let left_out = c.if-logs.false in cc))
+    (it.all, spec.listened _ _ _ refl (over_others (λ bytes written outcome ended. tt) it.serves) (λ asked. let left_out = c.if-logs.false in cc))
