@@ -7,7 +7,8 @@ use Rattle.clubdesk_commands.specs.Events as spec
 use Rattle.clubdesk_commands.specs.OfficeDesk as carried
 use Rattle.clubdesk_commands.specs.Run as run
 use Rattle.desk_server.specs.Trace as trace
-use Rattle.std.proofs.Common.{◌≡◌, ℕ, All, List, [], ◌∷◌, ◌++◌, length, map, Option, Some, None, Result, Ok, Err, inl, inr, refl, ap, subst, append_assoc, append-nil, arith}
+use Rattle.std.proofs.Common.{◌≡◌, ℕ, All, List, [], ◌∷◌, ◌++◌, length, map, Option, Some, None, Result, Ok, Err, inl, inr, refl, ap, subst}
+use Rattle.std.proofs.Common.{append_assoc, append-nil, arith}
 use Rattle.std.proofs.lemmas.List.{length-append, map-append, same_from_push, Elements.{All-append, All-cons, All-head, All-nil}}
 use Rattle.std.specs.{Prelude.String, declared.alloc.Global.Global}
 use Rattle.club_clock.specs.Moments.{GivesMoment, showing}
@@ -16,12 +17,15 @@ use Rattle.club_core.specs.{Request.Words, declared.{command.Command.Command, re
 use Rattle.club_gate.specs.{Desk.{DecidesOrFails, Steps}, Laws.{FollowedRunsAreLawful, FollowsNoEvent, FollowsOneMore}, Runs.{DeskResponse, IsFollowed}}
 use Rattle.club_gate.specs.declared.fault.Fault.{Fault as DeskFault}
 use Rattle.club_http.specs.{Calls.AnswersBy, Exchange.{AnswerRelation, IsReplied}}
-use Rattle.clubdesk_arguments.specs.declared.{fault.Fault.{Fault, TheVariants.Memory}, task.{Service.Service, Task.{Task, TheVariants.{Give, Key, ShowAccount}}}}
-use Rattle.clubdesk_commands.specs.{Does.{DeskShows, Does, IsAnswered}, Events.{AreEventsOf, AskForTask, IsEventOf, IsEventOfCommand, IsEventOfRequest, IsLawfulTrace}}
+use Rattle.clubdesk_arguments.specs.declared.{fault.Fault.{Fault, TheVariants.Memory}, task.Service.Service}
+use Rattle.clubdesk_arguments.specs.declared.task.Task.{Task, TheVariants.{Give, Key, ShowAccount}}
+use Rattle.clubdesk_commands.specs.Does.{DeskShows, Does, IsAnswered}
+use Rattle.clubdesk_commands.specs.Events.{AreEventsOfEndings, AskForTask, IsEventOfEnding, IsEventOfCommand, IsEventOfRequest, IsLawfulTrace}
 use Rattle.clubdesk_commands.specs.{OfficeDesk.{AnswersWith, CarriesOutBy, itself}, Run.{FollowsMachine, RunsServer}}
 use Rattle.desk_server.specs.Served.{CommandRelation, Ends, Turn}
-use Rattle.desk_server.specs.Trace.{AnsweredCommand, AreCarriedOut, CarriesOutIfCame, ClientExchange, Ending, Ending.{nobody, overrun, unanswered, from_office, from_client}}
-use Rattle.desk_server.specs.Trace.{IsTraced, OfficeConnection, RepliesIfRead, ServesEnding, ServesEndings, ServesTrace, TakesTurn, Trace, TracedTurn, happened, turn_alone}
+use Rattle.desk_server.specs.Trace.{AnsweredCommand, AreCarriedOut, CarriesOutIfCame, ClientExchange, IsTraced, OfficeConnection, RepliesIfRead}
+use Rattle.desk_server.specs.Trace.{Ending, Ending.{nobody, overrun, unanswered, from_office, from_client}, ServesEnding, ServesEndings, ServesTrace}
+use Rattle.desk_server.specs.Trace.{TakesTurn, Trace, TracedTurn, happened, turn_alone}
 use Rattle.desk_server.specs.declared.{office.Answer.Answer, serve.ClockOutOfRange.ClockOutOfRange}
 use Rattle.jiff_core.specs.declared.timestamp.Timestamp.{Timestamp}
 
@@ -45,7 +49,7 @@ module _ {Desk : Type 0} (Answers : ℕ → AnswerRelation Desk) (Carries : Comm
     before : ServesEndings Answers Carries start front now
     after : ServesEndings Answers Carries now rest new
 
-  -- What the desk did before the last thing that happened, and what it did then.
+  -- The desk served all that happened, and the last thing is `ending`.
   record Last (front : List Ending) (ending : Ending) (start new : Desk) : Type 0 where
     now : Desk
     before : ServesEndings Answers Carries start front now
@@ -95,7 +99,8 @@ module _ {Desk : Type 0} (Answers : ℕ → AnswerRelation Desk) (Carries : Comm
       turn_served all meanwhile (from_office one) clock now f clock' new f' so_far (empty, counted, gives, carries) =
           alone all meanwhile (from_office one) new empty so_far carries
       turn_served all meanwhile (from_client exchange) clock now f clock' new f' so_far (counted, client) =
-          trace.one_ending (all ++ map from_office meanwhile) (from_client exchange) client.left new (connections_served so_far client.carried_out) client.replies
+          let before = connections_served so_far client.carried_out in
+          trace.one_ending (all ++ map from_office meanwhile) (from_client exchange) client.left new before client.replies
 
       turns_served : {clock : Clock} {start : Desk} {f : ℕ} {all : Trace} {clock' : Clock} {new : Desk} {f' : ℕ}
           → IsTraced Gives Answers Carries Ended clock start f all clock' new f' → ServesEndings Answers Carries start (happened all) new
@@ -155,7 +160,8 @@ module _ {S : Type 0} (ghosts : StoreGhosts S) (Given : Option Timestamp → Typ
   given : (task : Task) (command : Command) {bytes : List ℕ} {IsText : List ℕ → Type 0} {told : Result (List ℕ) Fault} {answer : Answer} {old new : S}
       → AskForTask bytes task → spec.command_of task ≡ Some command → AnswersWith told answer → IsAnswered ghosts command IsText told old new
       → Handles (λ club. IsEventOfCommand Given club bytes answer) old new
-  given task command {answer = answer} asks is answers (does.out_of_memory lacks kept) = still (λ club. spec.no_memory (lacks_memory answer (rw lacks at answers))) kept
+  given task command {answer = answer} asks is answers (does.out_of_memory lacks kept) =
+      still (λ club. spec.no_memory (lacks_memory answer (rw lacks at answers))) kept
   given task command {told = told} asks is answers (does.command_given text has gives) = record {
     was_clean = gives.was_clean;
     moves = λ clean. stepped (Commanded command) (ToOffice gives.reply)
@@ -173,7 +179,8 @@ module _ {S : Type 0} (ghosts : StoreGhosts S) (Given : Option Timestamp → Typ
   }
 
   done : (task : Task) {bytes : List ℕ} (told : Result (List ℕ) Fault) {answer : Answer} {old new : S}
-      → AskForTask bytes task → AnswersWith told answer → Does ghosts Given task told old new → Handles (λ club. IsEventOfCommand Given club bytes answer) old new
+      → AskForTask bytes task → AnswersWith told answer → Does ghosts Given task told old new
+      → Handles (λ club. IsEventOfCommand Given club bytes answer) old new
   done (Give given_command) told asks answers does = given _ _ asks refl answers does
   done (Key command root) told asks answers does = given _ _ asks refl answers does
   done (ShowAccount key clock) told asks answers (None, shows, stopped) =
@@ -204,21 +211,23 @@ module _ {S : Type 0} (ghosts : StoreGhosts S) (Given : Option Timestamp → Typ
   command bytes answer (carried.command_done root arguments told is (carried.arguments_refused fault reads refused kept) answers logged) =
       still (λ club. spec.no_task (spec.refused root arguments fault is reads (rw refused at answers))) kept
   command bytes answer (carried.no_command bad unnamed kept) = still (λ club. spec.no_task (spec.no_command bad unnamed.0)) kept
-  command bytes answer (carried.not_office root arguments is other unnamed kept) = still (λ club. spec.no_task (spec.other root arguments is other unnamed.0)) kept
+  command bytes answer (carried.not_office root arguments is other unnamed kept) =
+      still (λ club. spec.no_task (spec.other root arguments is other unnamed.0)) kept
   command bytes answer (carried.no_memory unnamed kept) = still (λ club. spec.no_memory unnamed.0) kept
 
   client : (exchange : ClientExchange) (reply : Option Reply) (old new : S) → exchange.reply ≡ reply
-      → RepliesIfRead (AnswersBy ghosts exchange.moment) exchange.bytes old reply new → Handles (λ club. IsEventOf Given club (from_client exchange)) old new
+      → RepliesIfRead (AnswersBy ghosts exchange.moment) exchange.bytes old reply new
+      → Handles (λ club. IsEventOfEnding Given club (from_client exchange)) old new
   client exchange None old new e kept = still (λ club. rw e (refl, refl)) kept
   client exchange (Some reply) old new e gave = handled_as (λ club events its is. rw e is) (request exchange.moment exchange.bytes reply old new gave)
 
   connection : (one : OfficeConnection) (came : Option AnsweredCommand) (old new : S) → one.command ≡ came
-      → CarriesOutIfCame (CarriesOutBy ghosts Given) old came new → Handles (λ club. IsEventOf Given club (from_office one)) old new
+      → CarriesOutIfCame (CarriesOutBy ghosts Given) old came new → Handles (λ club. IsEventOfEnding Given club (from_office one)) old new
   connection one None old new e kept = still (λ club. rw e (refl, refl)) kept
   connection one (Some done) old new e carries = handled_as (λ club events its is. rw e is) (command done.bytes done.answer carries)
 
   handled : (ending : Ending) (old new : S) → ServesEnding (AnswersBy ghosts) (CarriesOutBy ghosts Given) old ending new
-      → Handles (λ club. IsEventOf Given club ending) old new
+      → Handles (λ club. IsEventOfEnding Given club ending) old new
   handled nobody old new kept = still (λ club. (refl, refl)) kept
   handled overrun old new kept = still (λ club. (refl, refl)) kept
   handled unanswered old new kept = still (λ club. (refl, refl)) kept
@@ -230,7 +239,7 @@ module _ {S : Type 0} (ghosts : StoreGhosts S) (Given : Option Timestamp → Typ
   record IsFollowedTo (all : List Ending) (new : S) (club : Club) (others : List Club) : Type 0 where
     events : List machine.Event
     responses : List DeskResponse
-    are_events : AreEventsOf Given club all events responses
+    are_events : AreEventsOfEndings Given club all events responses
     within : All IsEvent events
     beside : length responses ≡ length events
     followed : IsFollowed ghosts new club others events responses
@@ -242,7 +251,7 @@ module _ {S : Type 0} (ghosts : StoreGhosts S) (Given : Option Timestamp → Typ
 
   module _ (none : FollowsNoEvent ghosts) (one_more : FollowsOneMore ghosts) where
     moved : {all : List Ending} (ending : Ending) (now new : S) (club : Club) (others : List Club) → IsFollowedTo all now club others
-        → Moves (λ club. IsEventOf Given club ending) now new → IsFollowedTo (all ++ ending ∷ []) new club others
+        → Moves (λ club. IsEventOfEnding Given club ending) now new → IsFollowedTo (all ++ ending ∷ []) new club others
     moved {all} ending now new club others before (quiet keeps) =
         let f = before.followed in
         let kept = keeps f.last f.left f.represents in

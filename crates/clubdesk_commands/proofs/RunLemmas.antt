@@ -1,5 +1,6 @@
--- Lemmas for comparing the servers of two desks or over two kinds of connections, for reducing a
--- server over a store and a clock to a server over the store, and for the proof of `run`.
+-- Lemmas for comparing the servers of two desks, or the servers over two kinds of connections.
+-- Further lemmas reduce a server over a store and a clock to a server over the store, and serve the
+-- proof of `run`.
 use Rattle.club_http.specs.Exchange as replied
 use Rattle.clubdesk_commands.specs.Run as run
 use Rattle.desk_server.specs.Trace as trace
@@ -120,7 +121,8 @@ module _ {D E : Type 0} (Represents : D → E → Type 0) where
           (Noted : List Turn → Type 0) {old new : D} (result : Result Unit Fault) → RunsServer Shows machine Answers Carries service turns old new Noted result
           → Simulates old new (λ e next. RunsServer Shows machine Answers' Carries' service turns e next Noted result)
       run_alike Shows machine service turns Noted result (run.listened outcome last failures is it noted) =
-          so (serves (showing Shows) over_socket over_socket (λ bytes written outcome ended. ended) it) (λ e next it. run.listened outcome last failures is it noted)
+          so (serves (showing Shows) over_socket over_socket (λ bytes written outcome ended. ended) it)
+          (λ e next it. run.listened outcome last failures is it noted)
       run_alike Shows machine service turns Noted result (run.not_listened fault none kept nothing) = same kept (λ e. run.not_listened fault none refl nothing)
 
 by_itself : {Desk : Type 0} {old new : Desk} {Gives : Desk → Desk → Type 0} → Gives old new → Simulates (λ desk e. desk ≡ e) old new Gives

@@ -5,7 +5,8 @@ use Rattle.std.specs.Prelude.{◌≡◌, ℕ, List, [], ◌∷◌, ◌++◌, Opt
 use Rattle.clap.specs.Words.{Text}
 use Rattle.club_core.specs.{Club.Club, Request.Words, Run.{Asked, Commanded, ToMember, ToOffice}, Store.StoreGhosts}
 use Rattle.club_core.specs.declared.{command.Command.Command, refusal.Refusal.{Refusal, TheVariants.Unavailable}, reply.Reply.{Reply, TheVariants.Refused}}
-use Rattle.club_gate.specs.{DecodedPass.AreWordsOf, Response.desk_presentation, Runs.{DeskResponse, IsLawfulRun, LeavesClub}, declared.event.OfficeReply.OfficeReply}
+use Rattle.club_gate.specs.{DecodedPass.AreWordsOf, Response.desk_presentation, Runs.{DeskResponse, IsLawfulRun, LeavesClub}}
+use Rattle.club_gate.specs.declared.event.OfficeReply.{OfficeReply}
 use Rattle.club_http.specs.Calls.{AnswersBy}
 use Rattle.club_laws.specs.Failed.{IsRun}
 use Rattle.jiff_core.specs.declared.timestamp.Timestamp.{Timestamp}
@@ -42,7 +43,8 @@ pub data AskForNoTask (bytes : List ℕ) (answer : Answer) : Type 0 where
 
 -- A command is one event or no event. `club` is the club when the command comes, and `Given` states
 -- which instants the machine's clock can show.
-pub data IsEventOfCommand (Given : Option Timestamp → Type 0) (club : Club) (bytes : List ℕ) (answer : Answer) : List machine.Event → List DeskResponse → Type 0 where
+pub data IsEventOfCommand (Given : Option Timestamp → Type 0) (club : Club) (bytes : List ℕ) (answer : Answer)
+    : List machine.Event → List DeskResponse → Type 0 where
   -- The bytes ask the desk for a command. The answer has the desk's reply.
   given : (task : Task) (command : Command) (text : List ℕ) (told : Result (List ℕ) Fault) (reply : OfficeReply) → AskForTask bytes task
       → command_of task ≡ Some command → GivesReply text told reply → AnswersWith told answer
@@ -73,18 +75,18 @@ IsEventOfClient moment bytes None events responses = (events ≡ []) × (respons
 IsEventOfClient moment bytes (Some reply) events responses = IsEventOfRequest moment bytes reply events responses
 
 -- One thing that happened is one event or no event.
-abbrev pub IsEventOf : (Option Timestamp → Type 0) → Club → Ending → List machine.Event → List DeskResponse → Type 0
-IsEventOf Given club (from_client exchange) events responses = IsEventOfClient exchange.moment exchange.bytes exchange.reply events responses
-IsEventOf Given club (from_office connection) events responses = IsEventOfConnection Given club connection.command events responses
-IsEventOf Given club ending events responses = (events ≡ []) × (responses ≡ [])
+abbrev pub IsEventOfEnding : (Option Timestamp → Type 0) → Club → Ending → List machine.Event → List DeskResponse → Type 0
+IsEventOfEnding Given club (from_client exchange) events responses = IsEventOfClient exchange.moment exchange.bytes exchange.reply events responses
+IsEventOfEnding Given club (from_office connection) events responses = IsEventOfConnection Given club connection.command events responses
+IsEventOfEnding Given club ending events responses = (events ≡ []) × (responses ≡ [])
 
 -- The events of all that happened, in order, with the responses. The machine starts with the club
 -- `start`. A listing or a sheet shows the club `now` after the events before it.
-pub data AreEventsOf (Given : Option Timestamp → Type 0) (start : Club) : List Ending → List machine.Event → List DeskResponse → Type 0 where
-  no_event : AreEventsOf Given start [] [] []
+pub data AreEventsOfEndings (Given : Option Timestamp → Type 0) (start : Club) : List Ending → List machine.Event → List DeskResponse → Type 0 where
+  no_event : AreEventsOfEndings Given start [] [] []
   more_events : (all : List Ending) (events : List machine.Event) (responses : List DeskResponse) (ending : Ending) (one : List machine.Event)
-      (its : List DeskResponse) (now : Club) → AreEventsOf Given start all events responses → IsRun desk_presentation start events responses now
-      → IsEventOf Given now ending one its → AreEventsOf Given start (all ++ ending ∷ []) (events ++ one) (responses ++ its)
+      (its : List DeskResponse) (now : Club) → AreEventsOfEndings Given start all events responses → IsRun desk_presentation start events responses now
+      → IsEventOfEnding Given now ending one its → AreEventsOfEndings Given start (all ++ ending ∷ []) (events ++ one) (responses ++ its)
 
 module _ {S : Type 0} (ghosts : StoreGhosts S) (Given : Option Timestamp → Type 0) where
   -- All that happened is a lawful run of the club's state machine that starts with `club`. The store
@@ -93,7 +95,7 @@ module _ {S : Type 0} (ghosts : StoreGhosts S) (Given : Option Timestamp → Typ
   pub record IsLawfulTrace (all : List Ending) (new : S) (club : Club) (others : List Club) : Type 0 where
     pub events : List machine.Event
     pub responses : List DeskResponse
-    pub are_events : AreEventsOf Given club all events responses
+    pub are_events : AreEventsOfEndings Given club all events responses
     pub lawful : IsLawfulRun club events responses
     pub leaves : LeavesClub ghosts.represents new club others events responses
 

@@ -14,7 +14,8 @@ use Rattle.clubdesk_arguments.specs.declared.task.Work.TheVariants.{Serve}
 use Rattle.clubdesk_commands.specs.{Does.Does, Events.IsRunOfClub, HandedCommand.{SpellsCommand, TakesRoot}, OfficeDesk.CarriesOutBy}
 use Rattle.clubdesk_commands.specs.Output.{EndsWork, LogChange, Prints, Stream}
 use Rattle.command_line.specs.{Arguments.IsOfKind, Process.AppendsFront, declared.{errors.ArgumentsFault.ArgumentsFault, job.Asked.TheVariants.ShowText}}
-use Rattle.desk_server.specs.{Served.{Ends, Turn}, Server.Giving, Trace.{ServesTrace, Trace, happened, turns_of}, declared.databases.{Databases.Ghosts as DatabasesWords, Reached.TheVariants.{Opened, Served}}}
+use Rattle.desk_server.specs.{Served.{Ends, Turn}, Server.Giving, Trace.{ServesTrace, Trace, happened, turns_of}}
+use Rattle.desk_server.specs.declared.databases.{Databases.Ghosts as DatabasesWords, Reached.TheVariants.{Opened, Served}}
 use Rattle.desk_server.specs.declared.{databases.Visit.Ghosts as VisitWords, serve.ClockOutOfRange.ClockOutOfRange as ClockFault}
 use Rattle.hex.specs.Hex.{encode_lower}
 use Rattle.jiff_core.specs.declared.timestamp.Timestamp.{Timestamp}

@@ -7,7 +7,8 @@ use Rattle.desk_server.specs.Between as between
 use Rattle.desk_server.specs.Trace as trace
 use Rattle.std.proofs.Common.{◌∙◌, ℕ, List, Option, ap, refl, ◌<◌, ◌+◌, suc, arith, [], ◌∷◌, ◌++◌, length, take, Result, Ok, Err, ◌≡◌, append_assoc, append-nil}
 use Rattle.std.proofs.{Common.{sym, ◌≤◌, length-append, inl, inr, rules, Some, None, IfSome}, KnownBytes.{Keeps-refl, Keeps-trans, Appends-trans, Appends-kept}}
-use Rattle.std.proofs.{KnownBytes.Appends-nil, Math.Seq.take-append-add, lemmas.{List.{map-append, take_all, take-append-le, length-take-le}, Option.IfSome_then}}
+use Rattle.std.proofs.{KnownBytes.Appends-nil, Math.Seq.take-append-add, lemmas.List.{map-append, take_all, take-append-le, length-take-le}}
+use Rattle.std.proofs.lemmas.Option.{IfSome_then}
 use Rattle.std.specs.Io.KnownBytes.{Appends, Keeps}
 use Rattle.club_clock.specs.Moments.{GivesMoment}
 use Rattle.club_core.specs.declared.reply.Reply.{Reply}

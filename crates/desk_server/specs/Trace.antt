@@ -5,7 +5,8 @@ use Rattle.std.specs.Prelude.{MatchResult}
 use Rattle.club_clock.specs.Moments.{GivesMoment}
 use Rattle.club_core.specs.declared.reply.Reply.{Reply}
 use Rattle.club_http.specs.{Exchange.{one_more, AnswerRelation, IsReplied}, declared.fault.AnswerFault.{AnswerFault, TheVariants.{Read, Write}}}
-use Rattle.desk_server.specs.{Served.{CommandRelation, Ends, Turn}, declared.{log.LogEvent.LogEvent, office.Answer.Answer, serve.ClockOutOfRange.ClockOutOfRange}}
+use Rattle.desk_server.specs.{Served.{CommandRelation, Ends, Turn}, declared.{log.LogEvent.LogEvent, office.Answer.Answer}}
+use Rattle.desk_server.specs.declared.serve.ClockOutOfRange.{ClockOutOfRange}
 use Rattle.desk_server.specs.declared.log.LogEvent.TheVariants.{Absent, Overrun, Unanswered, Exchanged, Commanded}
 use Rattle.http_response.specs.Text.{reply_text}
 
@@ -96,7 +97,7 @@ abbrev pub IsDue : Trace → Ending → Type 0
 IsDue trace overrun = 2 ^ 64 ≤ suc (length trace)
 IsDue trace ending = Unit {0}
 
--- What was written for a reply, with the outcome of the exchange. The exchange wrote the reply's
+-- The written bytes and the outcome of an exchange with this reply. The exchange wrote the reply's
 -- text, or failed after a prefix of the text. Without a reply, the exchange wrote nothing.
 abbrev pub IsWritten : Option Reply → List ℕ → Result Reply AnswerFault → Type 0
 IsWritten None written outcome = (outcome ≡ Err Read) × (written ≡ [])

@@ -2,7 +2,8 @@ use Rattle.desk_server.specs.Served as served
 use Rattle.desk_server.specs.Trace as trace
 use Rattle.desk_server.proofs.serve.serve_logged.Goals as goal
 use Rattle.std.proofs.Common.{◌≡◌, ◌≤◌, ◌^◌, ◌∷◌, ◌++◌, suc, [], length, length-append, arith, refl, sym, take}
-use Rattle.desk_server.{proofs.{ServerLemmas.{noted_alone, noted_more, one_call, one_more}, Tracing.{Came, Replied, came, connections_of, replied}}, specs.Trace.turn_alone}
+use Rattle.desk_server.proofs.{ServerLemmas.{noted_alone, noted_more, one_call, one_more}, Tracing.{Came, Replied, came, connections_of, replied}}
+use Rattle.desk_server.specs.Trace.{turn_alone}
 use Rattle.desk_server.specs.Trace.{ClientExchange, Ending.{nobody, overrun, unanswered, from_office, from_client}, OfficeConnection, TracedTurn}
 
 pub loop-served-init : goal.loop-served-init
