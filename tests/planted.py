@@ -33,6 +33,7 @@ PLANTS = {
         '[ "$1" != sheet ] || rm -f "$2-wal"; exec "$PROGRAM" "$@"',
         "'sheet ",
     ),
+    "arguments_taken": ("clubdesk", "storage failed", "storage failex", "test_each_hour"),
     "audit": ("docs/PROMISES.md", "`opens`", "`openz`", "no contract Tables::open: openz"),
     "builds_side_by_side": (
         "bin/proved",
@@ -732,6 +733,12 @@ PLANTS = {
         '"kind = court"',
         '"kind = boat"',
         "/root/lend: wanted",
+    ),
+    "pass_texts": (
+        "tests/reference/passes.py",
+        'b"macaroons-key-generator"',
+        'b"macaroons-key-generatox"',
+        "test_json_of_each_length",
     ),
     "passes_beside": (
         "tests/peers/passes_beside.c",
