@@ -105,6 +105,13 @@ PLANTS = {
     ),
     "hostile-quick": ("clubdesk", "quota reached", "quota reachex", "quota reachex"),
     "jobs_hold": ("deploy/old_copies", "now - its_day < 14", "now - its_day < 13", "too few"),
+    "keys_and_days": ("clubdesk", "No bookings.", "No bookingx.", "test_sheets_of_a_leap_year"),
+    "keys_and_days:keys": (
+        "tests/reference/passes.py",
+        'b"macaroons-key-generator"',
+        'b"macaroons-key-generatox"',
+        "test_keys_beyond_the_cache",
+    ),
     "lint": ("CHANGELOG.md", "## 0.1.0,", "## 0.1.1,", "differs from version"),
     "lint:spelling": (
         "docs/TOUR.md",

@@ -1,8 +1,10 @@
 #!/usr/bin/env -S /usr/bin/python3 -B -m pytest -q -p no:cacheprovider
-"""clubdesk takes each numeric argument at each length, each hour, each patience, and names and roots of each length.
+"""clubdesk takes each numeric argument at each length, each hour, each patience, and names and
+roots of each length.
 
-Each command names a file in a folder that doesn't exist. So a command whose arguments are accepted ends with status 5, and a refused argument ends
-with another status. Two keys can have the same root, and the office can see a revoked key. Both programs print their version.
+Each command names a file in a folder that doesn't exist. So a command whose arguments are accepted
+ends with status 5, and a refused argument ends with another status. Two keys can have the same
+root, and the office can see a revoked key. Both programs print their version.
 """
 
 from concurrent.futures import ThreadPoolExecutor

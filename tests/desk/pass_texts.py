@@ -1,8 +1,10 @@
 #!/usr/bin/env -S /usr/bin/python3 -B -m pytest -q -p no:cacheprovider
-"""passtool reads and writes passes of each length, with a caveat of each first byte, and texts with padding, indentation or base64.
+"""passtool reads and writes passes of each length, with a caveat of each first byte, and texts with
+padding, indentation or base64.
 
-The passes and their texts come from the rules in Python (tests/reference). Each length of a text is tried in JSON, from the shortest text to 8,192
-bytes. In base64, the lengths differ by at most 16. Each text in base64 is also read with padding.
+The passes and their texts come from the rules in Python (tests/reference). Each length of a text is
+tried in JSON, from the shortest text to 8,192 bytes. In base64, the lengths differ by at most 16.
+Each text in base64 is also read with padding.
 """
 
 import base64

@@ -1,9 +1,10 @@
 #!/usr/bin/env -S /usr/bin/python3 -B -m pytest -q -p no:cacheprovider
 """include/clubpass.h declares the functions, structs and numbers of the library's sources.
 
-The header declares each exported function of crates/pass_c/src/exports.rt with the same arguments, in the same order, and with C's types for them.
-The header declares no other function. The members of both structs have the names, the order and the types of the fields in crates/pass_calls/src.
-The header's limits, faults, forms, actions and kinds have the numbers of the sources.
+The header declares each exported function of crates/pass_c/src/exports.rt with the same arguments,
+in the same order, and with C's types for them. The header declares no other function. The members
+of both structs have the names, the order and the types of the fields in crates/pass_calls/src. The
+header's limits, faults, forms, actions and kinds have the numbers of the sources.
 """
 
 import re
@@ -110,7 +111,8 @@ def declared() -> dict[str, tuple[str, list[str]]]:
 
 
 def fields(text: str, name: str) -> list[tuple[str, str, int | None]]:
-    """Returns the name, the number type and the length of each field of a struct in Rattle. The length of a number is None."""
+    """Returns the name, the number type and the length of each field of a struct in Rattle. The
+    length of a number is None."""
     body = re.search(rf"pub struct {name} \{{(.*?)\n\}}", text, re.DOTALL)[1]
     found = re.findall(r"pub (\w+): (?:\[(\w+); (\w+)\]|(\w+)),", body)
     return [
@@ -124,7 +126,8 @@ def size_of(size: str) -> int:
 
 
 def members(name: str) -> list[tuple[str, str, int | None]]:
-    """Returns the name, the type and the length of each member of a struct in the header. The names have no `_` at their ends."""
+    """Returns the name, the type and the length of each member of a struct in the header. The
+    names have no `_` at their ends."""
     body = re.search(rf"typedef struct {name} \{{(.*?)\}}", HEADER, re.DOTALL)[1]
     found = re.findall(r"(\w+) (\w+?)_?(?:\[CLUBPASS_(\w+)\])?;", body)
     numbers = enumerated()
