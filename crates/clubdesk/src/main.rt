@@ -32,9 +32,10 @@ impl DatabasesUser for Program<'_> {
 
     fn run_over<D: Databases>(self, databases: &mut D) -> u8 {
         let rt = self.rt;
+        let mut process = self;
         run_process(
             rt,
-            &self,
+            &mut process,
             rt,
             databases,
             &mut rt.stdin(),
@@ -48,6 +49,8 @@ impl DatabasesUser for Program<'_> {
 impl GivenArguments for Program<'_> {
     ghost given = { λ _ _. Unit {0} };
 
+    ghost unreadable = { λ _. Unit {0} };
+
     fn arguments(&self, alloc: Global) -> io::Result<Vec<String>> {
         self.rt.arguments(alloc)
     }
@@ -55,9 +58,10 @@ impl GivenArguments for Program<'_> {
 
 // The contract makes no promise about the printed text.
 impl FaultLines for Program<'_> {
-    ghost asked = { λ _ _. Unit {0} };
+    ghost prints = { λ _ _ _. Unit {0} };
 
-    fn print_text<F: Display>(&self, text: &F) {
-        self.rt.print_text(text)
+    fn print_text<F: Display>(&mut self, text: &F) {
+        let mut rt = self.rt;
+        rt.print_text(text)
     }
 }

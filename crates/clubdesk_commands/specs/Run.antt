@@ -13,7 +13,8 @@ use Rattle.clubdesk_arguments.specs.declared.task.{KeyCommand.KeyCommand, Servic
 use Rattle.clubdesk_arguments.specs.declared.task.Work.TheVariants.{Serve}
 use Rattle.clubdesk_commands.specs.{Does.Does, Events.IsRunOfClub, HandedCommand.{SpellsCommand, TakesRoot}, OfficeDesk.CarriesOutBy}
 use Rattle.clubdesk_commands.specs.Output.{EndsWork, LogChange, Prints, Stream}
-use Rattle.command_line.specs.{Arguments.IsOfKind, Process.AppendsFront, declared.{errors.ArgumentsFault.ArgumentsFault, job.Asked.TheVariants.ShowText}}
+use Rattle.command_line.specs.{Arguments.IsOfKind, Lines.{LinesChange, PrintsFault}, Process.AppendsFront, declared.errors.ArgumentsFault.ArgumentsFault}
+use Rattle.command_line.specs.declared.job.Asked.TheVariants.{ShowText}
 use Rattle.desk_server.specs.{Served.{Ends, Turn}, Server.Giving, Trace.{ServesTrace, Trace, happened, turns_of}}
 use Rattle.desk_server.specs.declared.databases.{Databases.Ghosts as DatabasesWords, Reached.TheVariants.{Opened, Served}}
 use Rattle.desk_server.specs.declared.{databases.Visit.Ghosts as VisitWords, serve.ClockOutOfRange.ClockOutOfRange as ClockFault}
@@ -171,18 +172,19 @@ exit_status (Ok done) = 0
 exit_status (Err fault) = fault_status fault
 
 -- The exit status matches the run's result. If the run failed, the program printed the text of the
--- fault.
-abbrev pub EndsWith : (Option (List ℕ) → Type 0) → Result Unit Fault → ℕ → Type 0
-EndsWith Asked ended status = (status ≡ exit_status ended) × IfErr ended (λ fault. Asked (fault_output fault))
+-- fault once. Otherwise the program printed nothing on standard error, except its log.
+abbrev pub EndsWith : LinesChange → Result Unit Fault → ℕ → Type 0
+EndsWith lines ended status = (status ≡ exit_status ended) × PrintsFault fault_output lines ended
 
 module _ {D S R V Machine : Type 0} (databases : DatabasesWords D S R V) (visits : VisitWords V) (ghosts : StoreGhosts S)
-    (Shows : Machine → Option Timestamp → Type 0) (machine : Machine) (Given : List Text → Type 0) (Asked : Option (List ℕ) → Type 0)
+    (Shows : Machine → Option Timestamp → Type 0) (machine : Machine) (Given : List Text → Type 0) (Unreadable : Type 0) (lines : LinesChange)
   where
-    -- The effect of a process. The process runs the program on its arguments. If an argument isn't
-    -- valid UTF-8, or if memory for the arguments runs out, the process only prints the fault.
+    -- The effect of a process. The process runs the program on its arguments. Only if the process
+    -- can't read its arguments, because an argument isn't valid UTF-8, or because memory for the
+    -- arguments runs out, the process does nothing but print the fault.
     pub data RunsProcess (given : Stream) (old new : D) (written : Stream) (log : LogChange) (status : ℕ) : Type 0 where
       process_ran : (arguments : List Text) (ended : Result Unit Fault) → Given arguments
-          → Runs databases visits ghosts Shows machine arguments given old new written log ended → EndsWith Asked ended status
+          → Runs databases visits ghosts Shows machine arguments given old new written log ended → EndsWith lines ended status
           → RunsProcess given old new written log status
-      arguments_refused : (fault : ArgumentsFault Unit) → IsOfKind kinds.ValueValidation fault → given.no_change → new ≡ old → written.no_change
-          → log.no_change → EndsWith Asked (Err (of_arguments fault)) status → RunsProcess given old new written log status
+      arguments_refused : (fault : ArgumentsFault Unit) → Unreadable → IsOfKind kinds.ValueValidation fault → given.no_change → new ≡ old → written.no_change
+          → log.no_change → EndsWith lines (Err (of_arguments fault)) status → RunsProcess given old new written log status

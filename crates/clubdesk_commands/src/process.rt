@@ -1,9 +1,10 @@
 //! Runs the whole program, from the process's arguments to the exit status.
 
-ghost use Rattle.std.specs.Prelude.{◌≡◌, IfErr};
+ghost use Rattle.std.specs.Prelude.{◌≡◌};
 ghost use Rattle.clubdesk_arguments.specs.Fault.{fault_output};
 ghost use Rattle.clubdesk_commands.specs.Output.{log_change, stream};
 ghost use Rattle.clubdesk_commands.specs.Run as spec;
+ghost use Rattle.command_line.specs.Lines.{PrintsFault, lines_change};
 
 use crate::program::run;
 use club_clock::Instants;
@@ -12,8 +13,9 @@ use command_line::{FaultLines, GivenArguments, given_arguments, report};
 use desk_server::{Databases, Log, MonotonicClock};
 use std::io::{Read, Write};
 
-/// Runs the program on the arguments of a process, and returns the exit status. If the run fails,
-/// prints the text of the fault.
+/// Runs the program on the arguments of a process, and returns the exit status. If the arguments
+/// can't be read or the run fails, prints the text of the fault once. Otherwise prints nothing on
+/// standard error.
 pub fn run_process<
     P: GivenArguments + FaultLines,
     C: Instants + MonotonicClock,
@@ -23,7 +25,7 @@ pub fn run_process<
     G: Log,
 >(
     rt: &HostRuntime,
-    process: &P,
+    process: &mut P,
     machine: &C,
     databases: &mut D,
     reader: &mut R,
@@ -31,11 +33,12 @@ pub fn run_process<
     log: &mut G,
 ) -> u8
     ensures { spec.RunsProcess D.Databases D.Visit.Visit D.Store.ghosts C.Instants.shows
-        machine.now (P.given process.now) (P.asked process.now)
+        machine.now (P.given process.old) (P.unreadable process.old)
+        (lines_change P.FaultLines process.old process.new)
         (stream R.remaining reader.old reader.new) databases.old databases.new
         (stream W.contents writer.old writer.new) (log_change G.Log log.old log.new) result }
 {
-    match given_arguments::<P, CommandName, ()>(rt.alloc(), process) {
+    match given_arguments::<P, CommandName, ()>(rt.alloc(), &*process) {
         Ok(arguments) => {
             let arguments = arguments.as_slice();
             let ended = run(rt, machine, databases, arguments, reader, writer, log);
@@ -45,10 +48,12 @@ pub fn run_process<
     }
 }
 
-/// Returns the exit status for a run's result. If the run failed, prints the text of the fault.
-pub fn finish<P: FaultLines>(process: &P, ended: Result<(), Fault>) -> u8
+/// Returns the exit status for a run's result. If the run failed, prints the text of the fault
+/// once. Otherwise prints nothing.
+pub fn finish<P: FaultLines>(process: &mut P, ended: Result<(), Fault>) -> u8
     ensures status { result ≡ spec.exit_status ended }
-    ensures line { IfErr ended (λ fault. P.asked process.now (fault_output fault)) }
+    ensures line { PrintsFault fault_output
+        (lines_change P.FaultLines process.old process.new) ended }
 {
     match ended {
         Ok(()) => 0,

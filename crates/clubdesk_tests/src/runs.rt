@@ -112,7 +112,15 @@ fn run_over<C: Clock, D: Databases>(
     let mut lines = LogLines::new(WriteOutlet::new(&mut log), machine);
     let reader = &mut input;
     let writer = &mut caller;
-    let status = run_process(rt, &process, machine, databases, reader, writer, &mut lines);
+    let status = run_process(
+        rt,
+        &mut &process,
+        machine,
+        databases,
+        reader,
+        writer,
+        &mut lines,
+    );
     let printed = process.into_printed();
     Ok(Output {
         returned: text_of(rt, status, printed.as_str(), caller.written_bytes())?,

@@ -4,3 +4,4 @@ pub mod Process
 pub mod Given
 pub mod Table
 pub mod Job
+pub mod Lines

@@ -13,11 +13,15 @@ use std::io;
 
 /// A process that was started with arguments.
 pub trait GivenArguments {
-    ghost use Rattle.std.specs.{Prelude.{List, IfOk, map}, String.string_bytes};
+    ghost use Rattle.std.specs.{Prelude.{List, IfErr, IfOk, map}, String.string_bytes};
     ghost use Rattle.clap.specs.Words.{Text};
 
     // The arguments that the process may have.
     ghost given: { Self → List Text → Type 0 };
+
+    // The process may fail to read its arguments, because an argument isn't UTF-8, or because
+    // memory runs out.
+    ghost unreadable: { Self → Type 0 };
 
     /// Returns all arguments. The first argument is the program's name.
     ///
@@ -26,15 +30,19 @@ pub trait GivenArguments {
     /// Fails with `OutOfMemory` if an allocation fails. Fails with another kind if an argument
     /// isn't UTF-8.
     fn arguments(&self, alloc: Global) -> io::Result<Vec<String>>
-        ensures { IfOk result (λ arguments. given self.now (map string_bytes arguments.items)) };
+        ensures ok { IfOk result (λ arguments.
+            given self.now (map string_bytes arguments.items)) }
+        ensures err { IfErr result (λ error. unreadable self.now) };
 }
 
 /// The process in which the program runs. The contract promises nothing about its arguments.
-impl<R: Env + AllocGlobal> GivenArguments for R {
+impl<R: Env + AllocGlobal> GivenArguments for &R {
     ghost given = { λ _ _. Unit {0} };
 
+    ghost unreadable = { λ _. Unit {0} };
+
     fn arguments(&self, alloc: Global) -> io::Result<Vec<String>> {
-        Ok(env::args(self)?.collect(alloc)?)
+        Ok(env::args(*self)?.collect(alloc)?)
     }
 }
 
@@ -42,21 +50,21 @@ impl<R: Env + AllocGlobal> GivenArguments for R {
 pub trait FaultLines {
     ghost use Rattle.std.specs.Prelude.{ℕ, List, Option};
 
-    // A text that the program tried to print, if the text is known.
-    ghost asked: { Self → Option (List ℕ) → Type 0 };
+    // The effect of printing a text once. The text is `None` if it is unknown.
+    ghost prints: { Self → Option (List ℕ) → Self → Type 0 };
 
-    /// Prints a text. Ignores a failure to print, because the program can't report the failure
+    /// Prints a text once. Ignores a failure to print, because the program can't report the failure
     /// anywhere else.
-    fn print_text<F: Display>(&self, text: &F)
-        ensures { asked self.now (F.output text.now) };
+    fn print_text<F: Display>(&mut self, text: &F)
+        ensures { prints self.old (F.output text.now) self.new };
 }
 
 /// Standard error. The contract promises nothing about the printed bytes.
-impl<R: Eprint> FaultLines for R {
-    ghost asked = { λ _ _. Unit {0} };
+impl<R: Eprint> FaultLines for &R {
+    ghost prints = { λ _ _ _. Unit {0} };
 
-    fn print_text<F: Display>(&self, text: &F) {
-        let _ = eprint!(self; "{text}");
+    fn print_text<F: Display>(&mut self, text: &F) {
+        let _ = eprint!(*self; "{text}");
     }
 }
 
@@ -73,6 +81,7 @@ pub fn given_arguments<P: GivenArguments, C: Commands, V>(
     ensures ok { IfOk result (λ arguments.
         P.given process.now (map string_bytes arguments.items)) }
     ensures err { IfErr result (IsOfKind kinds.ValueValidation) }
+    ensures unreadable { IfErr result (λ fault. P.unreadable process.now) }
 {
     match process.arguments(alloc) {
         Ok(arguments) => Ok(arguments),
@@ -81,10 +90,10 @@ pub fn given_arguments<P: GivenArguments, C: Commands, V>(
     }
 }
 
-/// Prints a fault on standard error, as a line. A text from `clap` already ends with a line feed.
-/// Any other text gets a line feed at its end.
-pub fn report<P: FaultLines, F: Display>(process: &P, fault: &F, is_text_of_clap: bool)
-    ensures { P.asked process.now (printed is_text_of_clap (F.output fault.now)) }
+/// Prints a fault on standard error once, as a line. A text from `clap` already ends with a line
+/// feed. Any other text gets a line feed at its end.
+pub fn report<P: FaultLines, F: Display>(process: &mut P, fault: &F, is_text_of_clap: bool)
+    ensures { P.prints process.old (printed is_text_of_clap (F.output fault.now)) process.new }
 {
     if is_text_of_clap {
         process.print_text(fault)

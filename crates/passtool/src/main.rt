@@ -6,5 +6,5 @@ use passtool_commands::run_process;
 use std::process::ExitCode;
 
 fn main(rt: HostRuntime) -> ExitCode {
-    ExitCode::from(run_process(rt.alloc(), &rt, &mut rt.stdin(), &mut rt.stdout()))
+    ExitCode::from(run_process(rt.alloc(), &mut &rt, &mut rt.stdin(), &mut rt.stdout()))
 }

@@ -16,7 +16,7 @@ type Ended = (u8, String, String);
 fn end_of(rt: &impl Host, arguments: &[&[u8]], input: &mut impl Read) -> Ended {
     let process = Process::new(rt.alloc(), arguments);
     let mut written = Vec::new(rt.alloc());
-    let status = run_process(rt.alloc(), &process, input, &mut written);
+    let status = run_process(rt.alloc(), &mut &process, input, &mut written);
     let written = String::from_utf8(written).ok().expect(rt, "text");
     (status, written, process.into_printed())
 }
@@ -91,7 +91,7 @@ fn expect_given(rt: &impl Host, texts: &[String]) {
         arguments.push(text.as_bytes()).expect(rt, "memory");
     }
     let process = Process::new(rt.alloc(), arguments.as_slice());
-    let given = given_arguments::<Process<'_>, Name, BadValue>(rt.alloc(), &process);
+    let given = given_arguments::<&Process<'_>, Name, BadValue>(rt.alloc(), &&process);
     let given = given.ok().expect(rt, "arguments");
     expect_case(rt, "arguments", given.as_slice(), texts);
 }

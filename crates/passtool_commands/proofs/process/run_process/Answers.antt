@@ -10,5 +10,5 @@ returns-in-Ok g c =
 
 pub returns-in-Err : goal.returns-in-Err
 returns-in-Err g c =
-    spec.arguments_refused c.in-Err.fault c.in-Err.ensures.err refl refl
+    spec.arguments_refused c.in-Err.fault c.in-Err.ensures.unreadable c.in-Err.ensures.err refl refl
     (rw c.from.ensures at c.finish-in-Err.ensures.status, rw c.from.ensures at c.finish-in-Err.ensures.line)
