@@ -1,2 +1,3 @@
 pub mod RunLemmas
 pub mod FollowedTrace
+pub mod OneList

@@ -4,3 +4,4 @@ pub mod HandedCommand
 pub mod OfficeDesk
 pub mod Events
 pub mod Run
+pub mod Laws

@@ -4,6 +4,7 @@
 
 mod handed_command;
 mod input;
+pub mod laws;
 mod office;
 mod office_desk;
 mod process;
