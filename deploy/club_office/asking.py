@@ -39,10 +39,10 @@ def ask(text):
         raise Back from None
 
 
-def confirms(question="shall"):
+def confirms(question="shall", **values):
     """Returns whether the clerk answers a question with yes. The prompt goes to standard output. The answer comes from standard input, even if
     standard input isn't a terminal."""
-    print(say(question), end="", flush=True)
+    print(say(question, **values), end="", flush=True)
     try:
         return means("yes", sys.stdin.buffer.readline(100).decode(errors="replace"))
     except KeyboardInterrupt:
@@ -69,7 +69,8 @@ def chosen(typed, names, about=lambda name: ""):
 
 
 def until_read(prompt, read, fault):
-    """Asks until the clerk gives a readable answer. An empty answer cancels the question."""
+    """Asks until the clerk gives a readable answer. An empty answer cancels the question. `fault` is the text for an unreadable answer, or a function
+    that returns the text."""
     while True:
         answer = ask(f"{prompt}: ")
         if not answer:
@@ -77,7 +78,7 @@ def until_read(prompt, read, fault):
         value = read(answer)
         if value is not None:
             return value
-        print("   " + fault)
+        print("   " + (fault(answer) if callable(fault) else fault))
 
 
 def ask_name(prompt, names, about=lambda name: "", fitting=found):
@@ -115,16 +116,28 @@ def ask_hours(prompt):
     return f"{begin}-{end}"
 
 
+def number_of(typed):
+    """Returns the typed number, or None if it isn't a number of 15 digits at most."""
+    digits = typed.replace(".", "").replace("'", "")
+    return int(digits) if digits.isascii() and digits.isdigit() and len(digits) < 16 else None
+
+
 def ask_number(prompt, least, most):
     def read(typed):
-        digits = typed.replace(".", "").replace("'", "")
+        number = number_of(typed)
+        return number if number is not None and least <= number <= most else None
+
+    def fault(typed):
+        number = number_of(typed)
+        if number is None:
+            return say("no number", least=least, most=most)
         return (
-            int(digits)
-            if digits.isascii() and digits.isdigit() and least <= int(digits) <= most
-            else None
+            say("number too small", least=least)
+            if number < least
+            else say("number too large", most=most)
         )
 
-    return until_read(prompt, read, say("no number", least=least, most=most))
+    return until_read(prompt, read, fault)
 
 
 def ask_facilities(prompt, facilities):

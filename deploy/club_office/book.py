@@ -11,6 +11,7 @@ import socket
 import sys
 import time
 
+from club_office.begin import printable
 from club_office.clubs import clubdesk, show, wants_file
 from club_office.copies import clear_unnamed
 from club_office.faults import STORAGE, Fault, fault, storage_failed
@@ -37,14 +38,6 @@ def clerk():
 
 
 # ---- Lines of the book. A line goes to a file if the configuration names a file, if there is no journal, or if the journal doesn't accept the line.
-
-
-def printable(text):
-    """Returns the text with a number in place of each unprintable character, such as a line separator."""
-    return "".join(
-        it if it.isprintable() else f"\\x{ord(it):02x}" if ord(it) < 256 else f"\\u{ord(it):04x}"
-        for it in text
-    )
 
 
 def line_of(moment, status, words):

@@ -32,6 +32,8 @@ CORRECTIONS = (
 LISTED = ("cancel", "close", "rain", "leave")
 # The greatest number of rounds in which a correction asks about slots that members booked in the meantime.
 MOST_ROUNDS = 20
+# The greatest number of commands in a line about an interrupted correction.
+MOST_SHOWN = 10
 # The status of clubdesk if it doesn't know whether the desk carried out a command.
 NO_ANSWER = 8
 # Columns of the tables `slots` and `members`.
@@ -154,7 +156,11 @@ class Correction:
         plans.append(plan)
         in_use = self.give_each(turn, words, not left)
         if plan.new_name and not in_use:
-            in_use = self.give_names()
+            try:
+                in_use = self.give_names()
+            except Fault:
+                self.tell_progress(words, [])
+                raise
         if self.words.command == "set-facility" and self.words.hours:
             self.look_again()
         self.then()
@@ -192,8 +198,22 @@ class Correction:
             except Fault as failure:
                 if is_first and place == 0 and failure.status == REFUSED:
                     forget_undo(self.club)
+                self.tell_progress(words[:place], words[place:])
                 raise
         return in_use
+
+    def tell_progress(self, given, left):
+        """Prints which commands of an interrupted correction are done, and which aren't."""
+        more = [say("new names", member=self.words.member)] if self.words.command == "leave" else []
+        for text, lines in (
+            ("done so far", [" ".join(it) for it in given]),
+            ("not done", [*(" ".join(it) for it in left), *more]),
+        ):
+            shown = lines[:MOST_SHOWN] if len(lines) > MOST_SHOWN + 1 else lines
+            if len(shown) < len(lines):
+                shown = [*shown, say("further", count=len(lines) - len(shown))]
+            if shown and given:
+                print(say(text, lines="; ".join(shown)), file=sys.stderr)
 
     def give(self, turn, words):
         """Gives the desk a command, and returns whether the desk carried it out. The turn ends only after the command has ended, even if a signal

@@ -47,13 +47,23 @@ class Club(collections.namedtuple("Club", "name file zone stop book back_ups set
 
 def settings(path):
     """Returns the lines `KEY=value` of a configuration. A value may be in quotes."""
-    found = {}
     with open(path, encoding="utf-8") as lines:
-        for line in lines:
-            parts = re.fullmatch(r"\s*([A-Za-z_]+)\s*=\s*(.*?)\s*", line)
-            if parts and not line.lstrip().startswith(("#", ";")):
-                found[parts[1].lower()] = parts[2].strip("\"'")
+        return settings_of(lines)
+
+
+def settings_of(lines):
+    found = {}
+    for line in lines:
+        parts = re.fullmatch(r"\s*([A-Za-z_]+)\s*=\s*(.*?)\s*", line)
+        if parts and not line.lstrip().startswith(("#", ";")):
+            found[parts[1].lower()] = unquoted(parts[2])
     return found
+
+
+def unquoted(value):
+    if len(value) > 1 and value[0] == value[-1] and value[0] in "\"'":
+        return value[1:-1]
+    return value.strip("\"'")
 
 
 # The files that clubdesk or the office makes next to a club's file. The name of each such file is the name of the club's file with one of these
@@ -61,6 +71,7 @@ def settings(path):
 ENDINGS = (
     "-before",
     "-book",
+    "-mailed",
     "-metrics",
     "-new",
     "-office",
@@ -78,6 +89,11 @@ def is_beside(file, other):
     """Returns whether `other` is a path at which clubdesk or the office makes a file next to the club's file `file`."""
     ending = other.removeprefix(file) if other.startswith(file) else ""
     return ending in ENDINGS or ending.startswith("-until-")
+
+
+def configurations():
+    """Returns the folder of the clubs' configurations."""
+    return os.environ.get("OFFICE_CONF", "/etc/clubdesk")
 
 
 def clubs_of(folder):
@@ -100,7 +116,7 @@ def club_named(called, is_at_desk=False):
     word, at, year = called.partition("@")
     if not NAME.fullmatch(word) or at and not re.fullmatch("20[0-9]{2}", year):
         raise bad_value("no club name", word=called)
-    folder = os.environ.get("OFFICE_CONF", "/etc/clubdesk")
+    folder = configurations()
     try:
         found = settings(os.path.join(folder, word + ".conf"))
     except FileNotFoundError:
@@ -148,31 +164,6 @@ def old_file(file, year):
     if not whole and not part:
         raise refusal("no old year", year=year)
     return whole[0] if whole else part[-1]
-
-
-# The desk's side is the process that runs as the desk's user. It has this PATH, and keeps these environment variables.
-PATH = "/usr/local/sbin:/usr/local/bin:/usr/sbin:/usr/bin:/sbin:/bin"
-KEPT = (
-    "LANG",
-    "LC_ALL",
-    "LC_CTYPE",
-    "LOGNAME",
-    "OFFICE_CLERK",
-    "SUDO_USER",
-    "TERM",
-    "COLUMNS",
-    "USER",
-)
-
-
-def forget_environment():
-    """Clears the environment. So a clerk's variables can't choose a program or folder for the desk's side, even if sudo passes the variables on."""
-    for each in set(os.environ) - set(KEPT):
-        del os.environ[each]
-    os.environ["PATH"] = PATH
-    os.environ["HOME"] = pwd.getpwuid(
-        os.geteuid()
-    ).pw_dir  # programs such as a mailer read their configuration there
 
 
 def program(variable, called):

@@ -11,14 +11,16 @@ import subprocess
 import sys
 
 from club_office import by_commands, lists, outputs, people, phoning, plans
+from club_office.begin import KEPT, begin
 from club_office.book import Turn, give_order
 from club_office.closures import reason
 from club_office.clubs import (
     club_named,
+    clubs_of,
+    configurations,
     clubdesk,
     desk_user,
     ended_by_itself,
-    forget_environment,
     now_of,
     program,
     show,
@@ -26,7 +28,15 @@ from club_office.clubs import (
 )
 from club_office.copies import clear_left, scratch, snapshot
 from club_office.corrections import correct
-from club_office.counter import ask_person, desk_line, make_pass, read_book, show_book, write_report
+from club_office.counter import (
+    ask_person,
+    desk_line,
+    make_pass,
+    read_book,
+    remove_given_up,
+    show_book,
+    write_report,
+)
 from club_office.faults import OUTPUT, STORAGE, USAGE, Fault, bad_value, fault, refusal
 from club_office.asking import is_terminal
 from club_office.importing import (
@@ -37,17 +47,20 @@ from club_office.importing import (
     refuse_spare_files,
 )
 from club_office.letters import letters
+from club_office.mailing import mail_letters
 from club_office.menu import menu
 from club_office.passes import list_old_passes
 from club_office.reading import read_hours
 from club_office.restoring import list_copies, restore
 from club_office.season import credit_all
+from club_office.spares import PASSES
 from club_office.texts import say, usage
 from club_office.typed import Reader, confirms_odd, names_of, print_names, read_words
 from club_office.undoing import is_by_command, plan_undo, plan_undo_by_command
 from club_office.values import (
     MOST_CREDIT,
     MOST_NUMBER,
+    NAME,
     copy_name,
     day,
     days,
@@ -381,7 +394,16 @@ COMMANDS = {
     ),
     "record": Command(
         LIST,
-        [word("KEY", type=name)],
+        [
+            word("KEY", type=name),
+            (
+                "--link",
+                {
+                    "action": "store_true",
+                    "help": "print a link that opens the page with the bookings, but without the pass",
+                },
+            ),
+        ],
         "print a key's bookings in the form that the member's page can import",
         outputs.print_record,
     ),
@@ -403,6 +425,14 @@ COMMANDS = {
                 {
                     "action": "store_true",
                     "help": "book even if the office has already booked the slot for the member",
+                },
+            ),
+            (
+                "--price",
+                {
+                    "metavar": "PRICE",
+                    "type": number(0, 9999),
+                    "help": "book only if one place costs this number of points for one hour",
                 },
             ),
         ],
@@ -451,8 +481,22 @@ COMMANDS = {
                 "--to",
                 {
                     "metavar": "FILE",
-                    "default": "letters.html",
-                    "help": "the file to write; the default is letters.html",
+                    "help": "the file to write; the default is letters.html, or the next free name",
+                },
+            ),
+            (
+                "--mail",
+                {
+                    "action": "store_true",
+                    "help": "mail the passes to members whose addresses are known, and write sheets for the others",
+                },
+            ),
+            YES,
+            (
+                "--duplex",
+                {
+                    "action": "store_true",
+                    "help": "leave the back of each sheet empty, for a printer that prints on both sides",
                 },
             ),
         ],
@@ -469,7 +513,10 @@ COMMANDS = {
             ),
             (
                 "--to",
-                {"metavar": "FILE", "help": "the file to write; the default is report-YEAR.html"},
+                {
+                    "metavar": "FILE",
+                    "help": "the file to write; the default is report-YEAR.html, or the next free name",
+                },
             ),
         ],
         "write the board's page, which compares use, points and members of a year with the year before",
@@ -538,6 +585,7 @@ COMMANDS = {
     "names": Command(LIST, [], "", print_names),
     "import-state": Command(LIST, [], "", import_state),
     "old-passes": Command(DESK, [], "", list_old_passes),
+    "mail-letters": Command(DESK, [], "", mail_letters),
     "print-report": Command(
         DESK,
         [
@@ -596,7 +644,6 @@ def plain_words(words, command):
 
 def at_desk(given):
     """The desk's side: carries out a command as the file's owner."""
-    os.umask(0o077)
     words = words_of(given, True)
     words.given = [w for w in words.given if w != "--yes"]
     club = club_named(words.club, True)
@@ -614,7 +661,7 @@ def at_desk(given):
     if command.kind == LOOK:
         return look(club, words, command)
     if command.kind == LIST:
-        words.people = people.read_people(club)
+        words.people, words.site = people.read_people(club), club.site
         with snapshot(club) as db:
             command.does(db, words, now_of(words))
         return 0
@@ -714,6 +761,8 @@ def at_counter(given):
     """The clerk's side: parses the typed words, and reads and writes the clerk's own files. Passes all other work to the desk's side."""
     if given == ["help"]:
         given = ["--help"]
+    if not given and is_terminal():
+        given = only_club()
     if len(given) == 1 and not given[0].startswith("-") and is_terminal():
         return menu(club_named(given[0]), names_of)
     if len(given) > 1 and given[1] in COMMANDS and not {"-h", "--help"} & set(given):
@@ -731,10 +780,32 @@ def at_counter(given):
     each = each_hour(given, words)
     if len(each) > 1:
         return carry_out_each(club, each)
+    keys = keys_given_up(club, words)
     status = carry_out(club, given)
     if status == 0 and words.command == "add-member":
         make_spares(club, words.name, words.quota)
+    if status == 0:
+        remove_given_up(keys)
     return status
+
+
+def keys_given_up(club, words):
+    """Returns the keys that a command revokes, if the clerk has a folder with passes."""
+    if words.command == "revoke-key":
+        return [words.key] if NAME.fullmatch(words.key) else []
+    if words.command != "leave" or not os.path.isdir(PASSES):
+        return []
+    return [it for it, key in names_of(club).keys.items() if key.member == words.member]
+
+
+def only_club():
+    """Returns the words that open the menu of the machine's only club. If there are several clubs, prints their names and ends the command."""
+    found = [name for name, file in clubs_of(configurations()) if file]
+    if len(found) == 1:
+        return found
+    if not found:
+        raise refusal("no club at all", path=configurations())
+    raise refusal("several clubs", clubs=", ".join(found))
 
 
 def each_hour(given, words):
@@ -790,12 +861,9 @@ def read_at_counter(given):
 
 def main():
     given = sys.argv[1:]
+    begin(kept=KEPT if given[:1] == ["--desk"] else None)
     try:
-        # If a printed word isn't UTF-8, its invalid bytes appear as numbers.
-        sys.stdout.reconfigure(errors="backslashreplace")
         refuse_too_much(given)
-        if given[:1] == ["--desk"]:
-            forget_environment()
         return at_desk(given[1:]) if given[:1] in (["--desk"], ["--own"]) else at_counter(given)
     except Fault as failure:
         print(failure, file=sys.stderr)

@@ -2,6 +2,7 @@
 
 import contextlib
 import heapq
+import itertools
 import json
 import os
 import secrets
@@ -13,7 +14,8 @@ import time
 import urllib.parse
 
 from club_office.asking import Back, ask
-from club_office.book import book_of, clerk, is_in_journal, printable
+from club_office.begin import printable
+from club_office.book import book_of, clerk, is_in_journal
 from club_office.clubs import SELF, desk_user, ended_by_itself, program, show
 from club_office.copies import is_named, name_new, synced
 from club_office.faults import OUTPUT, USAGE, fault, refusal
@@ -101,13 +103,26 @@ def make_pass(club, words):
 def lost_files(words):
     """For lost-pass, returns the files that contain the lost pass. Checks the file of --to, and the file where the command `letters` looks for the
     pass. For other commands, returns no files."""
-    found = []
-    for path in (words.to, os.path.join(PASSES, words.key)) if words.command == "lost-pass" else ():
-        with contextlib.suppress(OSError, ValueError, TypeError), open(
-            path, encoding="ascii"
-        ) as file:
-            found += [path] if key_of(file.read(9_000).strip()) == words.key else []
-    return found
+    if words.command != "lost-pass":
+        return []
+    return [it for it in (words.to, os.path.join(PASSES, words.key)) if is_pass_of(it, words.key)]
+
+
+def is_pass_of(path, key):
+    """Returns whether a file has a pass of the key."""
+    with contextlib.suppress(OSError, ValueError, TypeError), open(path, encoding="ascii") as file:
+        return key_of(file.read(9_000).strip()) == key
+    return False
+
+
+def remove_given_up(keys):
+    """Removes the passes of keys that are revoked, so that no letter uses them. Prints the path of each file."""
+    for key in keys:
+        path = os.path.join(PASSES, key)
+        if is_pass_of(path, key):
+            with contextlib.suppress(FileNotFoundError):
+                os.unlink(path)
+            print(say("given up removed", path=path), file=sys.stderr)
 
 
 def remove_lost(words, paths):
@@ -174,7 +189,7 @@ def ask_person(club, words):
 def write_report(club, words):
     """Writes the board's page to a new file of the clerk, and also as PDF if the machine has a browser."""
     place = words.to or f"report-{words.year or time.strftime('%Y')}.html"
-    if os.path.lexists(place):
+    if words.to and os.path.lexists(place):
         raise refusal("file there", path=place)
     status, text = as_desk(
         club,
@@ -187,7 +202,7 @@ def write_report(club, words):
     if status:
         return status
     try:
-        write_new(place, text.decode())
+        place = write_free(place, text.decode())
     except OSError as failure:
         raise fault(OUTPUT, "cannot be written", path=place, fault=failure) from None
     printed = print_to_pdf(place)
@@ -221,7 +236,10 @@ def print_to_pdf(place):
                 check=False,
                 timeout=90,
             )
-        return made if os.path.exists(printed) and is_named(printed, made) else None
+        if not os.path.exists(printed):
+            return None
+        os.chmod(printed, 0o600)  # the page has members' names
+        return made if is_named(printed, made) else None
 
 
 # ---- Files of the clerk.
@@ -245,6 +263,28 @@ def write_new(path, text):
     if not is_named(written(path, text), path):
         raise FileExistsError(f"a file {path} was created in the meantime")
     synced(os.path.dirname(path) or ".")
+
+
+def write_free(path, text):
+    """Writes a complete new file under the first free name: letters.html, letters-2.html and so on. Returns the name."""
+    made = written(path, text)
+    try:
+        for free in free_names(path):
+            if is_named(made, free):
+                synced(os.path.dirname(path) or ".")
+                return free
+    finally:
+        with contextlib.suppress(FileNotFoundError):
+            os.unlink(made)
+    return None
+
+
+def free_names(path):
+    """Yields a path, and the paths with a number before the ending."""
+    stem, ending = os.path.splitext(path)
+    yield path
+    for number in itertools.count(2):
+        yield f"{stem}-{number}{ending}"
 
 
 def write_again(path, text):

@@ -6,23 +6,27 @@ import os
 import re
 import subprocess
 
+from club_office.asking import confirms
 from club_office.clubs import program
-from club_office.counter import as_desk, write_new
+from club_office.counter import as_desk, write_free
 from club_office.faults import OUTPUT, fault, refusal
+from club_office.mailing import BEFORE, MAILED
 from club_office.passes import key_of
 from club_office.spares import spare_keys
 from club_office.texts import language, say
 from club_office.values import NAME
 
+# A sheet fits on a page of A4 and of Letter, so the style names no paper.
 STYLE = """
-@page { size: A4; margin: 20mm; }
-body { margin: 0; color: #111; font: 12pt/1.5 system-ui, "DejaVu Sans", sans-serif; }
-section { break-after: page; break-inside: avoid; max-width: 40rem; margin: 2rem auto; padding: 0 1rem; }
-section:last-child { break-after: auto; }
-h1 { font-size: 1.75rem; line-height: 1.2; margin: 0 0 .5rem; } .to { font-size: 1.15rem; margin: 0 0 1.5rem; }
-svg { display: block; width: 60mm; height: 60mm; margin: 1rem 0; }
-.half { margin-top: 1.5rem; padding-top: 1rem; border-top: 2px dashed #111; break-inside: avoid; }
-.link { overflow-wrap: anywhere; font-size: .8rem; } .care { padding: .75rem 1rem; border: 2px solid #111; border-radius: .5rem; }
+@page { margin: 12mm; }
+body { margin: 0; color: #111; font: 10.5pt/1.4 system-ui, "DejaVu Sans", sans-serif; }
+section { break-after: page; break-inside: avoid; max-width: 46rem; margin: 0 auto; padding: 0 .5rem; }
+section:last-child { break-after: auto; } .back { height: 1px; }
+h1 { font-size: 1.6rem; line-height: 1.2; margin: 0 0 .25rem; } h2 { font-size: 1.2rem; margin: 0 0 .25rem; }
+p, ol { margin: .4rem 0; } .to { font-size: 1.15rem; margin: 0 0 .75rem; }
+.code { display: flex; gap: 5mm; align-items: flex-start; } svg { flex: none; width: 52mm; height: 52mm; }
+.half { margin-top: 1rem; padding-top: 1rem; border-top: 2px dashed #111; break-inside: avoid; }
+.link { overflow-wrap: anywhere; font-size: .7rem; } .care { padding: .5rem .75rem; border: 2px solid #111; border-radius: .5rem; }
 """
 
 
@@ -48,29 +52,37 @@ def code_of(link):
     return text[text.index("<svg") :]
 
 
+def linked(link):
+    """Returns a link's QR code with the link next to it."""
+    text = html.escape(link)
+    return f'<div class="code">{code_of(link)}<p class="link"><a href="{text}">{text}</a></p></div>'
+
+
 def half(club, spares):
     """Returns the half of a sheet that a member cuts off. The link on this half brings the spare passes for lending into the member's browser. The
     member opens the link once."""
     link = f"{club.site}/book.html#spare={';'.join(spares)}"
     return f"""<div class="half"><h2>{html.escape(say("letter lend title"))}</h2><p>{html.escape(say("letter lend"))}</p>
-{code_of(link)}
-<p class="link"><a href="{html.escape(link)}">{html.escape(link)}</a></p></div>
+{linked(link)}</div>
 """
 
 
 def sheet(club, name, key, text, spares):
-    link = f"{club.site}/book.html#{text}"
     steps = "".join(f"<li>{html.escape(say(f'letter step {it}'))}</li>" for it in (1, 2, 3))
+    contact = club.settings.get("contact", "")
+    reached = html.escape(say("letter contact", contact=contact)) if contact else ""
     return f"""<section><h1>{html.escape(say("letter title", club=club.title))}</h1>
 <p class="to">{html.escape(name)}</p>
 <p>{html.escape(say("letter first", key=key))}</p><ol>{steps}</ol>
-{code_of(link)}
-<p class="link"><a href="{html.escape(link)}">{html.escape(link)}</a></p>
-<p class="care">{html.escape(say("letter care"))}</p>{half(club, spares) if spares else ""}</section>
+{linked(f"{club.site}/book.html#{text}")}
+<p class="care">{html.escape(say("letter care"))} {reached}</p>{half(club, spares) if spares else ""}</section>
 """
 
 
-def passes_of(folder, keys):
+# ---- The passes for a letter. Each function adds the passes that it leaves out to `left`, with the reasons.
+
+
+def passes_of(folder, keys, left):
     """Returns the passes in a folder, or only the passes of some keys. Returns each pass together with its key."""
     if not keys:
         try:
@@ -87,21 +99,26 @@ def passes_of(folder, keys):
                 text = file.read(9_000).strip()
             if key_of(text) != key:
                 raise ValueError(say("pass of another", key=key_of(text)))
+            texts[key] = text
         except FileNotFoundError:
-            raise refusal("no pass file", path=path, key=key) from None
+            left[key] = refusal("no pass file", path=path, key=key)
         except (OSError, ValueError) as failure:
-            raise fault(OUTPUT, "in file", path=path, why=failure) from None
-        texts[key] = text
+            left[key] = fault(OUTPUT, "in file", path=path, why=failure)
     return texts
 
 
-def refuse_old(club, folder, texts):
-    """Refuses passes that are out of date because their keys have newer passes. The desk already refuses such a pass, or will refuse it soon."""
+def leave_out(club, names, folder, texts, left):
+    """Removes the passes that the desk refuses: passes of unknown or revoked keys, and passes that are out of date because their keys have newer
+    passes. The desk already refuses such a pass, or will refuse it soon."""
+    for key in [it for it in texts if it not in names.keys or names.keys[it].revoked]:
+        del texts[key]
+        left[key] = refusal("no such key", key=key)
     status, text = as_desk(club, ["old-passes"], json.dumps(texts).encode())
     if status:
         raise fault(status, "club unread")
     for key in json.loads(text):
-        raise refusal("old pass", path=os.path.join(folder, key), key=key)
+        del texts[key]
+        left[key] = refusal("old pass", path=os.path.join(folder, key), key=key)
 
 
 def spares_of(club, names, texts):
@@ -115,39 +132,74 @@ def spares_of(club, names, texts):
     return found
 
 
-def letters(club, words, names_of):
-    """Writes the sheets of all passes to one new file."""
-    if not re.fullmatch(r"https://[A-Za-z0-9.:/-]+", club.site):
-        raise refusal("no site", club=club.name)
-    if os.path.lexists(words.to):
-        raise refusal("file there", path=words.to)
-    program("QRENCODE", "qrencode")
-    texts = passes_of(words.passes, words.key)
-    names = names_of(club)
-    gone = [it for it in texts if it not in names.keys or names.keys[it].revoked]
-    if gone:
-        raise refusal("no such key", key=gone[0])
-    refuse_old(club, words.passes, texts)
+def sheets_of(club, names, texts):
+    """Returns the sheets of the passes, and the names of the members."""
     sheets, members, lent = [], {}, spares_of(club, names, texts)
     for key, text in texts.items():
         member = names.keys[key].member
-        name = names.written.get(member) or member
-        sheets.append(sheet(club, name, key, text, lent.pop(member, ())))
-        members[member] = name
+        members[member] = names.written.get(member) or member
+        sheets.append(sheet(club, members[member], key, text, lent.pop(member, ())))
     for member, spares in lent.items():
         members[member] = names.written.get(member) or member
         sheets.append(
             f'<section><p class="to">{html.escape(members[member])}</p>{half(club, spares)}</section>'
         )
-    page = f"""<!DOCTYPE html>
+    return sheets, members
+
+
+def page_of(club, sheets, is_duplex):
+    """Returns the page with the sheets. With `is_duplex`, an empty page after each sheet keeps the back of each sheet free."""
+    between = '<section class="back"></section>\n' if is_duplex else ""
+    return f"""<!DOCTYPE html>
 <html lang="{language()}"><head><meta charset="utf-8"><meta name="referrer" content="no-referrer">
 <meta http-equiv="Content-Security-Policy" content="default-src 'none'; style-src 'unsafe-inline'">
 <title>{html.escape(say("letter title", club=club.title))}</title><style>{STYLE}</style></head><body>
-{"".join(sheets)}</body></html>
+{between.join(sheets)}</body></html>
 """
+
+
+def mail_what_can_be(club, names, texts, is_confirmed):
+    """Mails the passes to the members whose addresses are known, after a question. Prints the result for each member. Returns the passes that weren't
+    mailed."""
+    members = {names.keys[it].member for it in texts}
+    if not is_confirmed and not confirms("shall mail", count=len(members)):
+        raise refusal("not confirmed")
+    status, text = as_desk(club, ["mail-letters"], json.dumps(texts).encode())
+    if status:
+        raise fault(status, "club unread")
+    results = json.loads(text)
+    for key, result in results.items():
+        member = names.keys[key].member
+        if key not in spare_keys(club, member):
+            print(say(f"letter {result}", name=names.written.get(member) or member, key=key))
+    return {it: texts[it] for it in texts if results.get(it) not in (MAILED, BEFORE)}
+
+
+def letters(club, words, names_of):
+    """Writes the sheets of all passes to one new file. Leaves out the passes that the desk refuses, and lists them at the end."""
+    if not re.fullmatch(r"https://[A-Za-z0-9.:/-]+", club.site):
+        raise refusal("no site", club=club.name)
+    if words.to and os.path.lexists(words.to):
+        raise refusal("file there", path=words.to)
+    program("QRENCODE", "qrencode")
+    left = {}
+    texts = passes_of(words.passes, words.key, left)
+    names = names_of(club)
+    leave_out(club, names, words.passes, texts, left)
+    if not texts:
+        raise next(iter(left.values()))
+    if words.mail:
+        texts = mail_what_can_be(club, names, texts, words.yes)
+    if not texts:
+        return 0
+    sheets, members = sheets_of(club, names, texts)
+    place = words.to or "letters.html"
     try:
-        write_new(words.to, page)
+        place = write_free(place, page_of(club, sheets, words.duplex))
     except OSError as failure:
-        raise fault(OUTPUT, "cannot be written", path=words.to, fault=failure) from None
-    print(say("letters made", count=len(sheets), members=len(members), file=words.to))
+        raise fault(OUTPUT, "cannot be written", path=place, fault=failure) from None
+    count = "one" if len(sheets) == 1 else "of one" if len(members) == 1 else "made"
+    print(say(f"letters {count}", count=len(sheets), members=len(members), file=place))
+    if left:
+        print(say("letters left"), *(f"    {why.why}" for why in left.values()), sep="\n")
     return 0

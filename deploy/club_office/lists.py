@@ -2,6 +2,7 @@
 
 import csv
 import re
+import shutil
 import sys
 
 from club_office.faults import refusal
@@ -16,11 +17,12 @@ def table(heads, rows, as_csv):
             [heads, *(map(unformed, row) for row in rows)]
         )
     else:
-        print(*aligned(heads, rows), sep="\n")
+        width = shutil.get_terminal_size((80, 24)).columns if sys.stdout.isatty() else None
+        print(*aligned(heads, rows, width), sep="\n")
 
 
-def aligned(heads, rows):
-    """Formats rows and column heads as lines. Numbers are right-aligned."""
+def aligned(heads, rows, width=None):
+    """Formats rows and column heads as lines. Numbers are right-aligned. With a width, shortens the longest texts until each line fits."""
     words = {"no", "yes", "none", "court", "boat", "room"}
     cells = [
         [head(it) for it in heads],
@@ -31,19 +33,39 @@ def aligned(heads, rows):
         bool(rows) and all(isinstance(row[column], int) for row in rows)
         for column in range(len(heads))
     ]
+    shortened(widths, right, width)
     return [
-        "  ".join(c.rjust(w) if r else c.ljust(w) for c, w, r in zip(row, widths, right)).rstrip()
+        "  ".join(
+            cut(c, w).rjust(w) if r else cut(c, w).ljust(w) for c, w, r in zip(row, widths, right)
+        ).rstrip()
         for row in cells
     ]
 
 
+LEAST_WIDTH = 6
+
+
+def shortened(widths, right, width):
+    """Shortens the widest columns with texts until the columns fit into a terminal of this width."""
+    while width and sum(widths) + 2 * (len(widths) - 1) > width:
+        texts = [it for it, is_number in enumerate(right) if not is_number]
+        widest = max(texts, key=lambda it: widths[it], default=None)
+        if widest is None or widths[widest] <= LEAST_WIDTH:
+            return
+        widths[widest] -= 1
+
+
+def cut(text, width):
+    return text if len(text) <= width else text[: width - 1] + "…"
+
+
+# A spreadsheet takes a text that begins with one of these characters for a formula. The last four are the full-width forms of the first four.
+FORMULAS = tuple("=+-@\t\r\n\uff1d\uff0b\uff0d\uff20")
+
+
 def unformed(cell):
     """Returns a cell in a form that no spreadsheet takes for a formula."""
-    return (
-        f"'{cell}"
-        if isinstance(cell, str) and cell[:1] in ("=", "+", "-", "@", "\t", "\r")
-        else cell
-    )
+    return f"'{cell}" if isinstance(cell, str) and cell[:1] in FORMULAS else cell
 
 
 def with_names(heads, rows, people, column):
@@ -133,6 +155,8 @@ def list_bookings(db, words, now):
     ]
     shown = len(heads) if words.all else 8
     table(*with_names(heads[:shown], [row[:shown] for row in rows], words.people, 3), words.csv)
+    if not rows and not words.csv:
+        print(say("no bookings"))
 
 
 def asked_of_bookings(db, what):

@@ -116,7 +116,13 @@ def rows_of(words):
                 columns = columns_of(path, heads, words.columns)
                 for what, value in (("quota", words.quota), ("points", words.points)):
                     if what not in columns and value is None:
-                        raise fault(BAD_VALUE, "no column", path=path, what=what)
+                        raise fault(
+                            BAD_VALUE,
+                            "no column",
+                            path=path,
+                            what=what,
+                            names=", ".join(HEADS[what][1:]),
+                        )
             elif any(it.strip() for it in cells):
                 rows.append(row_of(path, reader.line_num, heads, cells, columns, words))
     except csv.Error as failure:
@@ -131,6 +137,18 @@ def rows_of(words):
     )
 
 
+# A whole number, as spreadsheets write it: with a sign between thousands, or with zeros after a decimal sign.
+THOUSANDS = re.compile(r"[0-9]{1,3}(?:([.,'’ \u00a0\u202f])[0-9]{3})(?:\1[0-9]{3})*(?:[.,]0{1,2})?")
+WHOLE = re.compile(r"[0-9]+(?:[.,]0{1,2})?")
+
+
+def digits(text):
+    """Returns the digits of a whole number such as 5.000 or 5000,00. Returns any other text unchanged."""
+    if not THOUSANDS.fullmatch(text) and not WHOLE.fullmatch(text):
+        return text
+    return re.sub("[^0-9]", "", re.sub("[.,]0{1,2}$", "", text))
+
+
 def row_of(path, line, heads, cells, columns, words):
     try:
         if len(cells) != len(heads):
@@ -143,8 +161,12 @@ def row_of(path, line, heads, cells, columns, words):
         written = "".join(
             letter if letter.isprintable() else " " for letter in values["name"]
         ).strip()
-        quota = number(0, 99)(values["quota"]) if values.get("quota") else words.quota
-        points = number(0, MOST_CREDIT)(values["points"]) if values.get("points") else words.points
+        quota = number(0, 99)(digits(values["quota"])) if values.get("quota") else words.quota
+        points = (
+            number(0, MOST_CREDIT)(digits(values["points"]))
+            if values.get("points")
+            else words.points
+        )
         if quota is None or points is None:
             raise bad_value("no quota" if quota is None else "no points")
         return Row(

@@ -8,7 +8,6 @@ import csv
 import datetime
 import importlib
 import io
-import itertools
 import json
 import os
 import re
@@ -29,7 +28,7 @@ from club_office.asking import (
     until_read,
 )
 from club_office.clubs import SELF, ended_by_itself
-from club_office.counter import as_desk
+from club_office.counter import as_desk, free_names
 from club_office.member_list import lacking
 from club_office.reading import fitted, found as found_names, found_members, plain, read_hours
 from club_office.spares import PASSES, spare_keys
@@ -151,10 +150,11 @@ def letter_words(office, keys, stem):
     """Returns the command for a letter in a new file. Returns no command if the club has no site or the machine has no qrencode."""
     if not office.club.site or not shutil.which("qrencode"):
         return []
-    names = itertools.chain(
-        [f"{stem}.html"], (f"{stem}-{number}.html" for number in itertools.count(2))
-    )
-    return [["letters", *keys, "--to", next(it for it in names if not os.path.lexists(it))]]
+    return [["letters", *keys, "--to", free_name(f"{stem}.html")]]
+
+
+def free_name(path):
+    return next(it for it in free_names(path) if not os.path.lexists(it))
 
 
 def new_key_words(office):
@@ -171,23 +171,19 @@ def lost_words(office):
 
 
 def letters_words(_office):
-    return [["letters", "--to", f"letters-{datetime.date.today()}.html"]]
+    return [["letters", "--to", free_name(f"letters-{datetime.date.today()}.html")]]
 
 
 def book_words(office):
     member, facility, day = office.member(), office.facility(), office.day()
     begin, end = until_read(say("ask hour"), read_hours, say("no hours"))
-    guests = str(ask_number(say("ask guests"), 0, 49))
-    return [
-        [
-            "book",
-            member,
-            facility,
-            day,
-            str(begin) if end == begin + 1 else f"{begin}-{end}",
-            guests,
-        ]
-    ]
+    guests = ask_number(say("ask guests"), 0, 49)
+    price = office.names.facilities[facility].price
+    persons = say("persons", count=guests + 1) if guests else say("person")
+    points = price * (guests + 1) * (end - begin)
+    print("   " + say("costs", persons=persons, hours=end - begin, points=points))
+    hours = str(begin) if end == begin + 1 else f"{begin}-{end}"
+    return [["book", member, facility, day, hours, str(guests), "--price", str(price)]]
 
 
 def booking_of(office, member):
@@ -358,6 +354,8 @@ def with_points(command, most):
     return lambda office: [[command, office.member(), office.points(most)]]
 
 
+# The number of lines above and below the menu: an empty line, the heading, a hint and the prompt.
+LINES_AROUND = 4
 # The statuses of a command that Ctrl-C interrupted.
 BROKEN_OFF = (130, -signal.SIGINT)
 # The tasks, in a clerk's usual order. The last part of each entry is True if the menu asks before it runs the command. The menu asks if
@@ -433,6 +431,31 @@ def menu_lines():
     return [f"{one.ljust(width)}{other}".rstrip() for one, other in zip(left, right)]
 
 
+def is_small():
+    """Returns whether the terminal has too few lines for the whole menu, with the lines above and below it."""
+    return shutil.get_terminal_size((80, 24)).lines < len(menu_lines()) + LINES_AROUND
+
+
+def small_menu_lines():
+    """Returns a menu for a small terminal: today's tasks, and a line with the numbers of the tasks for each other group."""
+    numbers = {}
+    for number, task in enumerate(TASKS, 1):
+        numbers.setdefault(task.group, []).append(number)
+    lines = []
+    for group, its in numbers.items():
+        if group == TASKS[0].group:
+            lines += [say(group), *(f"{it:2} {say(TASKS[it - 1].called)}" for it in its), ""]
+        else:
+            lines.append(f"{f'{its[0]}-{its[-1]}':>5} {say(group)}")
+    return [*lines, say("small menu")]
+
+
+def tasks_of_group(answer):
+    """Returns the tasks of the group whose heading begins with the typed text."""
+    typed = plain(answer)
+    return [it for it in TASKS if typed and plain(say(it.group)).startswith(typed)]
+
+
 def tasks_named(answer):
     """Returns the task with the typed number, or the tasks whose title matches the typed text. The text may be the whole title, its beginning, one of
     its words, or any other part of the title."""
@@ -454,7 +477,8 @@ def tasks_named(answer):
 
 def task_named(answer):
     """Returns the task that the clerk means, or None. Lets the clerk choose if several tasks match."""
-    tasks = tasks_named(answer)
+    of_group = tasks_of_group(answer)
+    tasks = of_group if of_group and is_small() else tasks_named(answer) or of_group
     if len(tasks) < 2:
         return tasks[0] if tasks else None
     texts = {say(task.called): task for task in tasks}
@@ -498,7 +522,7 @@ def menu(club, names):
     while True:
         print(
             "\n" + say("menu", club=club.name, day=day_text(datetime.date.today())),
-            *menu_lines(),
+            *(small_menu_lines() if is_small() else menu_lines()),
             say("menu ends"),
             sep="\n",
         )

@@ -21,7 +21,7 @@ from club_office.places import (
     BESIDE,
     NAME,
     OLD_YEAR,
-    kept_in,
+    looked_up,
     place_of,
     refuse_own_disk,
     remove,
@@ -34,6 +34,8 @@ LOOKS, RESTS, RETRIES = 3, 15, 20
 TRIES = 5
 # The number of seconds between two notes that the service is still running.
 NOTES = 30
+# The number of seconds until the service looks again whether the place still has the newest copy.
+LOOKS_THERE = 3_600
 # The files next to the club, named by their suffixes.
 BESIDE_FILES = ("-people.csv", "-seasons", "-reasons", "-book")
 
@@ -169,52 +171,66 @@ def made_together(club):
     return data, beside
 
 
+def about(data):
+    """Returns the size and the digest of a file's bytes."""
+    return len(data), hashlib.sha256(data).hexdigest()
+
+
 def copy_now(club, place, state):
     """Copies the club and the files next to it, if the place doesn't have them. Returns messages about what it copied and removed. Stores the archive
-    at the place before the copy of the same name. So a copy always has its archive."""
+    at the place before the copy of the same name. So a copy always has its archive. Then looks up in the place's list whether the place has what was
+    sent."""
     refuse_own_disk(place, club.file)
     data, beside = made_together(club)
-    digest, beside_digest = (hashlib.sha256(it).hexdigest() for it in (data, beside))
+    (size, digest), archive = about(data), about(beside)
     is_new = digest != state.get("sum")
-    if not is_new and beside_digest == state.get("beside"):
-        return keep_in_order(club, place, None)
     moment = (
         time.strftime("%Y-%m-%dT%H%M%SZ", time.gmtime())
         if is_new
         else state["copied"].split(" ")[1]
     )
-    take(place, f"{moment}.tar", beside, beside_digest, "other")
-    said = [f"{moment}: the files next to the club"]
+    said, tested = [], state.get("copied", "").split(" ")[-1]
+    if is_new or archive[1] != state.get("beside"):
+        take(place, f"{moment}.tar", beside, archive[1], "other")
+        said = [f"{moment}: the files next to the club"]
     if is_new:
         tested = take(place, moment, data, digest, "club")
-        state.update(copied=f"{int(time.time())} {moment} {tested}", sum=digest)
         said = [f"{moment}: {'tested there' if tested == 'whole' else 'compared there'}"]
-    state["beside"] = beside_digest
-    return said + keep_in_order(club, place, moment)
+    try:
+        there = looked_up(place, {moment: (size, digest), f"{moment}.tar": archive})
+    except Fault:  # the next try sends the files again
+        state.pop("sum", None)
+        raise
+    if is_new:
+        state.update(copied=f"{int(time.time())} {moment} {tested}", sum=digest)
+    state["beside"] = archive[1]
+    return said + keep_in_order(club, place, moment if said else None, there)
 
 
-def keep_in_order(club, place, newest):
-    """Sends the files of old years that the place doesn't have. Removes copies that are too old, and all archives except the newest."""
+def keep_in_order(club, place, newest, there):
+    """Sends the files of old years that the place doesn't have. If there is a new archive, removes copies that are too old, and all archives except
+    the newest."""
     years = {
         path[len(club.file) + 1 :]: path for path in glob.glob(glob.escape(club.file) + "-until-*")
     }
     years = {name: path for name, path in sorted(years.items()) if OLD_YEAR.fullmatch(name)}
-    if newest is None and not years:
-        return []
-    said, names = [], {it.name: it.size for it in kept_in(place)}
+    said, sizes = [], {it.name: it.size for it in there}
     for name, path in years.items():
-        if names.get(name) != os.path.getsize(path):
+        if sizes.get(name) != os.path.getsize(path):
             with open(path, "rb") as file:
                 data = file.read()
-            take(place, name, data, hashlib.sha256(data).hexdigest(), "club")
+            take(place, name, data, about(data)[1], "club")
+            looked_up(place, {name: about(data)})
             said.append(name)
+    if newest is None and not said:
+        return []
     old = too_old(
-        [it for it in names if NAME.fullmatch(it)], time.strftime("%Y-%m-%d", time.gmtime())
+        [it for it in sizes if NAME.fullmatch(it)], time.strftime("%Y-%m-%d", time.gmtime())
     )
     said += [f"removed {it}" for it in old]
     remove(
         place,
-        [*old, *(it for it in names if newest and BESIDE.fullmatch(it) and it != f"{newest}.tar")],
+        [*old, *(it for it in sizes if newest and BESIDE.fullmatch(it) and it != f"{newest}.tar")],
     )
     return said
 
@@ -228,7 +244,8 @@ def look(club, state, is_first):
         + signature([club.file, club.file + "-wal", *beside_paths(club).values()])
         + f" {','.join(clerks())}"
     )
-    if state.get("of") == seen and "failing" not in state:
+    is_due = time.time() - int(state.get("looked", "0")) >= LOOKS_THERE
+    if state.get("of") == seen and "failing" not in state and not is_due:
         return True
     if state.get("of", "").split(" ")[0] != where:
         state.pop("sum", None)
@@ -244,7 +261,7 @@ def look(club, state, is_first):
         return False
     if state.pop("failing", None):
         print(f"{where} accepts copies again", flush=True)
-    state["of"] = seen
+    state.update(of=seen, looked=str(int(time.time())))
     for it in said:
         print(f"{where}: {it}", flush=True)
     return True

@@ -22,9 +22,17 @@ RECORD = """
 
 
 def print_record(db, words, _now):
-    """Prints a key's bookings in the form that the page accepts under "Bring a list here"."""
+    """Prints a key's bookings in the form that the page accepts under "Bring a list here". With --link, prints a link that opens the page with the
+    bookings, but without the pass."""
     wants_row(db, "keys", words.key)
-    print(f"record of {words.key}", *(row[0] for row in db.execute(RECORD, [words.key])), sep="\n")
+    lines = [row[0] for row in db.execute(RECORD, [words.key])]
+    if not words.link:
+        print(f"record of {words.key}", *lines, sep="\n")
+        return
+    if not words.site:
+        raise refusal("no site", club=words.club)
+    text = ";".join([words.key, *lines]).replace(" ", "+")
+    print(f"{words.site}/book.html#record={text}")
 
 
 def make_page(club, _words):

@@ -86,15 +86,19 @@ PICTURES = {".svg": "svg+xml", ".png": "png", ".jpg": "jpeg", ".jpeg": "jpeg", "
 
 def more_of(given):
     """Returns contact, imprint, privacy page and logo from the settings. The logo's setting is the path of a file."""
-    found = {it: given[it] for it in MORE if given.get(it)}
-    for it, value in found.items():
-        if not value.isprintable() or len(value.encode("utf-16-le")) > 2 * MOST_SENTENCE:
-            raise refusal("setting unprinted", what=it.upper(), most=MOST_SENTENCE)
-        if it != "contact" and not re.fullmatch(r"https://[^\s\"'<>\\]+", value):
-            raise refusal("no address", what=it.upper())
+    found = {it: setting_of(it, given[it]) for it in MORE if given.get(it)}
     if given.get("logo"):
         found["logo"] = logo_of(given["logo"])
     return found
+
+
+def setting_of(what, value):
+    """Returns the value of a setting that the page shows, or refuses it."""
+    if not value.isprintable() or len(value.encode("utf-16-le")) > 2 * MOST_SENTENCE:
+        raise refusal("setting unprinted", what=what.upper(), most=MOST_SENTENCE)
+    if what != "contact" and not re.fullmatch(r"https://[^\s\"'<>\\]+", value):
+        raise refusal("no address", what=what.upper())
+    return value
 
 
 def logo_of(path):

@@ -5,22 +5,24 @@ import collections
 import contextlib
 import csv
 import datetime
+import io
 import json
 import os
 import re
-import subprocess
 import sys
 
 from club_office.book import Turn
-from club_office.clubs import back_up_program, wants_file
+from club_office.clubs import wants_file
 from club_office.copies import snapshot, synced
 from club_office.faults import bad_value
-from club_office.lists import wants_row
+from club_office.lists import unformed, wants_row
+from club_office.mailer import sent
 from club_office.texts import day_text, say
 from club_office.values import date_of
 
 Person = collections.namedtuple("Person", "name mail telephone")
 NOBODY = Person("", "", "")
+HEADS = ["member", *Person._fields]
 MOST_LETTERS = 100
 
 
@@ -35,11 +37,35 @@ def read_people(club):
     ) as file:
         rows = csv.DictReader(file)
         return {
-            row["member"]: Person(*(row.get(it) or "" for it in Person._fields))
+            row["member"]: Person(*(text_of_cell(row.get(it) or "") for it in Person._fields))
             for row in rows
             if row.get("member")
         }
     return {}
+
+
+def cell_of(text):
+    """Returns a cell that no spreadsheet takes for a formula. An apostrophe precedes a text that would be a formula, or such a cell."""
+    return f"'{text}" if unformed(text.lstrip("'")) != text.lstrip("'") else text
+
+
+def text_of_cell(cell):
+    """Returns the text of a cell that `cell_of` made, or of a cell without an apostrophe."""
+    return cell[1:] if cell[:1] == "'" and cell_of(cell[1:]) == cell else cell
+
+
+def person_of_row(row):
+    """Returns the person of a row, or raises a fault if a cell has another form."""
+    return person_of({it: text_of_cell(row.get(it) or "") for it in Person._fields})
+
+
+def rows_text(people):
+    """Returns the persons by the names of the members, in the form of the file."""
+    made = io.StringIO(newline="")
+    rows = csv.writer(made, lineterminator="\n")
+    rows.writerow(HEADS)
+    rows.writerows([member, *map(cell_of, person)] for member, person in sorted(people.items()))
+    return made.getvalue()
 
 
 def write_people(club, people):
@@ -50,9 +76,7 @@ def write_people(club, people):
         encoding="utf-8",
         newline="",
     ) as file:
-        rows = csv.writer(file, lineterminator="\n")
-        rows.writerow(["member", *Person._fields])
-        rows.writerows([member, *person] for member, person in sorted(people.items()))
+        file.write(rows_text(people))
         file.flush()
         os.fsync(file.fileno())
     os.rename(made, people_of(club))
@@ -172,7 +196,6 @@ def mail_concerned(club, bookings, record):
     people, of_member = read_people(club), collections.defaultdict(list)
     for it in bookings:
         of_member[it.member].append(it)
-    mailer = os.path.join(os.path.dirname(back_up_program()), "send_mail")
     for member, its in of_member.items():
         if member in record.content["mailed"]:
             continue
@@ -181,10 +204,7 @@ def mail_concerned(club, bookings, record):
             print(say("no mail", name=person.name or member))
             continue
         subject, text = mail_of(club, person.name or member, its)
-        done = subprocess.run(
-            [mailer, person.mail, subject], input=text, text=True, capture_output=True, check=False
-        )
-        is_sent = done.returncode == 0 and not done.stderr
+        is_sent = sent(person.mail, subject, text)
         if is_sent:
             record.note_mail(member)
         print(say("mailed" if is_sent else "not mailed", name=person.name or member))

@@ -2,55 +2,27 @@
 side makes the passes for these requests from a key's root, and shows the passes to nobody. The desk decides about each request, and applies its rules
 for refunds."""
 
+import collections
 import contextlib
-import http.client
 import json
 import secrets
 import sys
-import time
 
 from club_office.book import Turn
 from club_office.clubs import clubdesk, wants_file
 from club_office.copies import snapshot
+from club_office.desk_requests import Slot, asked, narrowed, path_of, refuse_failed
 from club_office.faults import fault, refusal, storage_failed
 from club_office.lists import wants_row
-from club_office.passes import pass_of
 from club_office.plans import slot_text
-from club_office.texts import in_language, say
+from club_office.texts import say
 from club_office.values import date_of
 
-# The number of seconds that the office waits for the desk's reply, and the number of tries.
-PATIENCE = 15
-TRIES = 5
 OFFICE_KEY = "-office"
-
-
-def asked(club, method, path, text, body=None):
-    """Returns the status and body of the desk's reply. Retries if the desk is restarting. The desk never carries out the same request twice."""
-    failed = None
-    for _ in range(TRIES):
-        client = http.client.HTTPConnection("127.0.0.1", club.port, timeout=PATIENCE)
-        try:
-            client.request(method, path, body, {"Authorization": f"Bearer {text}"})
-            reply = client.getresponse()
-            found = reply.status, json.loads(reply.read(100_000))
-            if found[0] < 500:
-                return found
-            failed = found[1].get("text")
-        except (OSError, http.client.HTTPException, ValueError) as failure:
-            failed = failure
-        finally:
-            client.close()
-        time.sleep(0.5)
-    raise storage_failed("desk silent", port=club.port, fault=failed)
-
-
-def answer(found):
-    """Returns the body of a reply with status 200. For any other status, raises a refusal with the reply's text."""
-    status, body = found
-    if status != 200:
-        raise refusal("desk says", text=in_language(body.get("text")))
-    return body
+# The greatest number of points in a caveat on points.
+MOST_SPENT = 999_999_999
+# The values of a facility that a booking depends on. A clerk may see these values before the booking.
+Offer = collections.namedtuple("Offer", "price places opens shuts")
 
 
 def office_key(db, member):
@@ -80,15 +52,11 @@ def make_key(club, turn, member, facility):
     return name
 
 
-def path_of(words, hour, number=None):
-    path = f"/slots/{words.facility}/{date_of(words.day)}/{hour:02d}"
-    return path if number is None else f"{path}/bookings/{number}"
-
-
 def book(club, words):
     """Books a slot for a member in each of the command's hours. Without --again, skips slots that the office has already booked for the member."""
     wants_file(club)
     with said_at_the_end() as lines, Turn(club) as turn:
+        offer = offered(club, turn, words)
         key = make_key(club, turn, words.member, words.facility)
         there = [] if words.again else booked_by(club, words, key)
         if len(there) == len(range(*words.hour)):
@@ -108,9 +76,35 @@ def book(club, words):
             words,
             left,
             lines,
-            lambda hour: put(club, words, hour, key, lines),
+            lambda hour: put(club, words, Slot(words.facility, words.day, hour), key, offer, lines),
             "booked in all",
         )
+
+
+def offer_of(db, facility):
+    wants_row(db, "facilities", facility)
+    return Offer(
+        *db.execute(
+            "SELECT price, places, opens, shuts FROM facilities WHERE name = ?", [facility]
+        ).fetchone()
+    )
+
+
+def offered(club, turn, words):
+    """Returns the facility's offer when the command begins. Refuses the command if the price isn't the price that the clerk saw."""
+    with snapshot(club) as db:
+        offer = offer_of(db, words.facility)
+    if words.price not in (None, offer.price):
+
+        def act():
+            raise other_offer(words.facility, offer)
+
+        turn.order(words.given, act)
+    return offer
+
+
+def other_offer(facility, offer):
+    return refusal("other offer", facility=facility, **offer._asdict())
 
 
 def booked_by(club, words, key):
@@ -175,40 +169,64 @@ def order_of(words, hour):
             *line,
             *([str(words.guests)] if words.guests is not None else []),
             *(["--again"] if words.again else []),
+            *([f"--price={words.price}"] if words.price is not None else []),
         ]
     return [*line, *([f"--number={words.number}"] if words.number else [])]
 
 
-def put(club, words, hour, key, lines):
-    """Books one hour, and returns its charge."""
+def put(club, words, slot, key, offer, lines):
+    """Books one hour, and returns its charge. The pass of the request allows no more points than the offer costs. So if the price rises in the
+    meantime, the desk books nothing."""
+    persons = (words.guests or 0) + 1
     with snapshot(club) as db:
         (root,) = db.execute("SELECT root FROM keys WHERE name = ?", [key]).fetchone()
         (number,) = db.execute(
             "SELECT coalesce(max(number), 0) + 1 FROM bookings WHERE pass_key = ? AND number < 900000000",
             [key],
         ).fetchone()
-    reply = answer(
-        asked(
-            club,
-            "PUT",
-            path_of(words, hour, number),
-            pass_of(key, root, "actions = book"),
-            json.dumps({"guests": words.guests or 0}),
-        )
+        (spent,) = db.execute(
+            "SELECT coalesce(sum(charge - refund), 0) FROM bookings WHERE pass_key = ?", [key]
+        ).fetchone()
+    text = narrowed(
+        key,
+        root,
+        "book",
+        slot,
+        f"guests <= {persons - 1}",
+        f"spend <= {min(spent + offer.price * persons, MOST_SPENT)}",
     )
-    slot = slot_text(words.facility, words.day, hour)
-    persons = say("persons", count=words.guests + 1) if words.guests else say("person")
+    found = asked(club, "PUT", path_of(slot, number), text, json.dumps({"guests": persons - 1}))
+    with snapshot(club) as db:
+        charge = charge_of(db, key, number, slot)
+        now = offer_of(db, slot.facility)
+    if charge is None and now != offer:
+        raise other_offer(slot.facility, now)
+    refuse_failed(found)
+    if charge is None:
+        raise storage_failed("reply untrue", slot=slot_text(*slot))
     lines.append(
         say(
             "booked",
-            slot=slot,
+            slot=slot_text(*slot),
             member=words.member,
-            persons=persons,
-            points=reply["charge"],
+            persons=say("persons", count=persons) if persons > 1 else say("person"),
+            points=charge,
             booking=f"{key} {number}",
         )
     )
-    return reply["charge"]
+    return charge
+
+
+def charge_of(db, key, number, slot):
+    """Returns the charge of a booking in the club's file, or None if the file doesn't have the booking."""
+    return next(
+        db.execute(
+            """SELECT charge FROM bookings
+               WHERE pass_key = ? AND number = ? AND facility = ? AND day = ? AND hour = ? AND cancelled = 0""",
+            [key, number, *slot],
+        ),
+        (None,),
+    )[0]
 
 
 def cancel_for(club, words):
@@ -221,50 +239,65 @@ def cancel_for(club, words):
             words,
             list(range(*words.hour)),
             lines,
-            lambda hour: delete(club, words, hour, lines),
+            lambda hour: delete(club, words, Slot(words.facility, words.day, hour), lines),
             "called off in all",
         )
 
 
-def delete(club, words, hour, lines):
+def delete(club, words, slot, lines):
     """Cancels the booking of one hour, and returns its refund."""
-    slot = slot_text(words.facility, words.day, hour)
     with snapshot(club) as db:
-        wants_row(db, "members", words.member)
-        wants_row(db, "facilities", words.facility)
-        found = db.execute(
-            """SELECT pass_key, number, root, revoked FROM bookings JOIN keys ON keys.name = pass_key
-               WHERE member = ? AND facility = ? AND day = ? AND hour = ? AND cancelled = 0 ORDER BY pass_key, number""",
-            [words.member, words.facility, words.day, hour],
-        ).fetchall()
+        key, number, root = booking_to_cancel(db, club, words, slot)
+    text = narrowed(key, root, "cancel", slot)
+    found = asked(club, "DELETE", path_of(slot, number), text)
+    refuse_failed(found)
+    with snapshot(club) as db:
+        (refund, cancelled) = db.execute(
+            "SELECT refund, cancelled FROM bookings WHERE pass_key = ? AND number = ?",
+            [key, number],
+        ).fetchone()
+    if not cancelled:
+        raise storage_failed("reply untrue", slot=slot_text(*slot))
+    lines.append(
+        say(
+            "called off",
+            slot=slot_text(*slot),
+            member=words.member,
+            points=refund,
+            booking=f"{key} {number}",
+        )
+    )
+    return refund
+
+
+def booking_to_cancel(db, club, words, slot):
+    """Returns the key, the number and the key's root of the member's only booking in a slot, or of the booking that the clerk chose."""
+    wants_row(db, "members", words.member)
+    wants_row(db, "facilities", words.facility)
+    found = db.execute(
+        """SELECT pass_key, number, root, revoked FROM bookings JOIN keys ON keys.name = pass_key
+           WHERE member = ? AND facility = ? AND day = ? AND hour = ? AND cancelled = 0 ORDER BY pass_key, number""",
+        [words.member, *slot],
+    ).fetchall()
     if not found:
-        raise refusal("no booking of", member=words.member, slot=slot)
+        raise refusal("no booking of", member=words.member, slot=slot_text(*slot))
     if words.number:
         found = [it for it in found if it[1] == words.number]
         if not found:
             raise refusal(
-                "no booking numbered", member=words.member, number=words.number, slot=slot
+                "no booking numbered",
+                member=words.member,
+                number=words.number,
+                slot=slot_text(*slot),
             )
     if len(found) > 1:
         raise refusal(
             "several bookings",
             member=words.member,
-            slot=slot,
+            slot=slot_text(*slot),
             bookings=", ".join(f"{it[0]} {it[1]}" for it in found),
         )
     key, number, root, revoked = found[0]
     if revoked:
         raise refusal("key revoked", key=key, club=club.name, number=number)
-    reply = answer(
-        asked(club, "DELETE", path_of(words, hour, number), pass_of(key, root, "actions = cancel"))
-    )
-    lines.append(
-        say(
-            "called off",
-            slot=slot,
-            member=words.member,
-            points=reply["refund"],
-            booking=f"{key} {number}",
-        )
-    )
-    return reply["refund"]
+    return key, number, root

@@ -3,13 +3,17 @@ can store and test a file at a place, list the files there, and fetch or remove 
 sqlite3 to test a copy."""
 
 import collections
+import hashlib
 import os
 import re
+import secrets
 import shlex
 import subprocess
 
+from club_office.begin import printable
+from club_office.bounded import run_bounded
 from club_office.clubs import program
-from club_office.faults import STORAGE, bad_value, fault
+from club_office.faults import STORAGE, bad_value, fault, storage_failed
 
 Place = collections.namedtuple("Place", "text host folder")
 # A file at the place: its size, its digest, and its test. The test is `whole` if SQLite tested the file, `sum` if only its digest was compared, or
@@ -30,8 +34,17 @@ OPTIONS = (
 # ssh asks for the password once, because later calls share the connection of the first call.
 ASKS = ("ControlMaster=auto", "ControlPersist=60", "ControlPath=~/.clubdesk-%C")
 
-# In each script, $1 is the folder. A file has a temporary name until it is complete and tested. TAKE adds the file's line to the list `tested` before
-# it gives the file its final name.
+# The greatest number of bytes of a list, of a file, and of the lines that a login prints before a script's output.
+MOST_LIST, MOST_FILE, MOST_BANNER = 2_000_000, 1_000_000_000, 100_000
+# The lines of a list: a file with its size, a file with the digest of its bytes, and a file's digest and test from the list `tested`.
+LINE = re.compile(
+    r"file (?P<size>[0-9]{1,15}) (?P<file>\S+)|sum (?P<sum>[0-9a-f]{64}) (?P<summed>\S+)"
+    r"|tested( (?P<tested>\S+) (?P<digest>[0-9a-f]{64}) (?P<how>whole|sum))?.*"
+)
+
+# In each script, $0 is a random word, and $1 is the folder. The script prints $0 before and after its own output. So lines of a login aren't taken
+# for output, and a shell that doesn't run the script is noticed. A file has a temporary name until it is complete and tested. TAKE adds the file's
+# line to the list `tested` before it gives the file its final name.
 TAKE = """set -eu
 umask 077
 [ "$5" = mounted ] || mkdir -p -- "$1"
@@ -53,32 +66,44 @@ sync "$new" 2>/dev/null || sync
 echo "$2 $3 $how" >>tested
 mv -f -- "$new" "$2"
 sync . 2>/dev/null || sync
-echo "$how"
+printf '%s\n' "$0" "$how" "$0"
 """
+# The arguments after the folder are the files whose digests LIST computes.
 LIST = """cd -- "$1" || exit 1
-for name in 2*Z 2*Z.tar until-*; do [ ! -f "$name" ] || stat -c '%s %n' -- "$name"; done
-echo --
-[ ! -f tested ] || cat tested
+shift
+printf '%s\n' "$0"
+for name in 2*Z 2*Z.tar until-*; do
+    case $name in *[!0-9A-Za-z.-]*) continue ;; esac
+    [ ! -f "$name" ] || stat -c 'file %s %n' -- "$name"
+done
+[ ! -f tested ] || sed 's/^/tested /' tested
+for name; do [ ! -f "$name" ] || echo "sum $(sha256sum <"$name" | cut -c 1-64) $name"; done
+printf '%s\n' "$0"
 """
-GIVE = 'cd -- "$1" && cat -- "$2"\n'
+GIVE = """cd -- "$1" && printf '%s\n' "$0" && cat -- "$2" && printf '%s\n' "$0"
+"""
 REMOVE = """set -eu
 umask 077
 cd -- "$1"
 shift
 for name; do rm -f -- "$name"; done
-[ -f tested ] || exit 0
-while read -r name rest; do [ ! -e "$name" ] || echo "$name $rest"; done <tested >.new.tested
-mv -f .new.tested tested
+if [ -f tested ]; then
+    while read -r name rest; do [ ! -e "$name" ] || echo "$name $rest"; done <tested >.new.tested
+    mv -f .new.tested tested
+fi
+printf '%s\n' "$0" "$0"
 """
 
 
 def place_of(text):
     """Parses the text of a place: HOST:FOLDER, or an absolute path."""
     host, _, folder = ("", "", text) if text.startswith("/") else text.partition(":")
+    if folder == "~" or folder.startswith("~/"):  # a folder without / begins in the home folder
+        folder = folder[2:] or "."
     if (
         not folder
         or not folder.isprintable()
-        or folder.startswith("-")
+        or folder.startswith(("-", "~"))
         or not text.startswith("/")
         and not re.fullmatch(r"[A-Za-z0-9_][A-Za-z0-9_.@-]*", host)
     ):
@@ -101,68 +126,94 @@ def refuse_own_disk(place, file):
             raise fault(STORAGE, "own disk", place=place.text)
 
 
-def run_there(place, script, *words, given=None, asks=False):
-    """Runs a script at the place. The script's arguments are the place's folder and `words`. Returns the script's output. If `asks` is true, ssh may
-    ask for a password at the terminal."""
-    line = ["sh", "-c", script, "sh", place.folder, *words]
-    if place.host:
-        line = [
-            program("SSH", "ssh"),
-            *(
-                it
-                for option in (*OPTIONS, *(ASKS if asks else ("BatchMode=yes",)))
-                for it in ("-o", option)
-            ),
-            place.host,
-            shlex.join(line),
-        ]
+def line_to(place, script, word, words, asks):
+    """Returns the command line that runs a script at the place."""
+    line = ["sh", "-c", script, word, place.folder, *words]
+    if not place.host:
+        return line
+    options = (*OPTIONS, *(ASKS if asks else ("BatchMode=yes",)))
+    asked = [it for option in options for it in ("-o", option)]
+    return [program("SSH", "ssh"), *asked, place.host, shlex.join(line)]
+
+
+def run_there(place, script, *words, given=None, asks=False, most=MOST_LIST):
+    """Runs a script at the place. The script's arguments are the place's folder and `words`. Returns the script's output, which has at most `most`
+    bytes. If `asks` is true, ssh may ask for a password at the terminal."""
+    word = secrets.token_hex(16)
     try:
-        done = subprocess.run(
-            line,
-            input=given,
-            stdin=subprocess.DEVNULL if given is None else None,
-            capture_output=True,
-            check=False,
-            timeout=MOST_SECONDS,
+        done = run_bounded(
+            line_to(place, script, word, words, asks), given, most + MOST_BANNER, MOST_SECONDS
         )
     except subprocess.TimeoutExpired:
         raise fault(STORAGE, "no answer there", place=place.text, seconds=MOST_SECONDS) from None
-    if done.returncode:
-        said = " ".join(done.stderr.decode(errors="replace").split())
+    if done.is_over:
+        raise fault(STORAGE, "too much there", place=place.text, most=most)
+    if done.status:
+        said = " ".join(done.said.decode(errors="replace").replace(word, "sh").split())
         raise fault(
-            STORAGE, "said there", place=place.text, said=said or f"status {done.returncode}"
+            STORAGE, "said there", place=place.text, said=printable(said) or f"status {done.status}"
         )
-    return done.stdout
+    mark = f"{word}\n".encode()
+    _, begun, rest = done.text.partition(mark)
+    text, ended, _ = rest.rpartition(mark)
+    if not begun or not ended:
+        raise fault(STORAGE, "script unrun there", place=place.text)
+    return text
+
+
+def odd_list(place, line):
+    return fault(STORAGE, "odd list there", place=place.text, line=printable(line[:80]))
 
 
 def take(place, name, data, digest, kind):
-    """Stores a file at the place. The file gets its final name when it is complete. Returns how the place tested the file."""
-    return (
-        run_there(place, TAKE, name, digest, kind, "there" if place.host else "mounted", given=data)
-        .decode()
-        .strip()
-    )
+    """Stores a file at the place. The file gets its final name when it is complete. Returns how the place says that it tested the file."""
+    where = "there" if place.host else "mounted"
+    how = run_there(place, TAKE, name, digest, kind, where, given=data).decode(errors="replace")
+    if how not in ("whole\n", "sum\n"):
+        raise odd_list(place, how)
+    return how.strip()
 
 
-def kept_in(place, asks=False):
-    """Returns the files of the place, the oldest file first."""
-    files, _, tested = run_there(place, LIST, asks=asks).decode(errors="replace").partition("--\n")
-    sums = {
-        words[0]: words[1:]
-        for words in (line.split() for line in tested.splitlines())
-        if len(words) == 3
-    }
+def kept_in(place, asks=False, summed=()):
+    """Returns the files of the place, the oldest file first. For the files of `summed`, the place computes the digests anew."""
+    sizes, tests, sums = {}, {}, {}
+    text = run_there(place, LIST, *summed, asks=asks).decode(errors="replace")
+    for line in text.split("\n")[:-1]:
+        it = LINE.fullmatch(line)
+        if not it:
+            raise odd_list(place, line)
+        if it["file"]:
+            sizes[it["file"]] = int(it["size"])
+        elif it["summed"]:
+            sums[it["summed"]] = it["sum"]
+        elif it["tested"]:
+            tests[it["tested"]] = (it["digest"], it["how"])
     found = []
-    for line in files.splitlines():
-        size, _, name = line.partition(" ")
+    for name, size in sizes.items():
         if any(it.fullmatch(name) for it in (NAME, BESIDE, OLD_YEAR)):
-            found.append(Kept(name, int(size), *sums.get(name, ("", "no"))))
+            digest, how = tests.get(name, ("", "no"))
+            found.append(Kept(name, size, sums.get(name, digest), how))
     return sorted(found)
 
 
-def given_by(place, name, asks=False):
-    """Returns the bytes of a file at the place."""
-    return run_there(place, GIVE, name, asks=asks)
+def looked_up(place, sent):
+    """Returns the files of the place. Raises a fault unless the place has each sent file, with the size and the digest of the sent bytes."""
+    found = kept_in(place, summed=tuple(sent))
+    there = {it.name: (it.size, it.sum) for it in found}
+    for name, about in sent.items():
+        if there.get(name) != about:
+            raise fault(STORAGE, "not there", place=place.text, name=name)
+    return found
+
+
+def given_by(place, it, asks=False):
+    """Returns the bytes of a file at the place. The bytes must have the listed size, and the listed digest if the place has noted it."""
+    if it.size > MOST_FILE:
+        raise fault(STORAGE, "too much there", place=place.text, most=MOST_FILE)
+    data = run_there(place, GIVE, it.name, asks=asks, most=it.size)
+    if len(data) != it.size or it.sum and hashlib.sha256(data).hexdigest() != it.sum:
+        raise storage_failed("not as sent", called=it.name, place=place.text)
+    return data
 
 
 def remove(place, names):

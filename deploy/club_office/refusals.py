@@ -53,6 +53,14 @@ REFUSALS = {
         "no club {word} is configured: there is no {path}",
         "kein Verein {word} ist eingerichtet: es gibt kein {path}",
     ),
+    "no club at all": (
+        "{path} configures no club: root sets up a club with clubdesk-setup",
+        "in {path} ist kein Verein eingerichtet: root richtet mit clubdesk-setup einen ein",
+    ),
+    "several clubs": (
+        "this machine has several clubs: give one of {clubs}, as in `office CLUB`",
+        "auf diesem Rechner gibt es mehrere Vereine: gib einen von {clubs} an, also `office VEREIN`",
+    ),
     "cannot be read": ("{path} can't be read: {fault}", "{path} lässt sich nicht lesen: {fault}"),
     "cannot be written": (
         "{path} can't be written: {fault}",
@@ -270,6 +278,22 @@ REFUSALS = {
         "{place}: keine Antwort in {seconds} Sekunden",
     ),
     "said there": ("{place}: {said}", "{place}: {said}"),
+    "script unrun there": (
+        "{place}: the place answers, but doesn't run the commands that store and list copies",
+        "{place}: der Ort antwortet, führt aber die Befehle zum Ablegen und Auflisten nicht aus",
+    ),
+    "odd list there": (
+        "{place}: the place's list has a line that isn't about a copy: {line}",
+        "{place}: die Liste des Orts hat eine Zeile, die keine Kopie nennt: {line}",
+    ),
+    "not there": (
+        "{place}: the place doesn't have {name} as it was sent there",
+        "{place}: der Ort hat {name} nicht so, wie es dorthin geschickt wurde",
+    ),
+    "too much there": (
+        "{place}: the place sends more than {most} bytes",
+        "{place}: der Ort schickt mehr als {most} Bytes",
+    ),
     "not asked": (
         "{fault}; the copies there aren't listed",
         "{fault}; die Kopien von dort fehlen hier",
@@ -282,7 +306,76 @@ REFUSALS = {
         "the club's file is damaged, and is kept next to the new one: {fault}",
         "die Datei des Vereins ist beschädigt und bleibt neben der neuen erhalten: {fault}",
     ),
-    # Restoring a lost club.
+    # The set-up, and restoring a lost club.
+    "no club title": (
+        "{text!r} is not a title: a title has at most {most} characters and no quotes",
+        "{text!r} ist kein Vereinsname: er hat höchstens {most} Zeichen und keine Anführungszeichen",
+    ),
+    "no domain": (
+        "{text!r} is not an address such as desk.example.org",
+        "{text!r} ist keine Adresse, etwa desk.example.org",
+    ),
+    "no user name": (
+        "{text!r} is not a user name such as anna",
+        "{text!r} ist kein Benutzername, etwa anna",
+    ),
+    "no mail address of": ("{text!r} is not a mail address", "{text!r} ist keine E-Mail-Adresse"),
+    "no person's account": (
+        "{user} is the name of a system's user or group, and can't be a clerk",
+        "{user} heißt ein Benutzer oder eine Gruppe des Systems und kann nicht im Büro arbeiten",
+    ),
+    "no answer": (
+        "no answer to the question for --{option}",
+        "keine Antwort auf die Frage nach --{option}",
+    ),
+    "no name for club": (
+        "{word!r} is not the name of a club; give a name with --club, such as tennis",
+        "{word!r} ist kein Name eines Vereins; gib mit --club einen Namen an, etwa tennis",
+    ),
+    "no short name": (
+        "{word!r} is not a short name: it has 1 to {most} characters from a-z, 0-9 and -, such as tennis",
+        "{word!r} ist kein kurzer Name: er hat 1 bis {most} Zeichen aus a-z, 0-9 und -, etwa tennis",
+    ),
+    "step failed": ("{line}: {said}", "{line}: {said}"),
+    "unfit setting": (
+        "{what}={value} can't be part of a proxy's configuration",
+        "{what}={value} kann nicht in der Einrichtung eines Proxys stehen",
+    ),
+    "old lines": (
+        "{count} lines of {path} differ from the package's example: with - the present lines, with + the package's",
+        "{count} Zeilen von {path} sind anders als im Beispiel des Pakets: mit - die jetzigen, mit + die des Pakets",
+    ),
+    "caddy refuses": ("caddy doesn't accept {path}: {said}", "caddy lehnt {path} ab: {said}"),
+    "files of one name": (
+        "the files of this club and of the club {club} at {path} would have the same names; give another name with --club",
+        "die Dateien dieses Vereins und die des Vereins {club} bei {path} hätten dieselben Namen; gib mit --club einen anderen Namen an",
+    ),
+    "no port free": (
+        "no port is free from {first} to {last}",
+        "kein Port von {first} bis {last} ist frei",
+    ),
+    "special setting": (
+        'the value has one of the characters " \\ $ `',
+        'der Wert hat eines der Zeichen " \\ $ `',
+    ),
+    "setting unknown": (
+        "{what}={value} isn't written, because a configuration that comes from a place of copies can't set it",
+        "{what}={value} wird nicht geschrieben, denn eine Einrichtung von einem Ort der Kopien kann das nicht bestimmen",
+    ),
+    "setting left": (
+        "{what}={value} isn't written: {why}",
+        "{what}={value} wird nicht geschrieben: {why}",
+    ),
+    "configuration anew": (
+        "# A club of this machine. clubdesk-setup wrote this file anew, from the copies at {place}.",
+        "# Ein Verein auf diesem Rechner. clubdesk-setup hat diese Datei neu geschrieben, nach den Kopien von {place}.",
+    ),
+    "lines left": (
+        "{count} lines of {file} aren't written, because they have another form",
+        "{count} Zeilen von {file} werden nicht geschrieben, denn sie haben eine andere Form",
+    ),
+    "file left": ("{file} isn't written: {why}", "{file} wird nicht geschrieben: {why}"),
+    "other form": ("it has another form", "die Datei hat eine andere Form"),
     "place without copy": ("{place} has no copy {called}", "{place} hat keine Kopie {called}"),
     "place without tested": ("{place} has no tested copy", "{place} hat keine geprüfte Kopie"),
     "place without conf": (
@@ -359,8 +452,8 @@ REFUSALS = {
         "{path} braucht eine Spalte `Name`, oder `Vorname` und `Nachname`; die erste Zeile hat {heads}. --columns sagt, welche Spalte was ist",
     ),
     "no column": (
-        "{path} has no column {what}; --{what} gives all members the same value",
-        "{path} hat keine Spalte {what}; --{what} gibt allen denselben Wert",
+        "{path} has no column {what}, which may also be called {names}; --{what} gives all members the same value",
+        "{path} hat keine Spalte {what}, die auch {names} heißen kann; --{what} gibt allen denselben Wert",
     ),
     "is empty": ("{path} is empty", "{path} ist leer"),
     "other cells": (
@@ -388,6 +481,18 @@ REFUSALS = {
         "der Server auf Port {port} antwortet nicht: {fault}",
     ),
     "desk says": ("the desk says: {text}", "der Server sagt: {text}"),
+    "port of another": (
+        "the server at port {port} belongs to the user {uid}, and not to the desk; no pass was sent to it",
+        "der Server an Port {port} gehört dem Benutzer {uid} und nicht dem Verein; er hat keinen Pass bekommen",
+    ),
+    "reply untrue": (
+        "the desk says that {slot} is done, but the club's file shows no change",
+        "der Server meldet {slot} als erledigt, aber in der Datei des Vereins steht nichts davon",
+    ),
+    "other offer": (
+        "{facility} now costs {price} points for each person and hour, has {places} places, and is open from {opens} to {shuts}",
+        "{facility} kostet jetzt {price} Punkte je Person und Stunde, hat {places} Plätze und ist von {opens} bis {shuts} Uhr offen",
+    ),
     "no office key": (
         "to book for {member}, the office needs a key, but no name is free for it",
         "für einen Büroschlüssel von {member} ist kein Name frei",

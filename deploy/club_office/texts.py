@@ -22,6 +22,10 @@ TEXTS = {
     "yes": ("y yes", "j ja y yes"),
     "shall": ("Shall this be done? [y/N] ", "Soll das geschehen? [j/N] "),
     "go on": ("Go on? [y/N] ", "Weiter? [j/N] "),
+    "shall be clerk": (
+        "The copies name the clerk {user}. Shall {user} work in the office here? [y/N] ",
+        "Die Kopien nennen {user} im Büro. Soll {user} hier im Büro arbeiten? [j/N] ",
+    ),
     "not confirmed": ("not confirmed; nothing changed", "nicht bestätigt; nichts geändert"),
     "is past": ("{day} is past.", "{day} ist vorbei."),
     "is far": (
@@ -48,6 +52,14 @@ TEXTS = {
         "this is not a number from {least} to {most}",
         "keine Zahl von {least} bis {most}",
     ),
+    "number too large": (
+        "this number is too large: at most {most}",
+        "diese Zahl ist zu groß: höchstens {most}",
+    ),
+    "number too small": (
+        "this number is too small: at least {least}",
+        "diese Zahl ist zu klein: mindestens {least}",
+    ),
     "no name": ("this answer isn't possible", "diese Antwort ist nicht möglich"),
     "taken name": ("{name} already exists", "{name} gibt es schon"),
     "none yet": ("there are none", "es gibt keine"),
@@ -56,6 +68,10 @@ TEXTS = {
     "menu ends": (
         "Type a task's number or part of its name. Enter alone quits. Ctrl-C goes back.",
         "Nummer oder ein Wort davon; Enter beendet. Strg-C geht zurück, ändert nichts.",
+    ),
+    "small menu": (
+        "Type a group's name to see its tasks.",
+        "Der Name einer Gruppe zeigt ihre Aufgaben.",
     ),
     "task": ("Task: ", "Aufgabe: "),
     "back": ("back; nothing changed", "zurück; nichts geändert"),
@@ -129,6 +145,7 @@ TEXTS = {
     "ask hours": ("Hours, such as 15-17", "Stunden, etwa 15-17"),
     "ask hour": ("Hours, such as 15 or 15-17", "Stunden, etwa 15 oder 15-17"),
     "ask guests": ("How many guests come along", "Wie viele kommen mit"),
+    "costs": ("{persons}, {hours} h: {points} points", "{persons}, {hours} Std.: {points} Punkte"),
     "ask label": (
         "A name for the credit, such as {example}; no member gets the credit twice",
         "Ein Name für die Gutschrift, etwa {example}; kein Mitglied bekommt sie zweimal",
@@ -173,6 +190,10 @@ TEXTS = {
     "member has": (
         "{balance} points, and at most {quota} open bookings at a time",
         "{balance} Punkte, höchstens {quota} offene Buchungen",
+    ),
+    "given up removed": (
+        "{path} contained a pass that is no longer valid, and was removed",
+        "in {path} war ein Pass, der nicht mehr gilt; die Datei ist gelöscht",
     ),
     "lost removed": (
         "{path} contained the lost pass and was removed",
@@ -292,6 +313,12 @@ TEXTS = {
         "zusammen: {count} abgesagt, {points} Punkte zurück",
     ),
     "not done": ("not done: {lines}", "nicht erledigt: {lines}"),
+    "done so far": ("done: {lines}", "erledigt: {lines}"),
+    "further": ("{count} more", "{count} weitere"),
+    "new names": (
+        "new names for {member} and the keys",
+        "neue Namen für {member} und die Schlüssel",
+    ),
     # Persons.
     "to tell": ("Members to inform:", "Zu benachrichtigen:"),
     "no mail": ("{name}: no mail address known", "{name}: keine E-Mail bekannt"),
@@ -344,6 +371,7 @@ TEXTS = {
     "tested sum": ("same bytes", "gleiche Bytes"),
     "tested no": ("no", "nein"),
     # Lists.
+    "no bookings": ("no bookings", "keine Buchungen"),
     "sums are right": (
         "the stored totals match the sums of the bookings",
         "die Summen stimmen mit den Buchungen überein",
@@ -406,6 +434,40 @@ TEXTS = {
         "Wer dieses Blatt hat, kann mit deinen Punkten buchen. Sobald dein Browser den Pass gespeichert hat, wirf das Blatt weg oder verwahre es wie einen Hausschlüssel."
         " Für jemand anderen macht das Büro einen eigenen Pass. Hast du das Blatt oder das Handy verloren, ruf im Büro an.",
     ),
+    "shall mail": (
+        "Mail the passes of {count} members, if their addresses are known? [y/N] ",
+        "Die Pässe von {count} Mitgliedern mailen, soweit die Adressen bekannt sind? [j/N] ",
+    ),
+    "letter dear": ("Dear {name},", "Hallo {name},"),
+    "letter lend mail": (
+        "With this second link you can lend a part of your pass. Open it once on your own device.",
+        "Mit diesem zweiten Link kannst du einen Teil deines Passes verleihen. Öffne ihn einmal auf einem eigenen Gerät.",
+    ),
+    "letter care mail": (
+        "Anyone who has this mail can book with your points. Once your browser keeps the pass, delete this mail.",
+        "Wer diese Mail hat, kann mit deinen Punkten buchen. Lösche sie, sobald dein Browser den Pass gespeichert hat.",
+    ),
+    "letter mailed": ("{name}: mailed", "{name}: E-Mail verschickt"),
+    "letter before": ("{name}: {key} was mailed before", "{name}: {key} war schon verschickt"),
+    "letter refused": (
+        "{name}: couldn't be mailed, gets a sheet",
+        "{name}: E-Mail nicht verschickt, bekommt ein Blatt",
+    ),
+    "letter doubtful": (
+        "{name}: the mailer didn't finish, so nobody knows whether {key} was mailed; gets a sheet",
+        "{name}: das Mailprogramm kam nicht zum Ende, vielleicht ging {key} hinaus; bekommt ein Blatt",
+    ),
+    "letter unknown": (
+        "{name}: no mail address known, gets a sheet",
+        "{name}: keine E-Mail bekannt, bekommt ein Blatt",
+    ),
+    "letter contact": ("The office: {contact}", "Das Büro: {contact}"),
+    "letters one": ("1 sheet for 1 member is in {file}", "1 Blatt für 1 Mitglied ist in {file}"),
+    "letters of one": (
+        "{count} sheets for 1 member are in {file}",
+        "{count} Blätter für 1 Mitglied sind in {file}",
+    ),
+    "letters left": ("Left out:", "Ausgelassen:"),
     "letters made": (
         "{count} sheets for {members} members are in {file}",
         "{count} Blätter für {members} Mitglieder sind in {file}",
