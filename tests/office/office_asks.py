@@ -658,7 +658,7 @@ def previews():
     ):
         done(*words.split())
     text = done("add-key", long, long).strip()
-    server = Service(at=f"{TODAY}T08:00")
+    server = Service(at=f"{TODAY}T00:00")
     day = TODAY + datetime.timedelta(1)
     for hour in (10, 11):
         server.answer(
@@ -680,7 +680,7 @@ what_is_odd()
 words_of_commands()
 interrupted()
 previews()
-server = Service(at=f"{TODAY}T08:00")
+server = Service(at=f"{TODAY}T00:00")
 configure(**LINES, PORT=server.port)
 refused_in_german()
 calls()

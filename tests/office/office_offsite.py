@@ -60,6 +60,7 @@ from office_room import (
 AWAY = Path("/srv/away")
 FOLDER = AWAY / "clubs" / "club"
 CONF = Path("/etc/clubdesk")
+RESTORE = ["clubdesk-setup", "--from", "elsewhere:clubs/club", "--clerk", "anna"]
 SITE = "desk.example.org"
 DAY = datetime.date.today() + datetime.timedelta(2)
 MINUTE = re.compile(r"20[0-9]{2}-[0-9]{2}-[0-9]{2}T[0-9]{6}Z")
@@ -799,7 +800,7 @@ def brought_back():
         )[0],
         0,
     )
-    (CONF / "club.health").write_text("pass")
+    (CONF / "club.health").write_text("the pass of the lost machine")
     run("chown", "root:clubdesk", CONF / "club.health")
     (CONF / "club.health").chmod(0o640)
     same("a last copy", once()[0], 0)
@@ -818,7 +819,7 @@ def brought_back():
         for it in [it for it in folder.iterdir() if it.name != ".ssh"]:
             shutil.rmtree(it) if it.is_dir() else it.unlink()
     run("userdel", "-r", "ben")
-    line = ["clubdesk-setup", "--from", "elsewhere:clubs/club"]
+    line = RESTORE
     status, _, errors = run_as("root", *line, "--copy", "2001-01-01T000000Z", folder="/")
     same("no such copy", (status, "has no copy 2001-01-01T000000Z" in errors), (1, True))
     same(
@@ -837,13 +838,15 @@ def brought_back():
             for it in (
                 f"made  {CONF}/club.conf",
                 f"made  {CLUB}, as it was at ",
-                "made  the clerk ben",
+                "clubdesk-setup --club club --clerk ben ",
             )
             if it not in out
         ],
         [],
     )
-    same("the rows", rows_now(), wanted)
+    same("no clerk whom nobody confirmed", sorted(grp.getgrnam("office").gr_mem), ["anna"])
+    same("a clerk", run_as("root", *line, "--clerk", "ben", folder="/")[0], 0)
+    same("the rows", [it for it in rows_now() if "'health'" not in it], wanted)
     same(
         "persons, the season, old years",
         (
@@ -913,14 +916,12 @@ def hostile_archive():
         link = tarfile.TarInfo("conf/club.titles2")
         link.type, link.linkname = tarfile.SYMTYPE, "/etc/shadow"
         archive.addfile(link)
+    tested = (FOLDER / "tested").read_text().splitlines()
+    (FOLDER / "tested").write_text("".join(f"{it}\n" for it in tested if ".tar " not in it))
     (FOLDER / f"{newest}.tar").write_bytes(made.getvalue())
     for it in [*CONF.iterdir(), *HOME.glob("club*")]:
         shutil.rmtree(it) if it.is_dir() else it.unlink()
-    same(
-        "an archive with other files",
-        run_as("root", "clubdesk-setup", "--from", "elsewhere:clubs/club", folder="/")[0],
-        0,
-    )
+    same("an archive with other files", run_as("root", *RESTORE, folder="/")[0], 0)
     found = [
         str(it)
         for top in (Path("/etc"), Path("/srv"), HOME, Path("/"))
@@ -934,9 +935,7 @@ def hostile_archive():
     (FOLDER / f"{newest}.tar").write_bytes(b"no archive")
     for it in [*CONF.iterdir(), *HOME.glob("club*")]:
         shutil.rmtree(it) if it.is_dir() else it.unlink()
-    status, _, errors = run_as(
-        "root", "clubdesk-setup", "--from", "elsewhere:clubs/club", folder="/"
-    )
+    status, _, errors = run_as("root", *RESTORE, folder="/")
     same(
         "an invalid archive",
         (status, "can't be read" in errors, "Traceback" in errors),

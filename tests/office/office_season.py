@@ -57,7 +57,7 @@ def make_season_club():
         "the list was read as Latin-1 with ; between the columns: surname = Nachname, first name = Vorname, mail = E-Mail, telephone = Telefon; ignored columns: Straße",
     )
     configure(PAGES=pages, ZONE_NAME="Etc/UTC", TITLE='"Our club"', SITE="https://desk.example.org")
-    server = Service(at=f"{today}T08:00")
+    server = Service(at=f"{today}T00:00")
     lines_of = {
         "PAGES": pages,
         "ZONE_NAME": "Etc/UTC",
@@ -562,6 +562,56 @@ def season(pages, day):
     done("lost-pass", "oez-ali-1", "--form", "v1", "--to", "season/oez-ali-1")
 
 
+def letters_that_go_on():
+    """`letters` leaves out passes that the desk refuses. Commands that revoke a key remove its pass from the folder."""
+    keys = "moeller-kaethe-1 oez-ali-1"
+    run_as(
+        "anna",
+        "sh",
+        "-c",
+        f"mkdir mixed; cd season; cp {keys} ../mixed; echo no pass >../mixed/junk",
+    )
+    done("lost-pass", "oez-ali-1", "--to", "season/oez-ali-1")
+    out = done("letters", "--passes", "mixed", "--to", "mixed.html", "--duplex").splitlines()
+    same("the other sheets", out[:2], ["1 sheet for 1 member is in mixed.html", "Left out:"])
+    same(
+        "the passes that are left out",
+        [
+            it
+            for it in ("mixed/oez-ali-1 is out of date", "mixed/junk")
+            if it not in "".join(out[2:])
+        ],
+        [],
+    )
+    done("letters", *keys.split(), "--passes", "season", "--to", "both.html", "--duplex")
+    page = run_as("anna", "cat", "both.html")[1]
+    same("an empty page between two sheets", page.count('<section class="back">'), 1)
+    done("add-member", "zoe-letters", "1")
+    for key, words in (
+        ("zoe-8", ["revoke-key", "zoe-8"]),
+        ("zoe-9", ["leave", "zoe-letters", "--yes"]),
+    ):
+        done("add-key", key, "zoe-letters", "--to", f"passes/{key}")
+        errors = office(*words)[2]
+        same(f"{words[0]} removes the pass", "is no longer valid, and was removed" in errors, True)
+    same("no pass of a revoked key", run_as("anna", "sh", "-c", "ls passes")[1].count("zoe"), 0)
+    mailed = ["letters", *keys.split(), "--passes", "season", "--mail", "--yes", "--to"]
+    for file, result in (("m1.html", "Möller, Käthe: mailed"), ("m2.html", "was mailed before")):
+        out = done(*mailed, file)
+        same(
+            f"letters by mail, {file}",
+            [
+                it
+                for it in (result, "gets a sheet", f"1 sheet for 1 member is in {file}")
+                if it not in out
+            ],
+            [],
+        )
+    text = run_as("anna", "cat", "season/moeller-kaethe-1")[1].strip()
+    mails = (ROOM / "mails").read_text(encoding="utf-8")
+    same("the pass is mailed once", mails.count(f"/book.html#{text}"), 1)
+
+
 def letters_and_records(day):
     out = done("letters", "moeller-kaethe-1", "oez-ali-1", "--passes", "season")
     same("letters", out, "2 sheets for 2 members are in letters.html\n")
@@ -578,7 +628,8 @@ def letters_and_records(day):
     same("their codes", page.count("<svg"), 2)
     same("the names on the sheets", page.count('<p class="to">Möller, Käthe</p>'), 1)
     same("their mode", run_as("anna", "stat", "-c", "%a", "letters.html")[1], "600\n")
-    same("an existing file", office("letters", "--passes", "season")[0], 1)
+    refused(["letters", "--passes", "season", "--to", "letters.html"], 1, "already exists")
+    same("the next name", "letters-2.html" in done("letters", "--passes", "season"), True)
     same(
         "a missing pass",
         office("letters", "nobody-1", "--passes", "season", "--to", "l.html")[0],
@@ -590,10 +641,14 @@ def letters_and_records(day):
         office("letters", "root-1", "--passes", "season", "--to", "l.html")[0],
         7,
     )
+    letters_that_go_on()
     wanted = run_as("root", "/usr/lib/clubdesk/record", CLUB, "moeller-kaethe-office", folder="/")[
         1
     ]
     same("a record", done("record", "moeller-kaethe-office"), wanted)
+    link = ["env", "DESK=https://desk.example.org", "/usr/lib/clubdesk/record", "--link"]
+    wanted = run_as("root", *link, CLUB, "moeller-kaethe-office", folder="/")[1]
+    same("its link", done("record", "moeller-kaethe-office", "--link"), wanted)
     refused(["record", "nobody-1"], 1, "refused: there is no key nobody-1")
 
 
@@ -617,7 +672,7 @@ def spare_passes(lines_of):
         [(0,)],
     )
     out = done("letters", "moeller-kaethe-1", *spares, "--passes", "season", "--to", "spares.html")
-    same("a letter with spare passes", out, "1 sheets for 1 members are in spares.html\n")
+    same("a letter with spare passes", out, "1 sheet for 1 member is in spares.html\n")
     page = run_as("anna", "cat", "spares.html")[1]
     texts = [run_as("anna", "cat", f"season/{key}")[1].strip() for key in spares]
     same(

@@ -260,7 +260,7 @@ def goes_on():
     same(
         "letters",
         done("letters", "bob-1", "--passes", "."),
-        "1 sheets for 1 members are in letters.html\n",
+        "1 sheet for 1 member is in letters.html\n",
     )
     same(
         "the old year's bookings",

@@ -406,7 +406,7 @@ halt
 sort -u given >wanted
 cut -f 1 running | sort -u >found
 same 'sections whose lines no test runs, except those of tests/package/proxy_holds.sh and tests/package/machine_lives.sh' 'A certificate
-A club by five questions
+A club by a few questions
 Copies elsewhere
 The machine is gone' "$(comm -13 wanted found)"
 echo "$checks checks of the package's life passed; a club behind TLS $served seconds after the first line of RUNNING, without the downloads;" \

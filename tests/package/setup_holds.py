@@ -4,7 +4,7 @@
 The test checks the modes and owners of files, and the setup's refusals. The test needs root, because it covers the machine's
 folders with temporary overlays (tests/lib/office_room.sh).
 
-The setup asks five questions. The test stops the setup at each step and runs it again. No run changes an existing file. After the setup, the new
+The setup asks a few questions. The test stops the setup at each step and runs it again. No run changes an existing file. After the setup, the new
 clerk adds a member, and the member makes a first booking. If nginx is installed, the test also makes a certificate. Then the setup enables the
 site, and nginx accepts the site's configuration.
 """
@@ -99,7 +99,7 @@ def refused():
 
 
 def by_questions():
-    """The setup asks five questions at a terminal. After a wrong answer, the setup asks the question again."""
+    """The setup asks questions at a terminal. After a wrong answer, the setup asks the question again."""
     it = pexpect.spawn("clubdesk-setup", encoding="utf-8", timeout=120, cwd="/")
     for question, answer in (
         ("name", "TC Übersee"),
@@ -108,6 +108,12 @@ def by_questions():
         ("zone", "Europe/Berlin"),
         ("clerk", "doris"),
         ("mail address", "it@example.org"),
+        ("reach the office", "Tel. 030 1234"),
+        ("imprint", "http://club.example"),
+        ("is not an address.*imprint", "https://club.example/imprint"),
+        ("privacy", ""),
+        ("short name", "tc-uebersee-beyond"),
+        ("is not a short name.*short name", ""),
     ):
         it.expect(question)
         it.sendline(answer)
@@ -117,6 +123,12 @@ def by_questions():
         "a setup by questions",
         (it.exitstatus, "doris starts with: office tc-uebersee" in it.before),
         (0, True),
+    )
+    lines = (CONF / f"{CLUB}.conf").read_text(encoding="utf-8").splitlines()
+    same(
+        "the optional settings",
+        [it for it in lines if it.split("=")[0] in ("CONTACT", "IMPRINT", "PRIVACY")],
+        ['CONTACT="Tel. 030 1234"', 'IMPRINT="https://club.example/imprint"'],
     )
 
 
@@ -135,6 +147,8 @@ def made():
         "SITE=https://desk.example.org",
         "ZONE_NAME=Europe/Berlin",
         "MAIL=it@example.org",
+        "SPARES=2",
+        f"BOOK=/var/lib/clubdesk/{CLUB}-book",
     ):
         same(f"the configuration has {line}", line in lines, True)
     same(
