@@ -1,5 +1,5 @@
 #!/usr/bin/env python3
-"""docs/AUDIT.md is up to date, and the citations in docs/PROMISES.md, docs/COMPUTED.md and docs/TOUR.md hold.
+"""docs/proofs/AUDIT.md is up to date, and the citations in docs/proofs/PROMISES.md, docs/proofs/COMPUTED.md and docs/TOUR.md hold.
 
 The test also checks that the rules in Python (`tests/reference`) give the answers of docs/vectors.json.
 
@@ -7,13 +7,13 @@ AUDIT lists the definitions that a reader must trust for each promise. AUDIT als
 PROMISES cites must exist. A computing definition computes what another definition states. PROMISES names the few computing definitions that its
 contracts may depend on. The contracts that PROMISES cites, and the values of ghosts, may depend on no other computing definition. A ghost is a value
 that only contracts use. Each contract that COMPUTED cites must depend on a computing definition. Each step of a path in TOUR must cite the next step.
-Without an option, the program writes docs/AUDIT.md.
+Without an option, the program writes docs/proofs/AUDIT.md.
 
-The program reads the promises in docs/PROMISES.md, the clauses that state these promises, and the definitions that the clauses cite.
+The program reads the promises in docs/proofs/PROMISES.md, the clauses that state these promises, and the definitions that the clauses cite.
 tests/lib/definitions.py reads the definitions.
 
-    tests/audit.py                  writes docs/AUDIT.md
-    tests/audit.py --check          checks whether docs/AUDIT.md is current
+    tests/audit.py                  writes docs/proofs/AUDIT.md
+    tests/audit.py --check          checks whether docs/proofs/AUDIT.md is current
     tests/audit.py --strict         also fails if a contract or a ghost depends on a computing definition that PROMISES doesn't name
     tests/audit.py --below NAME     prints the definitions below a definition, or below all clauses of a function (Desk::ask), in reading order
 """
@@ -37,8 +37,8 @@ from definitions import Book, closure, owner_of
 from more_edits import crates_below
 from spec_files import COMPUTED, OF_SPECS, ROOT
 
-PAGE = ROOT / "docs" / "AUDIT.md"
-PROMISES = ROOT / "docs" / "PROMISES.md"
+PAGE = ROOT / "docs" / "proofs" / "AUDIT.md"
+PROMISES = ROOT / "docs" / "proofs" / "PROMISES.md"
 TOUR = ROOT / "docs" / "TOUR.md"
 # Patterns for the sources that a comment may cite for a definition.
 SOURCES = (r"RFC \d+", r"FIPS [\d-]+", r"NDSS \d+", r"libmacaroons")
@@ -88,7 +88,7 @@ def below_all(book, function):
 
 
 class Promise:
-    """A promise of docs/PROMISES.md, with its title and the clauses that state it. `fields` has the record fields that the promise names."""
+    """A promise of docs/proofs/PROMISES.md, with its title and the clauses that state it. `fields` has the record fields that the promise names."""
 
     def __init__(self, book, number, line):
         self.book, self.number = book, number
@@ -151,7 +151,7 @@ def promises_of(book):
 
 
 def named_as_computing():
-    """Returns the names of the computing definitions that promises depend on, according to docs/PROMISES.md."""
+    """Returns the names of the computing definitions that promises depend on, according to docs/proofs/PROMISES.md."""
     found = re.search(
         r"Promises rest on \w+ computing functions: (.*?)\.", PROMISES.read_text(encoding="utf-8")
     )
@@ -508,9 +508,9 @@ class Audit:
         )
         sections = [
             "# What a reader must trust",
-            "This page lists each definition that the eight laws of [README](../README.md#what-is-proved) depend on, beginning with the standards, and what "
+            "This page lists each definition that the eight laws of [README](../../README.md#what-is-proved) depend on, beginning with the standards, and what "
             "else is trusted. The prover checks proofs, lemmas and laws, so this page omits them. `tests/audit.py` writes the page. "
-            "[TOUR](TOUR.md#when-is-a-root-good) follows twelve paths through definitions.",
+            "[TOUR](../TOUR.md#when-is-a-root-good) follows twelve paths through definitions.",
             "To check a promise, read its clause, then the definitions with the promise's number, from the top. Numbers and [marks](#marks) precede the "
             "definitions' names. After a file's name, brackets contain the listed definitions' number of lines, and the standards that the file "
             "cites. Definitions without a standard are ours.",
@@ -520,7 +520,7 @@ class Audit:
             "## Computing definitions",
             *self.section_of_faults(),
             "## Marks",
-            "`tests/reference` states definitions again in Python, written from the pages alone. For each vector of [vectors.json](vectors.json), the Python "
+            "`tests/reference` states definitions again in Python, written from the pages alone. For each vector of [vectors.json](../vectors.json), the Python "
             "code returns the expected answer. A mark says how many of a definition's Python lines the vectors run: "
             f"`all` ({counts['all']} of {len(plain)} definitions), `part` ({counts['part']}) or `none` ({counts['none']}). {counts['row']} more definitions, "
             "marked `row`, occur in worked examples, which are proved by computation. "
@@ -542,15 +542,15 @@ class Audit:
             "The promises rest on the toolchain's contracts of these libraries. The calls are in the crates that a promise depends on; `perhaps` marks "
             "names that our methods also have. Our definitions cite the definitions in the third column. The table omits std, which nearly every line uses.",
             "\n".join(self.trusted()),
-            f"{self.externs()} `HANDLES` allows {handles}. [TRUST](TRUST.md#trusted) lists the rest: compiler, prover, system, what people [only "
-            "read](TRUST.md#read-and-shown-by-vectors), and what is [not claimed](TRUST.md#not-claimed).",
+            f"{self.externs()} `HANDLES` allows {handles}. [TRUST](../TRUST.md#trusted) lists the rest: compiler, prover, system, what people [only "
+            "read](../TRUST.md#read-and-shown-by-vectors), and what is [not claimed](../TRUST.md#not-claimed).",
         ]
         return "\n\n".join(sections) + "\n"
 
     # ---- what pages cite
 
     def named(self):
-        """Returns the names of the computing definitions that docs/PROMISES.md names, and of the computing definitions that they depend on."""
+        """Returns the names of the computing definitions that docs/proofs/PROMISES.md names, and of the computing definitions that they depend on."""
         first = named_as_computing()
         return first | {
             it.name
@@ -559,13 +559,13 @@ class Audit:
         }
 
     def citing(self):
-        """Yields the faults in the tables of docs/PROMISES.md and docs/COMPUTED.md. A citation that can't be read is a fault. In PROMISES, no
+        """Yields the faults in the tables of docs/proofs/PROMISES.md and docs/proofs/COMPUTED.md. A citation that can't be read is a fault. In PROMISES, no
         contract may depend on a computing definition that the page doesn't name. In COMPUTED, each contract must depend on a computing definition.
         """
         contracts, named = Contracts(self.book), self.named()
         for page in (PROMISES, COMPUTED):
             for citation in citations(page.read_text(encoding="utf-8")):
-                place = f"docs/{page.name}:{citation.line}"
+                place = f"docs/proofs/{page.name}:{citation.line}"
                 for name, cited in contracts.below(citation):
                     computing = sorted(
                         {it.name for it in cited if it.is_computed and it.kind in OF_SPECS}
@@ -647,7 +647,7 @@ def run(arguments):
     if arguments.check or arguments.strict:
         old = PAGE.read_text(encoding="utf-8") if PAGE.exists() else ""
         if old != page:
-            faults.append("docs/AUDIT.md isn't current: run tests/audit.py")
+            faults.append("docs/proofs/AUDIT.md isn't current: run tests/audit.py")
             faults += list(
                 difflib.unified_diff(
                     old.splitlines(), page.splitlines(), "the page", "the sources", lineterm="", n=0
@@ -662,7 +662,7 @@ def run(arguments):
         faults += [f"{it.file}:{it.line}: reaches a computed name: {it.name}" for it in computed]
         faults += [f"{len(computed)} computed names"] if computed else []
         faults += [
-            f"docs/PROMISES.md: no promise rests on {name}"
+            f"docs/proofs/PROMISES.md: no promise rests on {name}"
             for name in sorted(named_as_computing() - {it.name for it in audit.computed()})
         ]
         faults += audit.citing()
@@ -670,16 +670,16 @@ def run(arguments):
         print(it, file=sys.stderr)
     if not faults:
         print(
-            "docs/AUDIT.md is current"
+            "docs/proofs/AUDIT.md is current"
             if arguments.check or arguments.strict
-            else f"docs/AUDIT.md: {page.count(chr(10))} lines"
+            else f"docs/proofs/AUDIT.md: {page.count(chr(10))} lines"
         )
     return 1 if faults else 0
 
 
 def main():
     parser = argparse.ArgumentParser(
-        description="Writes docs/AUDIT.md, or says whether it is current."
+        description="Writes docs/proofs/AUDIT.md, or says whether it is current."
     )
     parser.add_argument("--check", action="store_true")
     parser.add_argument("--strict", action="store_true")

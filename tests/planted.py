@@ -34,7 +34,7 @@ PLANTS = {
         "'sheet ",
     ),
     "arguments_taken": ("clubdesk", "storage failed", "storage failex", "test_each_hour"),
-    "audit": ("docs/PROMISES.md", "`opens`", "`openz`", "no contract Tables::open: openz"),
+    "audit": ("docs/proofs/PROMISES.md", "`opens`", "`openz`", "no contract Tables::open: openz"),
     "builds_side_by_side": (
         "bin/proved",
         '[ ! -e "$out/build.started" ] || return 0',

@@ -35,7 +35,7 @@ PAGES = [
     "CONTRIBUTING.md",
     *(
         str(it)
-        for pattern in ("docs/*.md", "crates/*/README.md")
+        for pattern in ("docs/**/*.md", "crates/*/README.md")
         for it in sorted(Path().glob(pattern))
     ),
 ]
@@ -177,8 +177,8 @@ def test_files_and_names_are_there(page):
             assert Path(path.split(":")[0]).exists(), f"no file {path}"
         if page.startswith("crates/") and re.match(r"(src|specs|proofs|must-fail)/", path):
             assert (Path(page).parent / path).exists(), f"no file {path}"
-    if page in ("docs/PROMISES.md", "docs/COMPUTED.md", "docs/AUDIT.md"):
-        return  # other tests check the promises; docs/AUDIT.md is generated, and mentions functions of libraries
+    if page in ("docs/proofs/PROMISES.md", "docs/proofs/COMPUTED.md", "docs/proofs/AUDIT.md"):
+        return  # other tests check the promises; docs/proofs/AUDIT.md is generated, and mentions functions of libraries
     for word in words:
         if re.fullmatch(r"[A-Za-z_]+(::[A-Za-z_0-9]+)+", word):
             crate, *_, name = word.split("::")
@@ -257,13 +257,14 @@ def test_passes_are_written_under_temporary_names(page):
 
 
 def test_laws():
-    """README lists the laws of docs/PROMISES.md in the same order. Each law ends in a link to docs/PROMISES.md. The text of the link names a
-    function and one of the function's clauses. tests/audit.py checks the functions and clauses of docs/PROMISES.md.
+    """README lists the laws of docs/proofs/PROMISES.md in the same order. Each law ends in a link to docs/proofs/PROMISES.md. The text of the link names a
+    function and one of the function's clauses. tests/audit.py checks the functions and clauses of docs/proofs/PROMISES.md.
     """
     title = r"^\d+\. \*\*(.*?)\.\*\*"
-    laws = re.findall(title, TEXTS["docs/PROMISES.md"], re.MULTILINE)
+    laws = re.findall(title, TEXTS["docs/proofs/PROMISES.md"], re.MULTILINE)
     rows = re.findall(
-        title + r" .*\(\[`([^`]*)`: `([^`]*)`.*\]\(docs/PROMISES\.md#the-law-of-the-desk\)\)$",
+        title
+        + r" .*\(\[`([^`]*)`: `([^`]*)`.*\]\(docs/proofs/PROMISES\.md#the-law-of-the-desk\)\)$",
         TEXTS["README.md"],
         re.MULTILINE,
     )
@@ -277,7 +278,7 @@ def test_first_page_is_short():
 
 
 def test_sizes_on_the_first_page():
-    """README's numbers of lines are right to a twentieth. The lines to believe are those of docs/AUDIT.md."""
+    """README's numbers of lines are right to a twentieth. The lines to believe are those of docs/proofs/AUDIT.md."""
     number = r"(\d[\d,]*)"
     given = re.search(
         rf"about {number} lines of code, {number} of definitions and {number} of proofs\..* {number} lines of definitions",
@@ -290,7 +291,7 @@ def test_sizes_on_the_first_page():
     counted.append(
         int(
             re.search(
-                rf"^\| together \| \| \d+ \| {number} ", TEXTS["docs/AUDIT.md"], re.MULTILINE
+                rf"^\| together \| \| \d+ \| {number} ", TEXTS["docs/proofs/AUDIT.md"], re.MULTILINE
             )[1]
         )
     )
@@ -323,8 +324,8 @@ def test_tour():
 
 
 def test_audit_is_made_of_the_sources():
-    """docs/AUDIT.md is exactly the output of tests/audit.py. The clauses of a function that states a promise depend on a definition of
-    specs/computed/ only if docs/PROMISES.md names it, or if a named definition depends on it. In the second part of docs/TOUR.md, each step of a path
+    """docs/proofs/AUDIT.md is exactly the output of tests/audit.py. The clauses of a function that states a promise depend on a definition of
+    specs/computed/ only if docs/proofs/PROMISES.md names it, or if a named definition depends on it. In the second part of docs/TOUR.md, each step of a path
     cites the next step."""
     subprocess.run(["tests/audit.py", "--strict"], check=True, stdout=subprocess.DEVNULL)
 
@@ -378,7 +379,7 @@ def test_index_names_each_page():
         assert (
             not page.startswith("docs/")
             or page == "docs/INDEX.md"
-            or f"({Path(page).name})" in TEXTS["docs/INDEX.md"]
+            or f"({Path(page).relative_to('docs')})" in TEXTS["docs/INDEX.md"]
         ), page
 
 

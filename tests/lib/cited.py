@@ -1,4 +1,4 @@
-"""Reads the contracts that the tables of a page, such as docs/PROMISES.md, cite. Finds the definitions on which these contracts depend.
+"""Reads the contracts that the tables of a page, such as docs/proofs/PROMISES.md, cite. Finds the definitions on which these contracts depend.
 
 Each section of the page is about a crate. The second cell of a row has groups, with `;` between them. Each group has the form `NAME, .. : CLAUSE, ..
 by DEFINITION, ..`. A NAME is a function of the section's crate, an implementation of a trait (`Log for LogLines`), a type or a trait. If a group has

@@ -60,7 +60,7 @@ EXCEPTIONS = {
 }
 # Files that this module doesn't read: generated pages, data, and texts that tests compare byte for byte.
 LEFT_OUT = re.compile(
-    r"docs/AUDIT\.md|.*/more-edits\.txt|.*\.(told|png|svg|lock|toml|edit)|.*/stdout|tests/lib/words\.txt|docs/vectors\.json|web/[a-z]+\.(html|js|webmanifest)"
+    r"docs/proofs/AUDIT\.md|.*/more-edits\.txt|.*\.(told|png|svg|lock|toml|edit)|.*/stdout|tests/lib/words\.txt|docs/vectors\.json|web/[a-z]+\.(html|js|webmanifest)"
 )
 # The areas with which the subject of a commit may begin, apart from the crates.
 AREAS = {"docs", "tests", "web", "deploy", "bin", "ci", "man", "examples"}
@@ -380,7 +380,7 @@ def spelled(root):
     """Yields the files that aspell must check, each with its language. The files are the pages and the texts of web/."""
     pages = [
         *map(root.joinpath, PAGES),
-        *sorted((root / "docs").glob("*.md")),
+        *sorted((root / "docs").glob("**/*.md")),
         *sorted(root.glob("crates/*/README.md")),
     ]
     yield from ((it, "en") for it in pages if it.name != "AUDIT.md")

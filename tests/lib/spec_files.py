@@ -18,7 +18,7 @@ BUILT_IN = set(
 """.split()
 )
 # The page that lists the computing definitions, and the functions whose contracts use these definitions.
-COMPUTED = ROOT / "docs" / "COMPUTED.md"
+COMPUTED = ROOT / "docs" / "proofs" / "COMPUTED.md"
 # The kinds of definitions in specs/.
 OF_SPECS = ("definition", "record", "data")
 # Constructors of std that may appear in a pattern.
@@ -43,7 +43,7 @@ PATTERNS = {
 
 @cache
 def computing():
-    """Returns the definitions that docs/COMPUTED.md names after `by`, each as (crate, name)."""
+    """Returns the definitions that docs/proofs/COMPUTED.md names after `by`, each as (crate, name)."""
     crate, found = "", set()
     for line in COMPUTED.read_text(encoding="utf-8").splitlines():
         if line.startswith("## "):
