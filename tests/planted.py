@@ -289,6 +289,18 @@ PLANTS = {
         "plan.map",
         "the honest rest",
     ),
+    "modules_hold:rings-for-ever": (
+        "web/src/watch.mjs",
+        "if (isFree || view.fault !== undefined) this.drop(slot);",
+        "if (view.fault !== undefined) this.drop(slot);",
+        "one ring",
+    ),
+    "modules_hold:rounds-overlap": (
+        "web/src/watch.mjs",
+        "    if (this.isLooking) return;\n",
+        "",
+        "looks in two rounds at once",
+    ),
     "machine_lives": (
         "deploy/Caddyfile",
         "respond @large 413",

@@ -2,7 +2,7 @@
 // the server, so that the browser shows a new page immediately. The worker neither handles other requests nor caches the desk's replies. bin/pages
 // makes this file from web/src/worker.js.
 "use strict";
-const VERSION = "28ce2e689e627e81";
+const VERSION = "83282ec82d4cb44f";
 const CACHE = `pages ${VERSION}`;
 const PAGES = ["/book.html", "/pass.html", "/app.webmanifest", "/club.json"];
 const PATIENCE = 4000; // milliseconds that the worker waits for the network before it uses the cache

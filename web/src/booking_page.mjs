@@ -24,6 +24,7 @@ import { finishSpares } from "./senders.mjs";
 import { offerSpares } from "./spares_view.mjs";
 import { clubTime, ownEntries, spentOfKey, state } from "./state.mjs";
 import { Store } from "./store.mjs";
+import { setUpWatch, watchNotices } from "./watch_view.mjs";
 import { say } from "./words.mjs";
 
 const CLOCK_TOLERANCE = 2; // minutes
@@ -77,7 +78,7 @@ function showNotices() {
   if (minutes > CLOCK_TOLERANCE) note(say("clock-wrong", { count: minutes }), " ", say("moment", { time: clubTime() }));
   const open = openRequests();
   if (open > 0 && state.pass !== null && state.sender?.tries > 0) note(say("unanswered", { count: open }));
-  for (const [words, ...more] of passNotices()) note(words, ...more);
+  for (const [words, ...more] of [...passNotices(), ...watchNotices()]) note(words, ...more);
   const texts = (list) => list.map((each) => each.textContent).join("\n");
   const place = byName("notices");
   if (texts([...place.children]) !== texts(notices)) place.replaceChildren(...notices);
@@ -186,6 +187,7 @@ function setUp() {
   setUpAccount(refresh);
   setUpLend();
   setUpPasses({ begin, show });
+  setUpWatch(() => { showNotices(); showCells(); });
   for (const each of VIEWS) byName(`to-${each}`).addEventListener("click", () => go(each));
   byName("only-listed-drop").addEventListener("click", () => state.sender?.dropListed().catch(reportTrouble));
   byName("list-take").addEventListener("click", () => {

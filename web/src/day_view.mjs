@@ -14,6 +14,7 @@ import { DAYS_AHEAD, hasBegun, isTooFarAhead, personsOf, stateOf } from "./recor
 import { limitText, refusalText } from "./refusals.mjs";
 import { CAVEAT_DENIES, NoReply } from "./replies.mjs";
 import { canSend, clubMoment, clubTime, denial, liveAt, ownAt, state, withKind } from "./state.mjs";
+import { isWatched, offerWatch } from "./watch_view.mjs";
 import { dateText, dayText, say } from "./words.mjs";
 
 const SWIPE = 50; // pixels
@@ -206,7 +207,7 @@ function looksOf({ slot, view, state: known }) {
     return { looks: "closed", words: say("cell-closed"), below: why, isFree: why !== "" };
   }
   const left = view.places - view.taken;
-  if (left <= 0) return { looks: "full", words: say("cell-full"), below: "", isFree: false };
+  if (left <= 0) return { looks: "full", words: say("cell-full"), below: isWatched(slot) ? say("cell-watched") : "", isFree: denial("book", slot) === 0 };
   const words = view.places === 1 ? say("cell-one-free") : say("cell-free", { left, places: view.places });
   const isTooDear = denial("book", slot) === 0 && denial("book", slot, { owed: view.price }) > 0;
   return { looks: "free", words, below: isTooDear ? say("cell-too-dear") : price, isFree: !isTooDear && denial("book", slot) === 0 };
@@ -257,6 +258,10 @@ function press(cell) {
   }
   if (looksOf(cell).looks === "closed") {
     offerClosed(cell.slot, () => cell.button.focus());
+    return;
+  }
+  if (looksOf(cell).looks === "full") {
+    offerWatch(cell.slot, () => { showCells(); cell.button.focus(); });
     return;
   }
   offerBooking(cell.slot, cell.view, () => {
