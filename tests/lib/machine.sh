@@ -1,5 +1,5 @@
 # Functions for tests that boot a fresh Debian with systemd-nspawn. The functions make the Debian system, run commands in it, and read root's command
-# lines in docs/RUNNING.md. This file sources serving.sh and checks.sh. Needs root.
+# lines in docs/INSTALL.md and docs/CARE.md. This file sources serving.sh and checks.sh. Needs root.
 . "$(dirname -- "$0")/../lib/serving.sh"
 [ "$(id -u)" = 0 ] || { echo "$0 needs root, for a fresh Debian" >&2; exit 2; }
 top=$(CDPATH='' cd -P -- "$here/../.." && pwd)
@@ -42,22 +42,22 @@ offline() {
     systemd-nspawn -q -D "$folder" --register=no --keep-unit --pipe -E DEBIAN_FRONTEND=noninteractive "$@"
 }
 
-# lines_for_root PAGE: writes the page's command lines for root to the file `running`. Each line begins with the heading of its section and a tab.
+# lines_for_root PAGE ..: writes the pages' command lines for root to the file `running`. Each line begins with the heading of its section and a tab.
 lines_for_root() {
     awk '
         /^```/ { if (inside) inside = 0; else if ($0 == "```sh" && !other) inside = 1; else other = !other; next }
         inside { print title "\t" $0; next }
-        !other && /^#+ / { title = $0; sub(/^#+ /, "", title) }' "$1" >running
+        !other && /^#+ / { title = $0; sub(/^#+ /, "", title) }' "$@" >running
 }
 # blocks HEADING: prints the command lines for root in a section, and adds the heading to the file `given`.
 blocks() {
     echo "$1" >>given
     awk -F '\t' -v heading="$1" '$1 == heading { print substr($0, length($1) + 2); found = 1 } END { exit !found }' running ||
-        fail "RUNNING has no lines for root in '$1'"
+        fail "the pages have no lines for root in '$1'"
 }
 # gives WHAT: reads command lines from standard input, and runs them in the machine as root. Each line must succeed.
 gives() {
     checks=$((checks + 1))
     { echo 'set -e; cd /root'; cat; } >"$root/root/lines"
-    inside sh /root/lines >told 2>&1 </dev/null || fail "RUNNING, $1: $(tail -n 30 told)"
+    inside sh /root/lines >told 2>&1 </dev/null || fail "the pages, $1: $(tail -n 30 told)"
 }

@@ -1,5 +1,5 @@
 # Makes the room: a mount namespace in which overlays cover the machine's folders, so that tests of the office leave the machine unchanged. The room
-# has the programs and the files of deploy/ and web/ at the paths where the package installs them. The commands of docs/RUNNING.md under "The clerks"
+# has the programs and the files of deploy/ and web/ at the paths where the package installs them. The commands of docs/INSTALL.md under "The clerks"
 # make the clerk anna. ben is also a clerk, and carl is not a clerk. The room's `systemctl` knows only the command `kill`, which ends a server of the
 # service manager in tests/lib/office_room.py. Needs root. If `room_net` is set and not empty, the room also has a separate network namespace. If a
 # caller runs this script and doesn't source it, the script runs the command in its arguments. The variable ROOM then has the path of the room's
@@ -48,16 +48,16 @@ find "$top/deploy" -maxdepth 1 -type f -perm -100 ! -name office ! -name clubdes
 install -m 644 -t /usr/share/doc/clubdesk/examples "$top"/deploy/*.conf "$top/deploy/Caddyfile"
 "$top/bin/pages" --to /usr/share/clubdesk/web
 
-# page_block HEADING: prints the command lines for root under this heading of docs/RUNNING.md. Omits lines that install Debian packages.
+# page_block HEADING: prints the command lines for root under this heading of docs/INSTALL.md. Omits lines that install Debian packages.
 page_block() {
     awk -v heading="## $1" '
         /^## / { here = $0 == heading; next }
         here && /^```sh$/ { inside = 1; next }
         /^```$/ { inside = 0 }
-        inside && !/^apt-get /' "$top/docs/RUNNING.md"
+        inside && !/^apt-get /' "$top/docs/INSTALL.md" "$top/docs/CARE.md"
 }
 page_block 'The clerks' >"$room/clerks"
-[ -s "$room/clerks" ] || { echo "docs/RUNNING.md has no lines under 'The clerks'" >&2; exit 1; }
+[ -s "$room/clerks" ] || { echo "docs/INSTALL.md has no lines under 'The clerks'" >&2; exit 1; }
 (cd "$top" && sh -e "$room/clerks") >/dev/null
 install -d -m 755 /etc/clubdesk
 install -d -o clubdesk -g clubdesk -m 700 /var/lib/clubdesk

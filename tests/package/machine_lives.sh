@@ -5,7 +5,7 @@
 # The test needs root.
 #
 # debootstrap makes the Debian, and systemd-nspawn boots it with only a loopback network. The clerk uses only the menu. The test runs the command
-# lines that docs/RUNNING.md has under "Copies elsewhere" and "The machine is gone". While a client books, copies go to the ssh server of a third
+# lines that docs/CARE.md has under "Copies elsewhere" and "The machine is gone". While a client books, copies go to the ssh server of a third
 # Debian. The club loses the bookings of at most one minute, and the client makes each lost booking again by repeating the request. With
 # DEBIAN=FOLDER, the test copies the Debian in this folder, as package_lives.sh does.
 # pytestmark = [mark.package, mark.root, mark.needs("clubdesk passtool"),
@@ -64,9 +64,9 @@ serve_ssh() {
 }
 serve_ssh
 
-# Takes the command lines for root from the package's RUNNING.md, and replaces the user's name on the ssh server.
+# Takes the command lines for root from the package's INSTALL.md and CARE.md, and replaces the user's name on the ssh server.
 dpkg-deb -x "packages/$deb" unpacked
-lines_for_root unpacked/usr/share/doc/clubdesk/docs/RUNNING.md
+lines_for_root unpacked/usr/share/doc/clubdesk/docs/INSTALL.md unpacked/usr/share/doc/clubdesk/docs/CARE.md
 sed -i 's/backup@elsewhere.example/backup-of-clubs@elsewhere.example/' running
 
 # ---- Three commands. The site's name is known only on this machine, so caddy uses its own certificate authority.
@@ -164,7 +164,7 @@ if grep -q '^made' told; then fail "the setup, again: $(cat told)"; fi
 sums | diff before - >told || fail "the setup, again: $(cat told)"
 checks=$((checks + 1))
 
-# ---- Copies to the other machine, with the command lines of RUNNING.md. The command lines print an ssh key, and the other machine's administrator
+# ---- Copies to the other machine, with the command lines of CARE.md. The command lines print an ssh key, and the other machine's administrator
 # adds this key.
 blocks 'Copies elsewhere' >lines
 sed '/known_hosts\|accept-new/,$d' lines | gives 'Copies elsewhere'

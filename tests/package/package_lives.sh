@@ -2,7 +2,7 @@
 # `bin/package` makes the same bytes in two runs, lintian finds no fault, and the package works in a fresh Debian.
 #
 # debootstrap makes the Debian, and systemd-nspawn boots it with its own systemd and only a loopback network. In this Debian, the test runs
-# docs/RUNNING.md's command lines for root, from the installation to the restore. The command lines set up the desk behind nginx with TLS, the timers
+# docs/INSTALL.md's command lines for root, from the installation to the restore. The command lines set up the desk behind nginx with TLS, the timers
 # and their jobs, mail, and a second club in another time zone. The test also boots the machine again. A clerk without root does the work of a first
 # week, from the import of members to a restore. The test upgrades the package while a client books. The test also upgrades to a faulty package whose
 # clubdesk can't open a club. The test removes the package, installs it again, and purges it. No acknowledged booking is lost, and the clubs' files
@@ -77,8 +77,8 @@ cp "first/$deb" ./*.deb first/*.tar.xz "$root/root/"
 offline "$root" sh -c "apt-get update && apt-get install --download-only /root/$deb qrencode xz-utils" >apt.log 2>&1 </dev/null || fail "apt-get: $(tail apt.log)"
 boot
 
-# Takes the command lines for root from the package's RUNNING.md.
-lines_for_root unpacked/usr/share/doc/clubdesk/docs/RUNNING.md
+# Takes the command lines for root from the package's INSTALL.md and CARE.md.
+lines_for_root unpacked/usr/share/doc/clubdesk/docs/INSTALL.md unpacked/usr/share/doc/clubdesk/docs/CARE.md
 
 # answers PORT: checks that the desk listens at this port within ten seconds, and that it refuses a request without a pass.
 answers() {
@@ -86,7 +86,7 @@ answers() {
     same "the desk at port $1" '{"fault":4,"text":"no pass"}' "$(cat told)"
 }
 
-# ---- The command lines of RUNNING.md, from the installation on.
+# ---- The command lines of INSTALL.md, from the installation on.
 installed=$(date +%s)
 blocks Install | grep '^apt install ' | head -n 1 >install
 same 'the line that installs' "apt install ./$deb" "$(cat install)"
@@ -409,5 +409,5 @@ same 'sections whose lines no test runs, except those of tests/package/proxy_hol
 A club by a few questions
 Copies elsewhere
 The machine is gone' "$(comm -13 wanted found)"
-echo "$checks checks of the package's life passed; a club behind TLS $served seconds after the first line of RUNNING, without the downloads;" \
+echo "$checks checks of the package's life passed; a club behind TLS $served seconds after the first line of INSTALL, without the downloads;" \
     "$acknowledged bookings during three upgrades"

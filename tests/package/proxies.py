@@ -1,5 +1,5 @@
 #!/usr/bin/env -S /usr/bin/python3 -B -m pytest -q -p no:cacheprovider
-"""nginx and caddy, configured as in deploy/, limit and forward requests as docs/RUNNING.md says.
+"""nginx and caddy, configured as in deploy/, limit and forward requests as docs/INSTALL.md says.
 
 A stub takes the desk's place. The stub replies with the request that reached it. nginx takes a
 client's address from the field X-Address, so that one machine can act as many clients.

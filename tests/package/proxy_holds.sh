@@ -1,5 +1,5 @@
 #!/bin/sh
-# The command lines for root in docs/RUNNING.md set up pages, certificates, TLS and several clubs with nginx.
+# The command lines for root in docs/INSTALL.md set up pages, certificates, TLS and several clubs with nginx.
 #
 # The test needs root, because it covers the machine's folders with temporary overlays (tests/lib/office_room.sh).
 #
@@ -39,7 +39,7 @@ mkdir -p /var/log/nginx /run/sudo
 sed -i 's/^hosts:.*/hosts: files/' /etc/nsswitch.conf
 echo '127.0.0.1 localhost desk.example.org rowing.example.org' >/etc/hosts
 
-# A stub of systemctl for the commands in RUNNING.md. The stub can reload nginx. If a command enables a club, the stub runs the club's desk.
+# A stub of systemctl for the commands in INSTALL.md. The stub can reload nginx. If a command enables a club, the stub runs the club's desk.
 cat >"$room/systemctl" <<SYSTEMCTL
 #!/bin/sh
 case "\$*" in
@@ -59,12 +59,12 @@ install -m 755 "$room/systemctl" /usr/bin/systemctl
 mkdir "$room/page"
 by_page() {
     page_block "$1" >"$room/lines"
-    [ -s "$room/lines" ] || fail "docs/RUNNING.md has no lines under '$1'"
+    [ -s "$room/lines" ] || fail "docs/INSTALL.md has no lines under '$1'"
     holds "$1" env -C "$room/page" sh -e "$room/lines"
     echo "$1: $(wc -l <"$room/lines") lines run"
 }
 
-# ---- The first club, made with the command lines of RUNNING.md, and a member.
+# ---- The first club, made with the command lines of INSTALL.md, and a member.
 by_page 'A club'
 # Each club has its own folder for passes, because both clubs have a member amy.
 member_of() (

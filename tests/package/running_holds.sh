@@ -1,5 +1,5 @@
 #!/bin/sh
-# The claims of docs/RUNNING.md about installations, systemd units, copies and a full disk are true.
+# The claims of docs/INSTALL.md and docs/CARE.md about installations, systemd units, copies and a full disk are true.
 #
 # A failed installation changes nothing. The systemd units allow each system call that the desk needs.
 #
