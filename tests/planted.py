@@ -908,6 +908,44 @@ PLANTS = {
         "",
         "test_vectors[go]",
     ),
+    "passes_exchanged": (
+        "bindings/python/clubpass/__init__.py",
+        "made = _made(Pass)\n",
+        "made, caveats = _made(Pass), caveats[:7]\n",
+        "test_pymacaroons_narrows_as_the_library_does",
+    ),
+    "passes_of_odd_types": (
+        "bindings/python/clubpass/__init__.py",
+        "if type(value) is bytes:",
+        "if isinstance(value, bytes):",
+        "'bytes that state a greater length', 'type'",
+    ),
+    "passes_of_odd_types:signs-foreign-memory": (
+        "bindings/python/clubpass/__init__.py",
+        "if type(value) is not bytes:",
+        "if not isinstance(value, bytes):",
+        "'root', 'bytes that state a greater length', 'type'",
+    ),
+    "passes_of_odd_types:a-pool-of-objects": (
+        "bindings/python/clubpass/__init__.py",
+        "    made._at = ctypes.byref(Object())\n",
+        "    made._at = POOL.pop() if POOL else ctypes.byref(Object())\n"
+        "    return made\n\n\nPOOL = []\nPass.__del__ = lambda it: POOL.append(it._at)\n\n\n"
+        "def unused(made):\n",
+        "test_a_pass_that_outlives_its_deletion",
+    ),
+    "passes_of_odd_types:an-object-with-a-length": (
+        "bindings/node/clubpass.js",
+        'throw new TypeError("a text must be a string or a Buffer");',
+        "return Buffer.from(text);",
+        "'an object that states a length of 50,000,000', 'type'",
+    ),
+    "passes_of_odd_types:memory-of-threads": (
+        "bindings/node/clubpass.c",
+        "napi_is_arraybuffer(env, memory, &is) != napi_ok || !is)",
+        "false)",
+        "'memory that threads share', 'type'",
+    ),
     "passes_by_pymacaroons": ("clubdesk", "caveat denies", "caveat deniex", "caveat deniex"),
     "proxies": (
         "deploy/nginx.conf",

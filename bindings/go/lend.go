@@ -1,4 +1,4 @@
-// Narrows a pass. Prints the narrowed pass, and whether README's root signed the pass: lend < PASS.
+// Narrows a pass. Prints the narrowed pass, and whether README's root signed it: lend < PASS.
 package main
 
 import (

@@ -1,4 +1,5 @@
-/* The library of passes for Node.js, through Node-API. Functions take and return Buffers. An object is a Buffer of the size of `clubpass`. */
+/* The library of passes for Node.js, through Node-API. Functions take and return Buffers. An object
+ * is a Buffer of the size of `clubpass`. */
 #define NAPI_VERSION 8
 #include <clubpass.h>
 #include <node_api.h>
@@ -12,18 +13,32 @@ typedef struct {
 
 static uint8_t none[1];
 
-/* Reads `count` arguments, which must be Buffers. Returns false, with an exception, if an argument isn't a Buffer. */
-static bool buffers(napi_env env, napi_callback_info info, size_t count, napi_value *values, bytes *into) {
+/* Reads a Buffer or another Uint8Array. The length is that of the memory, whatever JavaScript says
+ * about it. Refuses memory that another thread may write during a call. */
+static bool bytes_of(napi_env env, napi_value value, bytes *into) {
+    napi_typedarray_type type;
+    napi_value memory = NULL;
+    void *at = NULL;
+    bool is = false;
+    if (napi_is_typedarray(env, value, &is) != napi_ok || !is ||
+        napi_get_typedarray_info(env, value, &type, &into->len, &at, &memory, NULL) != napi_ok ||
+        type != napi_uint8_array || napi_is_arraybuffer(env, memory, &is) != napi_ok || !is)
+        return false;
+    into->at = into->len > 0 ? at : none;
+    return true;
+}
+
+/* Reads `count` arguments, which must be Buffers. Returns false, with an exception, if an argument
+ * isn't a Buffer. */
+static bool buffers(napi_env env, napi_callback_info info, size_t count, napi_value *values,
+                    bytes *into) {
     size_t given = count;
     napi_get_cb_info(env, info, &given, values, NULL, NULL);
     for (size_t i = 0; i < count; i++) {
-        void *at = NULL;
-        bool is = false;
-        if (i >= given || napi_is_buffer(env, values[i], &is) != napi_ok || !is || napi_get_buffer_info(env, values[i], &at, &into[i].len) != napi_ok) {
-            napi_throw_type_error(env, NULL, "a Buffer is missing");
+        if (i >= given || !bytes_of(env, values[i], &into[i])) {
+            napi_throw_type_error(env, NULL, "a Buffer is missing, or shared with a thread");
             return false;
         }
-        into[i].at = into[i].len > 0 ? at : none;
     }
     return true;
 }
@@ -78,7 +93,9 @@ static napi_value mint(napi_env env, napi_callback_info info) {
     clubpass *pass;
     if (!buffers(env, info, 4, values, given) || !(pass = object_of(env, given[3])))
         return NULL;
-    return number(env, clubpass_mint(given[0].at, given[0].len, given[1].at, given[1].len, given[2].at, given[2].len, pass));
+    bytes root = given[0], location = given[1], identifier = given[2];
+    return number(env, clubpass_mint(root.at, root.len, location.at, location.len, identifier.at,
+                                     identifier.len, pass));
 }
 
 static napi_value narrow(napi_env env, napi_callback_info info) {
@@ -102,10 +119,13 @@ static napi_value is_signed(napi_env env, napi_callback_info info) {
 static napi_value is_caveat(napi_env env, napi_callback_info info) {
     napi_value values[1];
     bytes given[1];
-    return buffers(env, info, 1, values, given) ? truth(env, clubpass_is_caveat(given[0].at, given[0].len)) : NULL;
+    if (!buffers(env, info, 1, values, given))
+        return NULL;
+    return truth(env, clubpass_is_caveat(given[0].at, given[0].len));
 }
 
-/* Takes an object and the number of a part. 0 is the location, 1 the identifier, 2 the signature, and 3 the first caveat. */
+/* Takes an object and the number of a part. 0 is the location, 1 the identifier, 2 the signature,
+ * and 3 the first caveat. */
 static napi_value part(napi_env env, napi_callback_info info) {
     napi_value values[2] = {NULL, NULL};
     bytes given[1];
@@ -161,16 +181,21 @@ static napi_value caveat_count(napi_env env, napi_callback_info info) {
 /* Reads an argument that must be a whole number of at most `most`. */
 static bool whole_at(napi_env env, napi_value value, uint64_t most, uint64_t *into) {
     double found = -1;
-    if (napi_get_value_double(env, value, &found) != napi_ok || !(found >= 0 && found < 9007199254740992.0))
+    if (napi_get_value_double(env, value, &found) != napi_ok ||
+        !(found >= 0 && found < 9007199254740992.0))
         return false;
     *into = (uint64_t)found;
     return (double)*into == found && *into <= most;
 }
 
-/* Takes an object, a facility's name, and the numbers of a request in the order below. Returns the number of the fault and the number of the caveat. */
+/* Takes an object, a facility's name, and the numbers of a request in the order below. Returns the
+ * number of the fault and the number of the caveat. */
 static napi_value first_fault(napi_env env, napi_callback_info info) {
     enum { ACTION = 2, KIND, MOMENT, DAY, HOUR, GUESTS, OWED, SPENT, COUNT };
-    static const uint64_t most[COUNT] = {0, 0, UINT32_MAX, UINT32_MAX, UINT32_MAX, UINT16_MAX, UINT8_MAX, UINT8_MAX, UINT64_MAX, UINT64_MAX};
+    static const uint64_t most[COUNT] = {[ACTION] = UINT32_MAX, [KIND] = UINT32_MAX,
+                                         [MOMENT] = UINT32_MAX, [DAY] = UINT16_MAX,
+                                         [HOUR] = UINT8_MAX,    [GUESTS] = UINT8_MAX,
+                                         [OWED] = UINT64_MAX,   [SPENT] = UINT64_MAX};
     napi_value values[COUNT] = {NULL}, made = NULL;
     uint64_t found[COUNT] = {0};
     bytes given[2];
@@ -184,9 +209,15 @@ static napi_value first_fault(napi_env env, napi_callback_info info) {
         fine = fine && whole_at(env, values[i], most[i], &found[i]);
     clubpass_fault fault = CLUBPASS_BAD_ASK;
     if (fine) {
-        clubpass_ask ask = {.owed = found[OWED], .spent = found[SPENT], .action = (uint32_t)found[ACTION], .kind = (uint32_t)found[KIND],
-                            .moment = (uint32_t)found[MOMENT], .day = (uint16_t)found[DAY], .hour = (uint8_t)found[HOUR],
-                            .guests = (uint8_t)found[GUESTS], .facility_len = (uint8_t)given[1].len};
+        clubpass_ask ask = {.owed = found[OWED],
+                            .spent = found[SPENT],
+                            .action = (uint32_t)found[ACTION],
+                            .kind = (uint32_t)found[KIND],
+                            .moment = (uint32_t)found[MOMENT],
+                            .day = (uint16_t)found[DAY],
+                            .hour = (uint8_t)found[HOUR],
+                            .guests = (uint8_t)found[GUESTS],
+                            .facility_len = (uint8_t)given[1].len};
         memcpy(ask.facility, given[1].at, given[1].len);
         fault = clubpass_first_fault(pass, &ask, &at);
     }
@@ -200,8 +231,11 @@ NAPI_MODULE_INIT() {
     static const struct {
         const char *name;
         napi_callback call;
-    } calls[] = {{"read", read_text}, {"mint", mint}, {"narrow", narrow}, {"isSigned", is_signed}, {"isCaveat", is_caveat},
-                 {"part", part}, {"write", write_text}, {"form", form}, {"caveatCount", caveat_count}, {"firstFault", first_fault}};
+    } calls[] = {{"read", read_text},          {"mint", mint},
+                 {"narrow", narrow},           {"isSigned", is_signed},
+                 {"isCaveat", is_caveat},      {"part", part},
+                 {"write", write_text},        {"form", form},
+                 {"caveatCount", caveat_count}, {"firstFault", first_fault}};
     for (size_t i = 0; i < sizeof calls / sizeof *calls; i++) {
         napi_value made = NULL;
         napi_create_function(env, calls[i].name, NAPI_AUTO_LENGTH, calls[i].call, NULL, &made);

@@ -1,5 +1,5 @@
 "use strict";
-// Narrows a pass. Prints the narrowed pass, and whether README's root signed the pass: node lend.js < PASS.
+// Narrows a pass. Prints the narrowed pass, and whether README's root signed it: lend.js < PASS.
 
 const { Pass } = require("./clubpass.js");
 

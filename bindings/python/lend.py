@@ -1,4 +1,4 @@
-"""Narrows a pass. Prints the narrowed pass, and whether README's root signed the pass: lend.py < PASS."""
+"""Narrows a pass. Prints the narrowed pass, and whether README's root signed it: lend.py < PASS."""
 import sys
 
 from clubpass import Pass, PassError

@@ -1,4 +1,4 @@
-"""Builds the wheel. The wheel contains a C library, and no code that depends on a version of Python."""
+"""Builds the wheel. The wheel contains a C library, and no code that needs a certain Python."""
 from setuptools import Distribution, setup
 from wheel.bdist_wheel import bdist_wheel
 

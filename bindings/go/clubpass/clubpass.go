@@ -31,9 +31,9 @@ const (
 )
 
 var texts = map[Fault]string{
-	TooLong: "too long", Malformed: "malformed", ThirdParty: "third-party caveat", TooMany: "too many caveats",
-	Memory: "out of memory", NoForm: "no such form", BadAsk: "no such ask", NotUnderstood: "caveat not understood",
-	Denied: "caveat denies",
+	TooLong: "too long", Malformed: "malformed", ThirdParty: "third-party caveat",
+	TooMany: "too many caveats", Memory: "out of memory", NoForm: "no such form",
+	BadAsk: "no such ask", NotUnderstood: "caveat not understood", Denied: "caveat denies",
 }
 
 func (fault Fault) Error() string {
@@ -88,8 +88,8 @@ func Parse(text []byte) (Pass, error) {
 // Mint makes a new pass without caveats, signed under a root.
 func Mint(root, identifier, location []byte) (Pass, error) {
 	var made Pass
-	err := check(C.clubpass_mint(at(root), C.size_t(len(root)), at(location), C.size_t(len(location)), at(identifier),
-		C.size_t(len(identifier)), &made.object))
+	err := check(C.clubpass_mint(at(root), C.size_t(len(root)), at(location),
+		C.size_t(len(location)), at(identifier), C.size_t(len(identifier)), &made.object))
 	return made, err
 }
 
@@ -97,14 +97,16 @@ func Mint(root, identifier, location []byte) (Pass, error) {
 func (pass Pass) Narrow(caveats ...string) (Pass, error) {
 	for _, caveat := range caveats {
 		data := []byte(caveat)
-		if err := check(C.clubpass_narrow(&pass.object, at(data), C.size_t(len(data)))); err != nil {
+		err := check(C.clubpass_narrow(&pass.object, at(data), C.size_t(len(data))))
+		if err != nil {
 			return Pass{}, err
 		}
 	}
 	return pass, nil
 }
 
-// Verify returns whether the root signed the pass with its caveats. Verify doesn't test the caveats against a request.
+// Verify returns whether the root signed the pass with its caveats. Verify doesn't test the
+// caveats against a request.
 func (pass *Pass) Verify(root []byte) bool {
 	return bool(C.clubpass_is_signed(&pass.object, at(root), C.size_t(len(root))))
 }
@@ -113,7 +115,8 @@ func (pass *Pass) Verify(root []byte) bool {
 func (pass *Pass) Text(form Form) (string, error) {
 	out := make([]byte, C.CLUBPASS_MAX_TEXT)
 	var length C.size_t
-	err := check(C.clubpass_write(&pass.object, C.uint32_t(form), at(out), C.size_t(len(out)), &length))
+	err := check(C.clubpass_write(
+		&pass.object, C.uint32_t(form), at(out), C.size_t(len(out)), &length))
 	return string(out[:length]), err
 }
 
@@ -180,8 +183,9 @@ const (
 	Room   Kind = C.CLUBPASS_ROOM_KIND
 )
 
-// An Ask has the values of a request that caveats restrict. Without a facility there is no slot, and calls ignore Day and Hour.
-// Moment and Day are the club's local time. Calls ignore the time zones of Moment and Day.
+// An Ask has the values of a request that caveats restrict. Without a facility there is no slot,
+// and calls ignore Day and Hour. Moment and Day are the club's local time. Calls ignore the time
+// zones of Moment and Day.
 type Ask struct {
 	Action      Action
 	Kind        Kind
@@ -202,11 +206,14 @@ func civil(moment time.Time) int64 {
 // object returns the Ask as a C struct, or false if a value is out of the struct's range.
 func (ask *Ask) object() (C.clubpass_ask, bool) {
 	made := C.clubpass_ask{
-		owed: C.uint64_t(ask.Owed), spent: C.uint64_t(ask.Spent), action: C.uint32_t(ask.Action), kind: C.uint32_t(ask.Kind),
-		guests: C.uint8_t(ask.Guests),
+		owed: C.uint64_t(ask.Owed), spent: C.uint64_t(ask.Spent), action: C.uint32_t(ask.Action),
+		kind: C.uint32_t(ask.Kind), guests: C.uint8_t(ask.Guests),
 	}
 	seconds := civil(ask.Moment)
-	if ask.Guests < 0 || ask.Guests > 255 || seconds < 0 || seconds/60 > 1<<32-1 || len(ask.Facility) > C.CLUBPASS_MAX_NAME {
+	if ask.Guests < 0 || ask.Guests > 255 || len(ask.Facility) > C.CLUBPASS_MAX_NAME {
+		return made, false
+	}
+	if seconds < 0 || seconds/60 > 1<<32-1 {
 		return made, false
 	}
 	made.moment = C.uint32_t(seconds / 60)
@@ -217,16 +224,18 @@ func (ask *Ask) object() (C.clubpass_ask, bool) {
 	if ask.Hour < 0 || ask.Hour > 255 || seconds < 0 || seconds/86400 > 1<<16-1 {
 		return made, false
 	}
-	made.day, made.hour, made.facility_len = C.uint16_t(seconds/86400), C.uint8_t(ask.Hour), C.uint8_t(len(ask.Facility))
+	made.day, made.hour = C.uint16_t(seconds/86400), C.uint8_t(ask.Hour)
+	made.facility_len = C.uint8_t(len(ask.Facility))
 	for place, letter := range []byte(ask.Facility) {
 		made.facility[place] = C.uint8_t(letter)
 	}
 	return made, true
 }
 
-// FirstFault tests the caveats one after another, but not the signature. If each caveat allows the request, FirstFault returns
-// 0 and nil. Otherwise FirstFault returns the number, from 1, of the first caveat that doesn't allow the request. The error is
-// then NotUnderstood or Denied. If a value of the request is out of range, FirstFault returns 0 and BadAsk.
+// FirstFault tests the caveats one after another, but not the signature. If each caveat allows the
+// request, FirstFault returns 0 and nil. Otherwise FirstFault returns the number, from 1, of the
+// first caveat that doesn't allow the request. The error is then NotUnderstood or Denied. If a
+// value of the request is out of range, FirstFault returns 0 and BadAsk.
 func (pass *Pass) FirstFault(ask Ask) (int, error) {
 	made, ok := ask.object()
 	if !ok {

@@ -5,20 +5,21 @@
     lent = clubpass.Pass.parse(text).narrow("kind = court", "guests <= 1")
     print(lent, lent.verify(root))
 
-A Pass never changes: `narrow` returns a new Pass. Roots, signatures and the parts of a pass are bytes. Except for roots, a method that
-takes bytes also takes a str, and encodes it as UTF-8. If a call of the library fails, the method raises a subclass of PassError.
+A Pass never changes: `narrow` returns a new Pass. Roots, signatures and the parts of a pass are
+bytes. Except for roots, a method that takes bytes also takes a str, which it encodes as UTF-8, or
+a bytearray, which it copies. A subclass of bytes is a TypeError, because its length may differ
+from its memory. If a call of the library fails, the method raises a subclass of PassError.
 """
 
 from __future__ import annotations
 
 import ctypes
-import os
-from collections import deque
 from dataclasses import dataclass
-from datetime import date, datetime
-from functools import lru_cache
-from pathlib import Path
+from datetime import date, datetime, timedelta
+from operator import index
 from typing import Any, Callable, Union
+
+from ._library import MAX_NAME, SIZE, AskObject, Object, is_signed, length, library, read
 
 __all__ = [
     "Ask",
@@ -34,12 +35,7 @@ __all__ = [
     "is_caveat",
 ]
 
-MAX_TEXT = 8192
-MAX_CAVEATS = 64
-MAX_NAME = 24
-_SIZE = 16 + 2 * MAX_CAVEATS + 32 + 8192
-
-Bytes = Union[bytes, str]
+Bytes = Union[bytes, bytearray, str]
 
 
 class PassError(ValueError):
@@ -63,7 +59,7 @@ class TooMany(PassError):
 
 
 class NoRoom(PassError):
-    """Memory ran out, or the location, identifier and caveats of the pass have more than 8,192 bytes."""
+    """Memory ran out, or location, identifier and caveats have more than 8,192 bytes."""
 
 
 class NotAnAsk(PassError):
@@ -79,91 +75,28 @@ _ACTIONS = {"view": 1, "book": 2, "cancel": 3, "account": 4}
 _KINDS = {None: 0, "court": 1, "boat": 2, "room": 3}
 
 
-class _Object(ctypes.Structure):
-    """The struct `clubpass` of the header. Only the library uses its members."""
-
-    _fields_ = [("words", ctypes.c_uint32 * (_SIZE // 4))]
-
-
-class _AskObject(ctypes.Structure):
-    """The struct `clubpass_ask` of the header."""
-
-    _fields_ = [
-        ("owed", ctypes.c_uint64),
-        ("spent", ctypes.c_uint64),
-        ("action", ctypes.c_uint32),
-        ("kind", ctypes.c_uint32),
-        ("moment", ctypes.c_uint32),
-        ("day", ctypes.c_uint16),
-        ("hour", ctypes.c_uint8),
-        ("guests", ctypes.c_uint8),
-        ("facility_len", ctypes.c_uint8),
-        ("facility", ctypes.c_uint8 * MAX_NAME),
-    ]
-
-
-def _load() -> ctypes.PyDLL:
-    beside = Path(__file__).with_name("libclubpass.so.0")
-    # PyDLL keeps the interpreter's lock during a call. A call takes microseconds, and releasing the lock would cost more time.
-    library = ctypes.PyDLL(
-        os.environ.get("CLUBPASS_LIBRARY")
-        or (str(beside) if beside.exists() else "libclubpass.so.0")
-    )
-    # Callers pass an _Object by `byref`. If the type of the argument were declared here, ctypes would test the type at each call.
-    text, size, pass_at, length = (
-        ctypes.c_char_p,
-        ctypes.c_size_t,
-        ctypes.c_void_p,
-        ctypes.POINTER(ctypes.c_size_t),
-    )
-    code = ctypes.c_uint32
-    for name, result, arguments in [
-        ("read", code, None),
-        ("form", code, [pass_at]),
-        ("location", code, [pass_at, text, size, length]),
-        ("identifier", code, [pass_at, text, size, length]),
-        ("caveat_count", size, [pass_at]),
-        ("caveat", code, [pass_at, size, text, size, length]),
-        ("signature", None, [pass_at, text]),
-        ("write", code, [pass_at, code, text, size, length]),
-        ("mint", code, [text, size, text, size, text, size, pass_at]),
-        ("narrow", code, [pass_at, text, size]),
-        ("is_signed", ctypes.c_bool, None),
-        ("first_fault", code, [pass_at, ctypes.POINTER(_AskObject), length]),
-        ("is_caveat", ctypes.c_bool, [text, size]),
-    ]:
-        function = getattr(library, f"clubpass_{name}")
-        function.restype, function.argtypes = result, arguments
-    return library
-
-
-_library = _load()
-# clubpass_read and clubpass_is_signed declare no argument types, because ctypes would test the types at each call. Callers pass bytes, the
-# `_length` of the bytes, and a `byref`.
-_read: Callable[..., int] = _library.clubpass_read
-_is_signed: Callable[..., bool] = _library.clubpass_is_signed
-_length = lru_cache(1024)(ctypes.c_size_t.from_param)
-
-# Objects of deleted passes, for reuse. Making a new object would take a third of the time of reading a pass.
-_spare: deque[Any] = deque(maxlen=16)
-_new = object.__new__
-
-
-def _bytes(value: Bytes) -> bytes:
-    if isinstance(value, str):
-        return value.encode()
-    if isinstance(value, bytes):
+def _bytes(value: Bytes, errors: str = "strict") -> bytes:
+    """Returns a value as bytes whose `len` is the length of their memory. So a subclass of str may
+    not choose how it is encoded, and a subclass of bytes or bytearray is refused."""
+    if type(value) is bytes:
         return value
+    if isinstance(value, str):
+        return str.encode(value, "utf-8", errors)
+    if type(value) is bytearray:
+        return bytes(value)
     raise TypeError(f"bytes or str, not {type(value).__name__}")
 
 
 def _text(value: Bytes) -> bytes:
-    """Returns the bytes of a text. A str that UTF-8 can't encode becomes bytes that aren't UTF-8. These bytes are neither a pass nor a caveat."""
-    return value.encode("utf-8", "surrogatepass") if isinstance(value, str) else _bytes(value)
+    """Returns the bytes of a text. A str that UTF-8 can't encode becomes bytes that aren't UTF-8.
+    These bytes are neither a pass nor a caveat."""
+    return _bytes(value, "surrogatepass")
 
 
-def _not_a_root(value: object) -> TypeError:
-    return TypeError(f"a root is bytes, not {type(value).__name__}")
+def _root(value: bytes) -> bytes:
+    if type(value) is not bytes:
+        raise TypeError(f"a root is bytes, not {type(value).__name__}")
+    return value
 
 
 def _check(code: int) -> None:
@@ -175,12 +108,13 @@ def _check(code: int) -> None:
 def is_caveat(text: Bytes) -> bool:
     """Returns whether a text is a caveat that the desk understands, such as `kind = court`."""
     line = _text(text)
-    return bool(_library.clubpass_is_caveat(line, len(line)))
+    return bool(library.clubpass_is_caveat(line, len(line)))
 
 
 @dataclass(frozen=True)
 class Ask:
-    """The values of a request that caveats restrict. `action` is view, book, cancel or account. Without a facility there is no slot.
+    """The values of a request that caveats restrict. `action` is view, book, cancel or account.
+    Without a facility there is no slot.
 
     `moment` is the club's local time. A call ignores the time zone of `moment`.
     """
@@ -195,42 +129,48 @@ class Ask:
     owed: int = 0
     spent: int = 0
 
-    def _object(self) -> _AskObject:
+    def _object(self) -> AskObject:
+        numbers = self._numbers()
         name = b"" if self.facility is None else _text(self.facility)
-        minutes = (self.moment.replace(tzinfo=None) - datetime(1970, 1, 1)).total_seconds() // 60
-        day = 0 if self.day is None else (self.day - date(1970, 1, 1)).days
-        if self.action not in _ACTIONS or self.kind not in _KINDS:
-            raise NotAnAsk(f"no such action or kind: {self.action}, {self.kind}")
-        limits = [
-            (self.hour, 8),
-            (self.guests, 8),
-            (self.owed, 64),
-            (self.spent, 64),
-            (minutes, 32),
-            (day, 16),
-        ]
-        if (self.facility is not None and not 0 < len(name) <= MAX_NAME) or not all(
-            0 <= value < 1 << bits for value, bits in limits
-        ):
+        is_named = self.facility is None or 0 < len(name) <= MAX_NAME
+        if not is_named or any(number < 0 or number >> bits for number, bits in numbers):
             raise NotAnAsk(NotAnAsk.__doc__)
-        return _AskObject(
-            self.owed,
-            self.spent,
+        moment, day, hour, guests, owed, spent = (number for number, _ in numbers)
+        return AskObject(
+            owed,
+            spent,
             _ACTIONS[self.action],
             _KINDS[self.kind],
-            int(minutes),
+            moment,
             day,
-            self.hour,
-            self.guests,
+            hour,
+            guests,
             len(name),
             (ctypes.c_uint8 * MAX_NAME)(*name),
         )
 
+    def _numbers(self) -> list[tuple[int, int]]:
+        """Returns the numbers of the request, each with the bits that its field has."""
+        if self.action not in _ACTIONS or self.kind not in _KINDS:
+            raise NotAnAsk(f"no such action or kind: {self.action}, {self.kind}")
+        if not isinstance(self.moment, datetime) or not isinstance(self.day, (date, type(None))):
+            raise TypeError("`moment` is a datetime, and `day` a date")
+        since_1970 = self.moment.replace(tzinfo=None) - datetime(1970, 1, 1)
+        day = 0 if self.day is None else self.day.toordinal() - date(1970, 1, 1).toordinal()
+        return [
+            (since_1970 // timedelta(minutes=1), 32),
+            (day, 16),
+            (index(self.hour), 8),
+            (index(self.guests), 8),
+            (index(self.owed), 64),
+            (index(self.spent), 64),
+        ]
+
 
 @dataclass(frozen=True)
 class CaveatFault:
-    """The first caveat that isn't understood or that denies a request. `number` counts from 1. `understood` is true if the caveat denies the
-    request."""
+    """The first caveat that isn't understood or that denies a request. `number` counts from 1.
+    `understood` is true if the caveat denies the request."""
 
     number: int
     understood: bool
@@ -240,16 +180,16 @@ class CaveatFault:
 
 
 class Pass:
-    """A pass, with the form of the text that it was read from. `str` returns the pass's text in the same form."""
+    """A pass, with the form of the text that it was read from. `str` returns the pass's text in the
+    same form."""
 
     __slots__ = ("_at",)
-    _at: Any  # its object, by reference
+    # The pass's object, by reference. No other pass ever has this object, so that a pass that
+    # outlives its deletion keeps its bytes.
+    _at: Any
 
     def __new__(cls) -> Pass:
         raise TypeError("Pass.parse reads a pass, and Pass.mint makes one")
-
-    def __del__(self, keep: Callable[[Any], None] = _spare.append) -> None:
-        keep(self._at)
 
     def __copy__(self) -> Pass:
         return self
@@ -259,49 +199,45 @@ class Pass:
 
     @classmethod
     def parse(cls, text: Bytes) -> Pass:
-        """Reads a pass from its text in any form. Raises TooLong, Malformed, ThirdParty or TooMany, and NoRoom if memory runs out."""
-        try:
-            line = text.encode() if isinstance(text, str) else _bytes(text)
-        except UnicodeEncodeError:
-            line = _text(text)
-        made = _made(cls)
-        code = _read(line, _length(len(line)), made._at)
+        """Reads a pass from its text in any form. Raises TooLong, Malformed, ThirdParty or TooMany,
+        and NoRoom if memory runs out."""
+        line, made = _text(text), _made(cls)
+        code = read(line, length(len(line)), made._at)
         if code != _OK:
             _check(code)
         return made
 
     @classmethod
     def mint(cls, root: bytes, identifier: Bytes, location: Bytes = b"") -> Pass:
-        """Makes a new pass without caveats, signed under a root. Raises NoRoom if the location and the identifier together have more than 8,192
-        bytes."""
-        if not isinstance(root, bytes):
-            raise _not_a_root(root)
-        place, name, made = _bytes(location), _bytes(identifier), _made(cls)
-        _check(
-            _library.clubpass_mint(root, len(root), place, len(place), name, len(name), made._at)
-        )
+        """Makes a new pass without caveats, signed under a root. Raises NoRoom if the location and
+        the identifier together have more than 8,192 bytes."""
+        root, place, name = _root(root), _bytes(location), _bytes(identifier)
+        made = _made(cls)
+        _check(library.clubpass_mint(root, len(root), place, len(place), name, len(name), made._at))
         return made
 
     def narrow(self, *caveats: Bytes) -> Pass:
-        """Returns the pass with these caveats added. Raises TooMany for more than 64 caveats, and NoRoom if the parts of the pass would have more
-        than 8,192 bytes."""
+        """Returns the pass with these caveats added. Raises TooMany for more than 64 caveats, and
+        NoRoom if the parts of the pass would have more than 8,192 bytes."""
         made = _made(Pass)
-        ctypes.memmove(made._at, self._at, _SIZE)
+        ctypes.memmove(made._at, self._at, SIZE)
         for caveat in caveats:
             line = _bytes(caveat)
-            _check(_library.clubpass_narrow(made._at, line, len(line)))
+            _check(library.clubpass_narrow(made._at, line, len(line)))
         return made
 
     def verify(self, root: bytes) -> bool:
-        """Returns whether the root signed the pass with its caveats. The call doesn't test the caveats against a request."""
-        if not isinstance(root, bytes):
-            raise _not_a_root(root)
-        return _is_signed(self._at, root, _length(len(root)))
+        """Returns whether the root signed the pass with its caveats. The call doesn't test the
+        caveats against a request."""
+        return is_signed(self._at, _root(root), length(len(root)))
 
     def first_fault(self, ask: Ask) -> CaveatFault | None:
-        """Returns the first caveat that isn't understood or that denies the request, or None. The call doesn't test the signature."""
+        """Returns the first caveat that isn't understood or that denies the request, or None. The
+        call doesn't test the signature."""
+        if not isinstance(ask, Ask):
+            raise TypeError(f"an Ask, not {type(ask).__name__}")
         number = ctypes.c_size_t()
-        code = _library.clubpass_first_fault(
+        code = library.clubpass_first_fault(
             self._at, ctypes.byref(ask._object()), ctypes.byref(number)
         )
         if code in _VERDICTS:
@@ -310,53 +246,55 @@ class Pass:
         return None
 
     def to(self, form: str) -> str:
-        """Returns the text in a form: v1, v2 or json. Raises TooLong if the text would have more than 8,192 bytes, and NoRoom if memory runs out."""
+        """Returns the text in a form: v1, v2 or json. Raises TooLong if the text would have more
+        than 8,192 bytes, and NoRoom if memory runs out."""
         if form not in _FORMS:
             raise ValueError(f"no such form: {form}")
         return self._told(
-            lambda *out: _library.clubpass_write(self._at, _FORMS[form], *out)
+            lambda *out: library.clubpass_write(self._at, _FORMS[form], *out)
         ).decode()
 
     @property
     def form(self) -> str:
         """The form of the text that the pass was read from, or v2 for a new pass."""
-        return _FORM_NAMES[_library.clubpass_form(self._at)]
+        return _FORM_NAMES[library.clubpass_form(self._at)]
 
     @property
     def location(self) -> bytes:
         """An unsigned hint about where the pass is valid."""
-        return self._told(lambda *out: _library.clubpass_location(self._at, *out))
+        return self._told(lambda *out: library.clubpass_location(self._at, *out))
 
     @property
     def identifier(self) -> bytes:
         """The name of the root."""
-        return self._told(lambda *out: _library.clubpass_identifier(self._at, *out))
+        return self._told(lambda *out: library.clubpass_identifier(self._at, *out))
 
     @property
     def caveats(self) -> list[bytes]:
         """The caveats, in the order in which they were added."""
         return [
-            self._told(lambda *out, place=place: _library.clubpass_caveat(self._at, place, *out))
-            for place in range(_library.clubpass_caveat_count(self._at))
+            self._told(lambda *out, place=place: library.clubpass_caveat(self._at, place, *out))
+            for place in range(library.clubpass_caveat_count(self._at))
         ]
 
     @property
     def signature(self) -> bytes:
         """The last signature of the chain, 32 bytes."""
         out = ctypes.create_string_buffer(32)
-        _library.clubpass_signature(self._at, out)
+        library.clubpass_signature(self._at, out)
         return out.raw
 
     def _told(self, call: Callable[..., int]) -> bytes:
-        """Returns the bytes that a call writes. Repeats the call with a longer buffer if a buffer of 1,024 bytes is too short."""
-        room, length = 1024, ctypes.c_size_t()
+        """Returns the bytes that a call writes. Repeats the call with a longer buffer if a buffer
+        of 1,024 bytes is too short."""
+        room, written = 1024, ctypes.c_size_t()
         while True:
             out = ctypes.create_string_buffer(room)
-            code = call(out, room, ctypes.byref(length))
+            code = call(out, room, ctypes.byref(written))
             if code != _SHORT_BUFFER:
                 _check(code)
-                return out.raw[: length.value]
-            room = length.value
+                return out.raw[: written.value]
+            room = written.value
 
     def __str__(self) -> str:
         return self.to(self.form)
@@ -375,10 +313,7 @@ class Pass:
 
 
 def _made(kind: type[Pass]) -> Pass:
-    """Returns a pass with an object of arbitrary bytes, for a call that fills the object."""
-    made = _new(kind)
-    try:
-        made._at = _spare.pop()
-    except IndexError:
-        made._at = ctypes.byref(_Object())
+    """Returns a pass with an empty object, for a call that fills the object."""
+    made = object.__new__(kind)
+    made._at = ctypes.byref(Object())
     return made
