@@ -9,13 +9,16 @@
     client.py show FACILITY DAY HOUR          shows a slot
     client.py account                         shows the account
 
-The environment variable DESK is the desk's address (by default http://127.0.0.1:8080), and PASS is the path of the file with the pass (by default
-pass). Before the client sends a booking or cancellation, it writes the request to the file RECORD (by default record). The client also writes the
-reply to this file. If no reply comes, the client repeats the request for PATIENCE seconds (by default 60). The client prints each reply. The client
-exits with status 1 after a refusal, and with status 3 if no reply came. After status 3, the command `repeat` finishes the request.
+The environment variable DESK is the desk's address (by default http://127.0.0.1:8080), and PASS is
+the path of the file with the pass (by default pass). Before the client sends a booking or
+cancellation, it writes the request to the file RECORD (by default record). The client also writes
+the reply to this file. If no reply comes, the client repeats the request for PATIENCE seconds (by
+default 60). The client prints each reply. The client exits with status 1 after a refusal, and with
+status 3 if no reply came. After status 3, the command `repeat` finishes the request.
 
-The desk charges at most POINTS, by default the price that the slot has when the command begins. If the price has risen, the desk refuses the booking,
-and the printed reply also has the new price for one person. For this, the client narrows the pass, which must be in V2 (passtool convert --form v2).
+The desk charges at most POINTS, by default the price that the slot has when the command begins. If
+the price has risen, the desk refuses the booking, and the printed reply also has the new price for
+one person. For this, the client narrows the pass, which must be in V2 (passtool convert --form v2).
 """
 import fcntl
 import json
@@ -34,7 +37,8 @@ TIMEOUT, FIRST_PAUSE, LONGEST_PAUSE = 10, 0.05, 5  # seconds
 
 
 class NoReply(Exception):
-    """Reports that no reply came, that the reply wasn't from the desk, or that the desk was unavailable."""
+    """Reports that no reply came, that the reply wasn't from the desk, or that the desk was
+    unavailable."""
 
 
 class Record:
@@ -46,7 +50,8 @@ class Record:
         fcntl.flock(self.file, fcntl.LOCK_EX)  # only one program at a time uses the file
         self.file.seek(0)
         text = self.file.read()
-        # If a request's line is truncated, the request was never sent. If a reply's line is truncated, a repeated request gets the reply again.
+        # If a request's line is truncated, the request was never sent. If a reply's line is
+        # truncated, a repeated request gets the reply again.
         self.file.truncate(text.rfind(b"\n") + 1)
         for line in text.splitlines(keepends=True):
             if line.endswith(b"\n"):
@@ -75,7 +80,8 @@ class Record:
 
 
 class Client:
-    """Sends requests to the desk. Each reply is a dict. If the desk refuses the request, the dict has the key `fault`."""
+    """Sends requests to the desk. Each reply is a dict. If the desk refuses the request, the dict
+    has the key `fault`."""
 
     def __init__(self, address, text, record, patience=60):
         self.address, self.text, self.record, self.patience = address, text, record, patience
@@ -122,7 +128,8 @@ class Client:
         return reply
 
     def _book_at_price(self, path, booking):
-        """Sends a booking so that the desk charges at most the recorded points. If the price has risen, the reply has the new price."""
+        """Sends a booking so that the desk charges at most the recorded points. If the price has
+        risen, the reply has the new price."""
         points, body = booking.get("points"), b'{"guests":%d}' % booking["guests"]
         before = None
         while True:
@@ -141,13 +148,14 @@ class Client:
             before = spent  # the key spent points elsewhere in the meantime
 
     def price_of(self, facility, day, hour, guests):
-        """Returns the points for a booking at the slot's present price, or None if the pass doesn't show the slot."""
+        """Returns the points for a booking at the slot's present price, or None if the pass doesn't
+        show the slot."""
         price = self.show(facility, day, hour).get("price")
         return None if price is None else price * (guests + 1)
 
     def book(self, facility, day, hour, guests, points=None):
-        """Books under a new random number, for at most `points`, by default for the present price. Draws a new number if another program with a pass
-        of the same key used the number."""
+        """Books under a new random number, for at most `points`, by default for the present price.
+        Draws a new number if another program with a pass of the same key used the number."""
         narrow(self.text, [])  # fails if the pass isn't in V2
         if points is None:
             points = self.price_of(facility, day, hour, guests)
@@ -168,7 +176,8 @@ class Client:
                 return reply
 
     def cancel(self, number):
-        """Cancels a booking on record. If the booking has no reply yet, first sends the request for the booking again."""
+        """Cancels a booking on record. If the booking has no reply yet, first sends the request for
+        the booking again."""
         if self.record.bookings[number]["book"] is None:
             self._finish(number, "book")
         self.record.keep(number=number, action="cancel")

@@ -1,7 +1,8 @@
 // Narrows passes in V1, V2 or JSON with the package macaroon.v2: narrow CAVEAT.. < passes
 //
-// Reads one pass per line. Prints each pass in its original form, with the new caveats after the old caveats. The program needs the Debian
-// packages golang-go and golang-gopkg-macaroon.v2-dev. Build the program with
+// Reads one pass per line. Prints each pass in its original form, with the new caveats after the
+// old caveats. The program needs the Debian packages golang-go and golang-gopkg-macaroon.v2-dev.
+// Build the program with
 //
 //	GO111MODULE=off GOPATH=/usr/share/gocode go build narrow.go
 package main

@@ -1,8 +1,8 @@
 #!/usr/bin/env python3
 """Narrows passes in V1, V2 or JSON with pymacaroons: narrow_pymacaroons.py CAVEAT.. < passes
 
-Reads one pass per line. Prints each pass in its original form, with the new caveats after the old caveats.
-The program needs the Debian package python3-pymacaroons.
+Reads one pass per line. Prints each pass in its original form, with the new caveats after the old
+caveats. The program needs the Debian package python3-pymacaroons.
 """
 import sys
 

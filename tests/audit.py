@@ -1,16 +1,20 @@
 #!/usr/bin/env python3
-"""docs/proofs/AUDIT.md is up to date, and the citations in docs/proofs/PROMISES.md, docs/proofs/COMPUTED.md and docs/TOUR.md hold.
+"""docs/proofs/AUDIT.md is up to date, and the citations in docs/proofs/PROMISES.md,
+docs/proofs/COMPUTED.md and docs/TOUR.md hold.
 
-The test also checks that the rules in Python (`tests/reference`) give the answers of docs/vectors.json.
+The test also checks that the rules in Python (`tests/reference`) give the answers of
+docs/vectors.json.
 
-AUDIT lists the definitions that a reader must trust for each promise. AUDIT also marks the definitions that the vectors exercise. Each contract that
-PROMISES cites must exist. A computing definition computes what another definition states. PROMISES names the few computing definitions that its
-contracts may depend on. The contracts that PROMISES cites, and the values of ghosts, may depend on no other computing definition. A ghost is a value
-that only contracts use. Each contract that COMPUTED cites must depend on a computing definition. Each step of a path in TOUR must cite the next step.
-Without an option, the program writes docs/proofs/AUDIT.md.
+AUDIT lists the definitions that a reader must trust for each promise. AUDIT also marks the
+definitions that the vectors exercise. Each contract that PROMISES cites must exist. A computing
+definition computes what another definition states. PROMISES names the few computing definitions
+that its contracts may depend on. The contracts that PROMISES cites, and the values of ghosts, may
+depend on no other computing definition. A ghost is a value that only contracts use. Each contract
+that COMPUTED cites must depend on a computing definition. Each step of a path in TOUR must cite the
+next step. Without an option, the program writes docs/proofs/AUDIT.md.
 
-The program reads the promises in docs/proofs/PROMISES.md, the clauses that state these promises, and the definitions that the clauses cite.
-tests/lib/definitions.py reads the definitions.
+The program reads the promises in docs/proofs/PROMISES.md, the clauses that state these promises,
+and the definitions that the clauses cite. tests/lib/definitions.py reads the definitions.
 
     tests/audit.py                  writes docs/proofs/AUDIT.md
     tests/audit.py --check          checks whether docs/proofs/AUDIT.md is current
@@ -53,8 +57,8 @@ class Fault(Exception):
 
 
 def clauses_of(book, function, labels=()):
-    """Returns (file, function, label, text, place) for each precondition of the function, and for each clause with one of the labels. Without labels,
-    returns all clauses of the function."""
+    """Returns (file, function, label, text, place) for each precondition of the function, and for
+    each clause with one of the labels. Without labels, returns all clauses of the function."""
     *before, name = function.split("::")
     owner = next((it for it in before if it[0].isupper()), None)
     crate = before[0] if before and before[0] in book.crates else "club_gate"
@@ -77,7 +81,8 @@ def clauses_of(book, function, labels=()):
 
 
 def below_all(book, function):
-    """Returns each definition that any clause of a function cites, directly or through other definitions."""
+    """Returns each definition that any clause of a function cites, directly or through other
+    definitions."""
     cited = []
     for file, _, _, text, start in clauses_of(book, function):
         found, unknown = file.cited_by(start, text)
@@ -88,7 +93,8 @@ def below_all(book, function):
 
 
 class Promise:
-    """A promise of docs/proofs/PROMISES.md, with its title and the clauses that state it. `fields` has the record fields that the promise names."""
+    """A promise of docs/proofs/PROMISES.md, with its title and the clauses that state it. `fields`
+    has the record fields that the promise names."""
 
     def __init__(self, book, number, line):
         self.book, self.number = book, number
@@ -111,8 +117,8 @@ class Promise:
         self.below += [it for it in heads if it not in self.below]
 
     def read(self):
-        """Returns the definitions that the clauses cite, and the records whose fields the promise names. For such a record, returns only the
-        definitions that the named fields cite."""
+        """Returns the definitions that the clauses cite, and the records whose fields the promise
+        names. For such a record, returns only the definitions that the named fields cite."""
         cited, heads, used = [], [], set()
         for file, _, _, text, start in self.clauses:
             found, unknown = file.cited_by(start, text)
@@ -151,7 +157,8 @@ def promises_of(book):
 
 
 def named_as_computing():
-    """Returns the names of the computing definitions that promises depend on, according to docs/proofs/PROMISES.md."""
+    """Returns the names of the computing definitions that promises depend on, according to
+    docs/proofs/PROMISES.md."""
     found = re.search(
         r"Promises rest on \w+ computing functions: (.*?)\.", PROMISES.read_text(encoding="utf-8")
     )
@@ -159,13 +166,15 @@ def named_as_computing():
 
 
 def source_of(comments):
-    """Returns the sources that the head of a file and the comments of its definitions cite. A definition without a source is our own."""
+    """Returns the sources that the head of a file and the comments of its definitions cite. A
+    definition without a source is our own."""
     found = [it[0] for pattern in SOURCES for it in re.finditer(pattern, comments)]
     return ", ".join(dict.fromkeys(found))
 
 
 def in_reading_order(book, files):
-    """Sorts files by their crates, in the order of crates.txt. A file comes after the files that it imports."""
+    """Sorts files by their crates, in the order of crates.txt. A file comes after the files that it
+    imports."""
     done = []
 
     def visit(file):
@@ -256,8 +265,9 @@ class Audit:
         )
 
     def beside(self):
-        """Returns further computing definitions, which no promise depends on. Other clauses of the promises' functions depend on these definitions,
-        or cite ghosts whose values depend on them."""
+        """Returns further computing definitions, which no promise depends on. Other clauses of the
+        promises' functions depend on these definitions, or cite ghosts whose values depend on
+        them."""
         found = {
             id(it): it for function in self.functions() for it in below_all(self.book, function)
         }
@@ -279,7 +289,8 @@ class Audit:
         )
 
     def first_computed(self):
-        """Returns a dict from the id of each computing definition to the names of the clauses and non-computing definitions that cite it."""
+        """Returns a dict from the id of each computing definition to the names of the clauses and
+        non-computing definitions that cite it."""
         found = defaultdict(set)
         for it in self.every.values():
             if not it.is_computed:
@@ -310,8 +321,9 @@ class Audit:
         return "; ".join(f"{', '.join(names)} in `{file}`" for file, names in by_file.items())
 
     def definitions_of(self, crate):
-        """Yields the page's lines about a crate's definitions, file by file. Neighbouring definitions with the same promises and the same mark share
-        a list item. If a file has only one item, the item follows the file's name on the same line.
+        """Yields the page's lines about a crate's definitions, file by file. Neighbouring
+        definitions with the same promises and the same mark share a list item. If a file has only
+        one item, the item follows the file's name on the same line.
         """
         listed = [
             it
@@ -386,12 +398,14 @@ class Audit:
     # ---- other trusted parts
 
     def libraries_below(self, promise):
-        """Returns the crates whose code the functions of a promise may call: the crates of these functions, and all crates below them."""
+        """Returns the crates whose code the functions of a promise may call: the crates of these
+        functions, and all crates below them."""
         own = {file.crate for file, *_ in promise.clauses}
         return own | crates_below(own)
 
     def calls(self):
-        """Returns the names of the functions that our crates call in each library, and the promises that depend on these calls."""
+        """Returns the names of the functions that our crates call in each library, and the promises
+        that depend on these calls."""
         page = (
             subprocess.run(["rt", "doc"], capture_output=True, text=True, check=False).stdout
             if shutil.which("rt")
@@ -440,7 +454,8 @@ class Audit:
         return found, promises
 
     def words_of(self):
-        """Returns, for each library, the names in its specs that our definitions cite, and the promises that depend on these names."""
+        """Returns, for each library, the names in its specs that our definitions cite, and the
+        promises that depend on these names."""
         found, promises = defaultdict(set), defaultdict(set)
         for promise in self.promises:
             for it in promise.of("library"):
@@ -550,7 +565,8 @@ class Audit:
     # ---- what pages cite
 
     def named(self):
-        """Returns the names of the computing definitions that docs/proofs/PROMISES.md names, and of the computing definitions that they depend on."""
+        """Returns the names of the computing definitions that docs/proofs/PROMISES.md names, and of
+        the computing definitions that they depend on."""
         first = named_as_computing()
         return first | {
             it.name
@@ -559,8 +575,10 @@ class Audit:
         }
 
     def citing(self):
-        """Yields the faults in the tables of docs/proofs/PROMISES.md and docs/proofs/COMPUTED.md. A citation that can't be read is a fault. In PROMISES, no
-        contract may depend on a computing definition that the page doesn't name. In COMPUTED, each contract must depend on a computing definition.
+        """Yields the faults in the tables of docs/proofs/PROMISES.md and docs/proofs/COMPUTED.md. A
+        citation that can't be read is a fault. In PROMISES, no contract may depend on a computing
+        definition that the page doesn't name. In COMPUTED, each contract must depend on a computing
+        definition.
         """
         contracts, named = Contracts(self.book), self.named()
         for page in (PROMISES, COMPUTED):
@@ -580,7 +598,8 @@ class Audit:
     # ---- paths
 
     def paths(self):
-        """Yields the faults in the paths of the tour's second part. Each step must be a clause, or a definition that the previous step cites."""
+        """Yields the faults in the paths of the tour's second part. Each step must be a clause, or
+        a definition that the previous step cites."""
         text = TOUR.read_text(encoding="utf-8").partition("\n# ")[2]
         for question in re.split(r"^## ", text, flags=re.MULTILINE)[1:]:
             title, cited = question.splitlines()[0], None

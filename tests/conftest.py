@@ -1,7 +1,9 @@
-"""Fixtures for the tests that pytest runs: the programs, clubs in files, and a separate server for each request.
+"""Fixtures for the tests that pytest runs: the programs, clubs in files, and a separate server for
+each request.
 
-The files are in a file system in memory, where a sync costs no time. With the option `--scripts`, pytest imports no test file. pytest then runs
-programs of tests/ as tests, through tests/lib/scripts.py. The runner tests/run calls pytest with `--scripts`."""
+The files are in a file system in memory, where a sync costs no time. With the option `--scripts`,
+pytest imports no test file. pytest then runs programs of tests/ as tests, through
+tests/lib/scripts.py. The runner tests/run calls pytest with `--scripts`."""
 
 import json
 import shutil
@@ -112,7 +114,8 @@ def pytest_collect_file(file_path, parent):
 
 
 def pytest_runtest_logreport(report):
-    """Records the result of a test. If a worker process dies during its test, the report has no result, and the test counts as failed."""
+    """Records the result of a test. If a worker process dies during its test, the report has no
+    result, and the test counts as failed."""
     config = report_to.get("config")
     found = dict(report.user_properties).get("found")
     if config and (found and report.when == "call" or not found and report.failed):
@@ -153,7 +156,8 @@ class Club:
         self.program, self.file = program, file
 
     def command(self, *words):
-        """Runs a command of `clubdesk` on the club's file. Returns the command's status, its output and its standard error."""
+        """Runs a command of `clubdesk` on the club's file. Returns the command's status, its output
+        and its standard error."""
         command, *rest = words
         return desk.command(self.program, command, self.file, *rest)
 
@@ -179,7 +183,8 @@ class Club:
             return database.execute(statement).fetchall()
 
     def served(self, *words, count=None, at=kinds.NOON, **more):
-        """Starts a server on the club. The server ends after `count` connections, or at the end of the `with` block."""
+        """Starts a server on the club. The server ends after `count` connections, or at the end of
+        the `with` block."""
         return desk.Server(self.program, self.file, count, "--at", at, *words, **more)
 
     def ask(self, data, at=kinds.NOON, **more):
@@ -188,7 +193,8 @@ class Club:
             return Reply(it.exchange(data))
 
     def play(self, steps):
-        """Runs the steps of a scene (tests/lib/kinds.py), compares each answer with the expected answer, and returns the server's replies."""
+        """Runs the steps of a scene (tests/lib/kinds.py), compares each answer with the expected
+        answer, and returns the server's replies."""
         replies = []
         for step in steps:
             if isinstance(step, kinds.Sql):
@@ -217,7 +223,8 @@ def clubdesk():
 
 @pytest.fixture(scope="session")
 def passtool():
-    """Returns a function that runs passtool. The function returns the status, and the output followed by the standard error."""
+    """Returns a function that runs passtool. The function returns the status, and the output
+    followed by the standard error."""
     program = desk.program("passtool")
 
     def run(*words, given=""):
@@ -247,7 +254,8 @@ def new_club(clubdesk, tmp_path_factory):
 
 @pytest.fixture(scope="session")
 def made(new_club):
-    """Returns the club that the fixture `club` copies for each test. A test file may define its own fixture `made`, with a different club."""
+    """Returns the club that the fixture `club` copies for each test. A test file may define its own
+    fixture `made`, with a different club."""
     club = new_club()
     club.play(kinds.COMMANDS)
     return club

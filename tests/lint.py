@@ -1,22 +1,28 @@
 #!/usr/bin/env -S /usr/bin/python3 -B
-"""Finds names defined twice, lines that are too long, unused files, misspelt words and unidiomatic English.
+"""Finds names defined twice, lines that are too long, unused files, misspelt words and unidiomatic
+English.
 
-The program also finds functions, files and crates that are too large, numbers without units, and versions that differ. The program checks the English
-only in added lines.
+The program also finds functions, files and crates that are too large, numbers without units, and
+versions that differ. The program checks the English only in added lines.
 
 The program prints each slip with its place. The status is 1 if there is a slip. These are slips:
 - Two modules in specs/ define the same name, and TWINS doesn't list the name.
-- A line is too long. The limit is 100 columns for code, comments and clauses, and 160 for imports, specs and proofs.
-- A function's body has 40 lines or more, a file of code has 800 or more, or a file of proofs has 400 or more.
+- A line is too long. The limit is 100 columns for code, comments and clauses, and 160 for imports,
+  specs and proofs.
+- A function's body has 40 lines or more, a file of code has 800 or more, or a file of proofs has
+  400 or more.
 - A crate has more than 100 functions.
 - A public docstring has a number but no unit.
 - The version in the newest heading of CHANGELOG.md differs from the code's version.
-- A module in specs/ or proofs/ is never imported, a file of code has no `mod` line, or no page names a script.
+- A module in specs/ or proofs/ is never imported, a file of code has no `mod` line, or no page
+  names a script.
 - A crate's proofs/Common re-exports a name that none of the crate's proofs imports.
-- The old text of a mutant's edit doesn't appear exactly once in its file, or a crate has two edits of the same name.
+- The old text of a mutant's edit doesn't appear exactly once in its file, or a crate has two edits
+  of the same name.
 - A planted fault (tests/planted.py) replaces bytes that its file no longer contains.
 - A page or a text of web/ has a word that neither aspell nor tests/lib/words.txt knows.
-- A sentence on an added line breaks a rule of tests/lib/prose.py, for example because it has more than 30 words.
+- A sentence on an added line breaks a rule of tests/lib/prose.py, for example because it has more
+  than 30 words.
 - The subject of an added commit has no area, isn't an imperative, or is longer than 60 letters.
 Added lines and commits are those that this clone has and its upstream branch doesn't have.
   tests/lint.py                  checks all crates, the pages, and the added lines and commits
@@ -57,8 +63,9 @@ UNITS = re.compile(
     "|status|connection|port|version|row|request|key|field|case|number|memory|count|length",
     re.IGNORECASE,
 )
-# A line that begins with a string literal, or with a field and its string literal, may be longer. Then a search for a long text, such as a pass,
-# finds the line. An attribute may be longer because it can't be broken.
+# A line that begins with a string literal, or with a field and its string literal, may be longer.
+# Then a search for a long text, such as a pass, finds the line. An attribute may be longer because
+# it can't be broken.
 LITERAL = r' *([a-z_]+: )?b?"'
 FN = re.compile(r"( *)(?:pub(?:\([a-z]+\))? )?(?:const )?(?:extern \"C\" )?fn (\w*)")
 
@@ -84,8 +91,8 @@ def of_crate(crate, part, ending):
 
 
 def twice_defined(crates):
-    """Yields a slip for each name that two modules in specs/ define at their top level. A definition has its name before a colon, or after `record`
-    or `data`."""
+    """Yields a slip for each name that two modules in specs/ define at their top level. A
+    definition has its name before a colon, or after `record` or `data`."""
     homes = defaultdict(list)
     for file, text in FILES.items():
         if file.parts[2] == "specs":
@@ -123,7 +130,8 @@ def too_long(crate):
 
 
 def too_large(crate):
-    """Yields a slip for each size limit of CONTRIBUTING.md that the crate exceeds. The body of a function is the text between its braces."""
+    """Yields a slip for each size limit of CONTRIBUTING.md that the crate exceeds. The body of a
+    function is the text between its braces."""
     code = of_crate(crate, "src", ".rt")
     for file, text in code.items():
         name, start = "", 0
@@ -179,8 +187,8 @@ MOD = re.compile(r"^(?:pub )?mod (\S+)$", re.MULTILINE)
 
 
 def unused_modules(crate, part):
-    """Yields a slip for each module that no other file imports, and for each file that its folder's list doesn't name. The list is in Lib.antt, or
-    in the file with the folder's name."""
+    """Yields a slip for each module that no other file imports, and for each file that its folder's
+    list doesn't name. The list is in Lib.antt, or in the file with the folder's name."""
     top = Path("crates", crate, part)
     for file, text in of_crate(crate, part, ".antt").items():
         above = top / "Lib.antt" if file.parent == top else file.parent.with_suffix(".antt")
@@ -243,7 +251,8 @@ def stale_edits(crate):
 
 
 def stale_plants():
-    """Yields a slip for each fault of tests/planted.py whose file no longer contains the bytes. Skips faults in built programs."""
+    """Yields a slip for each fault of tests/planted.py whose file no longer contains the bytes.
+    Skips faults in built programs."""
     for name, (file, old, *_) in planted.PLANTS.items():
         if file not in planted.PROGRAMS and old.encode() not in Path(file).read_bytes():
             yield f"a planted fault doesn't apply: {name}: {file} has no {old}"
@@ -288,7 +297,8 @@ def install_aspell():
 
 
 def worded(named, since):
-    """Yields the slips of wording in added lines. If no crates are named, also yields the misspelt words of all pages."""
+    """Yields the slips of wording in added lines. If no crates are named, also yields the misspelt
+    words of all pages."""
     base = since or prose.base_of(ROOT)
     if base:
         for below in [f"crates/{it}/" for it in named] or [""]:

@@ -1,8 +1,10 @@
-"""Lists faults for each test. The test must fail if one of its faults is planted. `tests/run --planted` reads this module.
+"""Lists faults for each test. The test must fail if one of its faults is planted. `tests/run
+--planted` reads this module.
 
-A fault replaces some bytes in a copy of a built program or of a file in the repository. A fault may also be a shell script that replaces a program.
-In the script, $PROGRAM is the path of the replaced program. The log of the failed test must contain the words that the fault states, so that a
-failure for another reason doesn't count."""
+A fault replaces some bytes in a copy of a built program or of a file in the repository. A fault may
+also be a shell script that replaces a program. In the script, $PROGRAM is the path of the replaced
+program. The log of the failed test must contain the words that the fault states, so that a failure
+for another reason doesn't count."""
 
 import os
 import shutil
@@ -15,8 +17,9 @@ import desk
 
 PROGRAMS = ("clubdesk", "passtool")
 BY_HAND = "#!/bin/sh\n"
-# Each key is the name of a test, or TEST:FAULT if the test has several faults. The value of a key is the file, the bytes, their replacement, the
-# words in the log, and the arguments for a shorter run of the test.
+# Each key is the name of a test, or TEST:FAULT if the test has several faults. The value of a key
+# is the file, the bytes, their replacement, the words in the log, and the arguments for a shorter
+# run of the test.
 PLANTS = {
     "beside": (
         "tests/peers/beside_go/desk.go",
@@ -1098,7 +1101,8 @@ def spoil(path, old, new):
 
 
 def plant(name, folder):
-    """Makes a copy of the tree and plants a fault in it. Returns the environment variables with the paths of the copy's programs."""
+    """Makes a copy of the tree and plants a fault in it. Returns the environment variables with the
+    paths of the copy's programs."""
     file, old, new = PLANTS[name][:3]
     folder.chmod(0o755)  # so that tests can use the folder as other users
     copied_tree(folder)

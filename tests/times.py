@@ -1,13 +1,17 @@
 #!/usr/bin/env python3
-"""Measures the processor seconds that the gate needs for the proof, the tests and the mutants of each crate.
+"""Measures the processor seconds that the gate needs for the proof, the tests and the mutants of
+each crate.
 
-The program runs `rt ci`, the gate, in a scratch clone of HEAD. The program adds up the processor seconds of the compiler's processes for four parts
-of each crate. The parts are the crate's proof, the proof of its tests, the mutants in must-fail/, and clang with the linker. At the end, the program
-prints the sums, the elapsed time, and the last line of the gate's output. The status is the gate's status.
+The program runs `rt ci`, the gate, in a scratch clone of HEAD. The program adds up the processor
+seconds of the compiler's processes for four parts of each crate. The parts are the crate's proof,
+the proof of its tests, the mutants in must-fail/, and clang with the linker. At the end, the
+program prints the sums, the elapsed time, and the last line of the gate's output. The status is the
+gate's status.
   tests/times.py                 measures the whole gate
   tests/times.py club_core ..    measures these crates and all crates that they depend on
-The program reads the times from /proc once a second, so it may miss the last second of each process. The times don't include the runs of programs and
-tests. Two measurements may differ by about 25 percent, because other programs use the machine too.
+The program reads the times from /proc once a second, so it may miss the last second of each
+process. The times don't include the runs of programs and tests. Two measurements may differ by
+about 25 percent, because other programs use the machine too.
 """
 # pytestmark = [mark.proofs, mark.alone, mark.timeout(36000)]
 
@@ -38,7 +42,8 @@ def process(pid):
 
 
 def task(pid, work):
-    """If a process compiles a crate in a folder below `work`, returns the crate and the kind of the work, otherwise None."""
+    """If a process compiles a crate in a folder below `work`, returns the crate and the kind of the
+    work, otherwise None."""
     words = Path(f"/proc/{pid}/cmdline").read_text(encoding="utf-8", errors="replace").split("\0")
     if (
         os.path.basename(words[0]) != "rattle"
@@ -58,7 +63,8 @@ def task(pid, work):
 
 
 def sample(spent, work):
-    """Records the ticks of each compiling process, and of each program that a compiling process runs."""
+    """Records the ticks of each compiling process, and of each program that a compiling process
+    runs."""
     found = {}
     for pid in filter(str.isdigit, os.listdir("/proc")):
         try:
@@ -76,8 +82,8 @@ def sample(spent, work):
 def run_gate(work, names):
     """Runs the gate. Returns the gate's status, and the ticks of each compiling process."""
     spent = Counter()
-    # TMPDIR puts the folders of the mutants below the scratch folder. So the measured times include the mutants of this run, but no other run on the
-    # machine.
+    # TMPDIR puts the folders of the mutants below the scratch folder. So the measured times include
+    # the mutants of this run, but no other run on the machine.
     with open(work / "log", "wb") as log, subprocess.Popen(
         ["rt", "ci", *names],
         cwd=work / "clone",

@@ -3,13 +3,16 @@
 
     tests/desk/arguments_as_before.py BEFORE NOW
 
-Run this test after a change to the code that reads arguments, if the change must not affect the programs' behaviour. BEFORE and NOW are the paths of
-the old and the new program. The last part of each path is `passtool` or `clubdesk`. The test runs about 450 command lines of `passtool`, or about 800
-of `clubdesk`. Some command lines ask for help or the version. Other command lines have correct, wrong, repeated or missing arguments, several faults
-together, words after `--`, or bytes that aren't text. Each command line runs in a new folder. A `serve` line names a folder as its database, so that
-the server ends immediately. The test compares status, standard output and standard error byte for byte. The test prints each command line whose
-answers differ, and finally the counts. The status is 1 if any answers differ. `tests/run` doesn't run this test, because the repository contains no
-old program."""
+Run this test after a change to the code that reads arguments, if the change must not affect the
+programs' behaviour. BEFORE and NOW are the paths of the old and the new program. The last part of
+each path is `passtool` or `clubdesk`. The test runs about 450 command lines of `passtool`, or about
+800 of `clubdesk`. Some command lines ask for help or the version. Other command lines have correct,
+wrong, repeated or missing arguments, several faults together, words after `--`, or bytes that
+aren't text. Each command line runs in a new folder. A `serve` line names a folder as its database,
+so that the server ends immediately. The test compares status, standard output and standard error
+byte for byte. The test prints each command line whose answers differ, and finally the counts. The
+status is 1 if any answers differ. `tests/run` doesn't run this test, because the repository
+contains no old program."""
 
 import subprocess
 import sys
@@ -37,7 +40,8 @@ CAVEATS = [
 ]
 COMMANDS = ["mint", "show", "narrow", "convert", "verify"]
 KEY_ROOT = "000102030405060708090a0b0c0d0e0f"
-# The arguments of each clubdesk command: first valid values for each argument, then invalid values. FOLDER isn't a database.
+# The arguments of each clubdesk command: first valid values for each argument, then invalid values.
+# FOLDER isn't a database.
 FOLDER = "."
 WORDS = {
     "add-member": ([FOLDER, "amy", "5"], ["", "Amy", "5x"]),
@@ -182,8 +186,8 @@ def readers():
 
 
 def orders():
-    """Yields each command of clubdesk with good and bad arguments. Also yields the commands that take a root, with the options for the root and for
-    the form of the pass."""
+    """Yields each command of clubdesk with good and bad arguments. Also yields the commands that
+    take a root, with the options for the root and for the form of the pass."""
     for command, (good, bad) in WORDS.items():
         options = ["--port=0", "--count=1"] if command == "serve" else []
         yield from ([command, *options, *good[:n]] for n in range(len(good) + 1))

@@ -1,11 +1,13 @@
 #!/usr/bin/env -S /usr/bin/python3 -B -m pytest -q -p no:cacheprovider
-"""Although the test kills servers while clients book, each acknowledged booking is in the file exactly once.
+"""Although the test kills servers while clients book, each acknowledged booking is in the file
+exactly once.
 
 When the test sends the same requests again, it gets the same replies.
 
-A fixed seed determines the times of the kills. The test finds each acknowledged booking in the rows, in the day sheets and in the replies to GET
-requests. A booking that was in progress may be in the file too, but never in part. The file's totals are the sums of its bookings. At the end the
-file has all 200 bookings, each once. With ROUNDS=N in the environment, the test kills N servers.
+A fixed seed determines the times of the kills. The test finds each acknowledged booking in the
+rows, in the day sheets and in the replies to GET requests. A booking that was in progress may be in
+the file too, but never in part. The file's totals are the sums of its bookings. At the end the file
+has all 200 bookings, each once. With ROUNDS=N in the environment, the test kills N servers.
 """
 
 import os
@@ -40,8 +42,8 @@ GETS = [Row("GET", path, passed=KEYS[0]).data for path in SLOTS] + [
 
 
 class Desk(Both):
-    """A club with four members, who have one key each, and a court with 4 places for 7 points. Each member has 10,000 points, which are enough for
-    all bookings."""
+    """A club with four members, who have one key each, and a court with 4 places for 7 points. Each
+    member has 10,000 points, which are enough for all bookings."""
 
     def __init__(self, program, file):
         super().__init__(program, file)
@@ -63,7 +65,8 @@ class Desk(Both):
                 self.ask(it, data, MOMENT)
 
     def holds(self):
-        """Checks that the file has exactly the bookings of the reference, each once, and the right totals."""
+        """Checks that the file has exactly the bookings of the reference, each once, and the right
+        totals."""
         expect("unsound", desk.unsound(self.file), [])
         self.compare_rows()
         for day in DAYS:
@@ -71,7 +74,8 @@ class Desk(Both):
         self.asks(GETS)
 
     def killed_after(self, seconds):
-        """Sends the requests to a server, and kills the server after the given number of seconds. Returns the server's replies."""
+        """Sends the requests to a server, and kills the server after the given number of seconds.
+        Returns the server's replies."""
         replies = []
         with self.server() as it:
             client = threading.Thread(

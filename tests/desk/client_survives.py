@@ -1,12 +1,16 @@
 #!/usr/bin/env -S /usr/bin/python3 -B -m pytest -q -p no:cacheprovider
-"""`examples/client.py` books nothing twice and loses no booking, even if the server is killed or a proxy fails.
+"""`examples/client.py` books nothing twice and loses no booking, even if the server is killed or a
+proxy fails.
 
-The test kills the server and starts it again 100 times. No acknowledged booking or cancellation is lost.
+The test kills the server and starts it again 100 times. No acknowledged booking or cancellation is
+lost.
 
-Every fifth time, the test also kills the client. The client requests each slot once, and cancels most of its bookings. At the end the file has
-exactly the bookings in the client's record, each once. The bookings have the charges, places and refunds that the server acknowledged. The file's
-totals are the sums of its bookings. Then the test runs each command of client.py and compares the command's output. Finally, the client books and
-cancels through a proxy that fails in several ways. With KILLS=N in the environment, the test kills N servers.
+Every fifth time, the test also kills the client. The client requests each slot once, and cancels
+most of its bookings. At the end the file has exactly the bookings in the client's record, each
+once. The bookings have the charges, places and refunds that the server acknowledged. The file's
+totals are the sums of its bookings. Then the test runs each command of client.py and compares the
+command's output. Finally, the client books and cancels through a proxy that fails in several ways.
+With KILLS=N in the environment, the test kills N servers.
 """
 
 import multiprocessing
@@ -58,7 +62,8 @@ class Counting(Client):
 
 
 def work(folder, port):
-    """Books each slot that isn't in the client's record yet. Cancels ten of eleven bookings, so that no member reaches the quota of 99."""
+    """Books each slot that isn't in the client's record yet. Cancels ten of eleven bookings, so
+    that no member reaches the quota of 99."""
     with open(folder / "acknowledged", "a", encoding="utf-8") as file:
         clients = [Counting(folder, port, key, file) for key in KEYS]
         for client in clients:
@@ -81,7 +86,8 @@ def work(folder, port):
 
 
 def killed_and_killed(club, folder):
-    """Starts servers one after the other at the same port, and kills each of them. Every fifth time, also kills the client's process."""
+    """Starts servers one after the other at the same port, and kills each of them. Every fifth
+    time, also kills the client's process."""
     draw, worker, port = random.Random(20260501), None, 0
     for kill in range(1, KILLS + 1):
         with club.served(port=port) as server:
@@ -99,7 +105,8 @@ def killed_and_killed(club, folder):
 
 
 def recorded(folder, port):
-    """Finishes the unfinished requests of all keys. Returns the recorded bookings as rows of the table `bookings`."""
+    """Finishes the unfinished requests of all keys. Returns the recorded bookings as rows of the
+    table `bookings`."""
     rows = {}
     for key in KEYS:
         client = Counting(folder, port, key, sys.stderr)
@@ -162,7 +169,8 @@ def own(new_club, tmp_path):
     (tmp_path / "pass").write_text(club.does(f"add-key amy-1 amy {ROOT}"))
 
     def prints(port, words, patience=0):
-        """Runs a command of the client. Returns the status, the output with N in place of the booking number, and the booking number."""
+        """Runs a command of the client. Returns the status, the output with N in place of the
+        booking number, and the booking number."""
         ended = subprocess.run(
             [desk.ROOT / "examples" / "client.py", *words.split()],
             cwd=tmp_path,
@@ -208,8 +216,9 @@ def test_commands(own):
             assert prints(it.port, words)[:2] == (wanted, text)
         for _ in range(2):
             prints(it.port, "account")
-    # If no server listens, the request stays in the record. The client finishes the request when a server runs again. Without a stated price, the
-    # client can't look at the price, so it neither records nor sends a request.
+    # If no server listens, the request stays in the record. The client finishes the request when a
+    # server runs again. Without a stated price, the client can't look at the price, so it neither
+    # records nor sends a request.
     assert prints(it.port, "book court-1 2026-05-02 18 0 200")[:2] == (3, "")
     assert prints(it.port, "book court-1 2026-05-02 19 0")[:2] == (3, "")
     with club.served(count=2) as it:
@@ -218,7 +227,8 @@ def test_commands(own):
 
 
 def test_a_price_that_rose(own, tmp_path):
-    """The desk charges at most the stated price, or the price that the slot had when the command began."""
+    """The desk charges at most the stated price, or the price that the slot had when the command
+    began."""
     club, prints = own
     with club.served(count=6) as it:
         club.does("set-facility court-1 4 450 8 22")

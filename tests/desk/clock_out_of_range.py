@@ -1,10 +1,12 @@
 #!/usr/bin/env -S /usr/bin/python3 -B -m pytest -q -p no:cacheprovider
-"""The server answers while its clock shows a moment from 2000 to 2099, and ends with status 6 at any other moment.
+"""The server answers while its clock shows a moment from 2000 to 2099, and ends with status 6 at
+any other moment.
 
 When the server ends with status 6, it leaves the club unchanged.
 
-The test sets the clock to moments inside and outside these years, in three time zones. If the clock shows a moment from 2000 to 2099, each client
-gets its reply. If the clock shows another moment or can't be read, the first client gets no byte. The server then prints a line on standard error and
+The test sets the clock to moments inside and outside these years, in three time zones. If the clock
+shows a moment from 2000 to 2099, each client gets its reply. If the clock shows another moment or
+can't be read, the first client gets no byte. The server then prints a line on standard error and
 ends without waiting for a second client. The club is unchanged.
 """
 
@@ -22,7 +24,8 @@ CENTRAL, WESTERN = "CET-1CEST,M3.5.0,M10.5.0/3", "EST5"
 
 @pytest.fixture
 def clock(library, club):
-    """Returns a function that starts a server for two connections. The server's clock always shows the same UTC time, or can't be read."""
+    """Returns a function that starts a server for two connections. The server's clock always shows
+    the same UTC time, or can't be read."""
 
     def server_at(zone, time, status=0):
         second = (

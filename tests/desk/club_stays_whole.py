@@ -1,15 +1,18 @@
 #!/usr/bin/env -S /usr/bin/python3 -B -m pytest -q -p no:cacheprovider
-"""Each command of `clubdesk` is done or leaves the club unchanged, even if memory or storage runs out or the command is killed.
+"""Each command of `clubdesk` is done or leaves the club unchanged, even if memory or storage runs
+out or the command is killed.
 
-The test refuses each allocation of a command once, including the allocations for printing passes. If a command fails, it has printed nothing, and the
-club is unchanged. After a kill the club is unchanged or the command is done.
+The test refuses each allocation of a command once, including the allocations for printing passes.
+If a command fails, it has printed nothing, and the club is unchanged. After a kill the club is
+unchanged or the command is done.
 
 After each failure or kill, sqlite3 finds no damage in the file, and clubdesk can read the file.
-- The test repeats the command and refuses another allocation each time. With STEP=N in the environment, the test refuses only each Nth allocation,
-  which is faster. The command ends with status 4, or with status 2 if clap, the parser of the arguments, needed the refused allocation. If the
-  command didn't need the refused allocation, it ends as with ample memory.
-- The test limits the size of the file to various numbers of blocks. The command ends with status 5 if it needs more blocks. If the command needs no
-  more blocks, it ends as with ample storage.
+- The test repeats the command and refuses another allocation each time. With STEP=N in the
+  environment, the test refuses only each Nth allocation, which is faster. The command ends with
+  status 4, or with status 2 if clap, the parser of the arguments, needed the refused allocation. If
+  the command didn't need the refused allocation, it ends as with ample memory.
+- The test limits the size of the file to various numbers of blocks. The command ends with status 5
+  if it needs more blocks. If the command needs no more blocks, it ends as with ample storage.
 - The test kills the command after various numbers of milliseconds.
 """
 
@@ -58,8 +61,8 @@ TABLES = ("desk", "members", "facilities", "keys", "old_roots", "slots", "bookin
 
 
 def rows(club):
-    """Returns the rows of each table. If a kill interrupted the creation of the tables, returns the rows of an empty club, because clubdesk completes
-    the tables later."""
+    """Returns the rows of each table. If a kill interrupted the creation of the tables, returns the
+    rows of an empty club, because clubdesk completes the tables later."""
     try:
         assert club.sql("PRAGMA integrity_check") == [("ok",)] and not club.sql(
             "PRAGMA foreign_key_check"
@@ -71,7 +74,8 @@ def rows(club):
 
 
 class Command:
-    """A command, with the club's rows before and after the command. The test runs the command repeatedly, each time on a new copy of the club."""
+    """A command, with the club's rows before and after the command. The test runs the command
+    repeatedly, each time on a new copy of the club."""
 
     def __init__(self, before, words):
         self.before, self.words, self.found = before, words.split(), {}
@@ -91,8 +95,8 @@ class Command:
             yield club, [club.program, self.words[0], club.file, *self.words[1:]]
 
     def keeps_a_club(self, club, *wanted):
-        """Checks that the file and its log have the rows of one of the `wanted` states, and that clubdesk can read the file. Reads files with the
-        same bytes only once."""
+        """Checks that the file and its log have the rows of one of the `wanted` states, and that
+        clubdesk can read the file. Reads files with the same bytes only once."""
         state = hashlib.sha256(
             b" log ".join(
                 it.read_bytes() for it in (club.file, Path(f"{club.file}-wal")) if it.exists()
@@ -106,8 +110,8 @@ class Command:
         assert found in wanted
 
     def given(self, limits=None, **variables):
-        """Runs the command on a copy of the club. Returns the status, the output and the standard error. If the command fails, the club must be
-        unchanged."""
+        """Runs the command on a copy of the club. Returns the status, the output and the standard
+        error. If the command fails, the club must be unchanged."""
         with self.copy() as (club, words):
             ended = desk.command(
                 *words, env={**os.environ, **variables}, preexec_fn=limits, restore_signals=False
@@ -116,8 +120,9 @@ class Command:
         return ended
 
     def fails(self, ended, fault, *statuses):
-        """Returns whether the command failed. A failed command must end with one of the given statuses and no output. A command that doesn't fail
-        must end as with ample memory and storage."""
+        """Returns whether the command failed. A failed command must end with one of the given
+        statuses and no output. A command that doesn't fail must end as with ample memory and
+        storage."""
         assert (
             ended == self.whole
             or ended[0] in statuses

@@ -1,14 +1,18 @@
 #!/usr/bin/env python3
-"""`clubdesk` answers random requests and commands, many of them invalid, in the same way as the rules in Python.
+"""`clubdesk` answers random requests and commands, many of them invalid, in the same way as the
+rules in Python.
 
-`tests/reference` has these rules. The test also compares all rows and totals of the club. With `--self-test`, the test checks that it finds faults
-planted in the rules.
+`tests/reference` has these rules. The test also compares all rows and totals of the club. With
+`--self-test`, the test checks that it finds faults planted in the rules.
 
-The test compares replies byte for byte. The test compares rows and totals each time a server has ended. The rules in Python come only from the pages
-on the desk, passes and caveats, and not from the desk's code. A seed determines the requests. The passes have three forms, and are signed with
-current, older and unknown roots. A root is the secret of a key. Some passes are truncated, or have one changed byte. Other passes have caveats with
-values at a limit. Some passes have a third-party caveat. Heads and bodies vary in letter case, line ends, lengths, fields and paths. The test runs
-many servers one after the other, each with its clock at a random moment. Before each server starts, the test runs commands of the office.
+The test compares replies byte for byte. The test compares rows and totals each time a server has
+ended. The rules in Python come only from the pages on the desk, passes and caveats, and not from
+the desk's code. A seed determines the requests. The passes have three forms, and are signed with
+current, older and unknown roots. A root is the secret of a key. Some passes are truncated, or have
+one changed byte. Other passes have caveats with values at a limit. Some passes have a third-party
+caveat. Heads and bodies vary in letter case, line ends, lengths, fields and paths. The test runs
+many servers one after the other, each with its clock at a random moment. Before each server starts,
+the test runs commands of the office.
 
     tests/desk/hostile.py [--seed N] [--count M] [--plant FAULT | --self-test]
 """
@@ -37,7 +41,8 @@ ENDS = (b"\r\n",) * 30 + (b"\n",)
 
 
 class World(Both):
-    """The club in a file and the same club in the reference. A seed determines the random requests and commands."""
+    """The club in a file and the same club in the reference. A seed determines the random requests
+    and commands."""
 
     def __init__(self, seed, desk, folder, plant=None):
         super().__init__(desk, Path(folder) / f"club-{seed}", plant)
@@ -67,8 +72,8 @@ class World(Both):
         )
 
     def booked(self):
-        """Draws a key and one of its bookings, which may be cancelled. Returns the key, the booking's number and the booking. Returns None if the key
-        has no booking."""
+        """Draws a key and one of its bookings, which may be cancelled. Returns the key, the
+        booking's number and the booking. Returns None if the key has no booking."""
         key = self.draw.choice(KEYS)
         rows = self.club.bookings.get(key)
         if not rows:
@@ -164,7 +169,8 @@ class World(Both):
     # ---- passes
 
     def caveat(self):
-        """Draws a caveat, often with a value at a limit. In about one case in eight, draws a caveat that the desk doesn't understand."""
+        """Draws a caveat, often with a value at a limit. In about one case in eight, draws a caveat
+        that the desk doesn't understand."""
         draw = self.draw
         day = self.moment // 1440
         first, last = (
@@ -317,7 +323,8 @@ class World(Both):
         return self.spoiled(data) if draw.random() < 0.05 else data
 
     def target(self):
-        """Draws a request's key, method, path and body. The request may repeat or cancel an existing booking."""
+        """Draws a request's key, method, path and body. The request may repeat or cancel an
+        existing booking."""
         draw = self.draw
         kind = draw.choice(("view", "book", "book", "book", "cancel", "cancel", "account"))
         key, (facility, day, hour), guests = (
@@ -491,7 +498,8 @@ class World(Both):
     # ---- rounds
 
     def round(self, count):
-        """Runs commands, sends requests to a server whose clock shows a random moment, and compares the rows of the file."""
+        """Runs commands, sends requests to a server whose clock shows a random moment, and compares
+        the rows of the file."""
         self.moment = (
             NOON
             + self.draw.choice((0, 0, 1, 360, 361, 1440, 11 * 1440, 30_000))
@@ -531,7 +539,7 @@ def run(seed, count, desk, plant=None):
 
 
 def main():
-    parser = argparse.ArgumentParser(description=__doc__.splitlines()[0])
+    parser = argparse.ArgumentParser(description=__doc__.partition("\n\n")[0])
     parser.add_argument("--seed", type=int, default=1)
     parser.add_argument(
         "--count",

@@ -1,10 +1,12 @@
 #!/usr/bin/env -S /usr/bin/python3 -B -m pytest -q -p no:cacheprovider
 """The server allocates no memory between a commit and its reply.
 
-In the test, the server makes six bookings and three cancellations, with passes in the forms V1, V2 and JSON.
+In the test, the server makes six bookings and three cancellations, with passes in the forms V1, V2
+and JSON.
 
-Tests that compare the bytes of replies can't notice an unnecessary allocation, because such an allocation changes no byte. A commit ends with the
-last call that syncs the file before the server sends the reply.
+Tests that compare the bytes of replies can't notice an unnecessary allocation, because such an
+allocation changes no byte. A commit ends with the last call that syncs the file before the server
+sends the reply.
 """
 
 import pytest

@@ -1,13 +1,17 @@
 #!/usr/bin/env -S /usr/bin/python3 -B -m pytest -q -x -s -p no:cacheprovider
-"""500 commands of two offices and 5,000 simultaneous requests of four clients get the right answers and leave the right totals.
+"""500 commands of two offices and 5,000 simultaneous requests of four clients get the right answers
+and leave the right totals.
 
-The answers and totals are also right if clients are slow, or if the test kills programs, leaves stale doors or moves files. A door is the Unix socket
-through which a server receives the office's commands. The test prints how long commands and requests took.
+The answers and totals are also right if clients are slow, or if the test kills programs, leaves
+stale doors or moves files. A door is the Unix socket through which a server receives the office's
+commands. The test prints how long commands and requests took.
 
-The test uses real processes. When the server has stopped, sqlite3 finds that each total is the sum of its rows. Then the test kills ten servers and
-ten commands. One client is silent while another client sends a byte a second. The test also tries a stale door, a folder at the door's path, and a
-second server. The test uses links to the file and its folder, and moves, replaces and removes the file. The test also runs a command as another user,
-and checks the modes of the files and the lines of the log. The test measures the times of requests with and without commands, and with 300,000 more
+The test uses real processes. When the server has stopped, sqlite3 finds that each total is the sum
+of its rows. Then the test kills ten servers and ten commands. One client is silent while another
+client sends a byte a second. The test also tries a stale door, a folder at the door's path, and a
+second server. The test uses links to the file and its folder, and moves, replaces and removes the
+file. The test also runs a command as another user, and checks the modes of the files and the lines
+of the log. The test measures the times of requests with and without commands, and with 300,000 more
 bookings.
 """
 
@@ -46,8 +50,8 @@ DRIP = lambda client: desk.drip(client, b"GET /a")
 
 @pytest.fixture(scope="module")
 def made(clubdesk):
-    """A club on a disk. Each client has a court, a member with 10,000 points, and a key. Each office has a room, and a key that the office can
-    revoke."""
+    """A club on a disk. Each client has a court, a member with 10,000 points, and a key. Each
+    office has a room, and a key that the office can revoke."""
     with tempfile.TemporaryDirectory() as folder:
         club = Club(clubdesk, Path(folder, "made"))
         for n in PASSES:
@@ -87,8 +91,9 @@ class Times(list):
 
 
 def asked_by(place):
-    """Yields a client's 1,250 requests, with the expected replies. In each of ninety rounds the client makes a booking, repeats it, and gets the slot
-    and the account. In every third round the client also cancels the booking. The remaining requests get the account.
+    """Yields a client's 1,250 requests, with the expected replies. In each of ninety rounds the
+    client makes a booking, repeats it, and gets the slot and the account. In every third round the
+    client also cancels the booking. The remaining requests get the account.
     """
     spent = opened = 0
     for number in range(1, 91):
@@ -118,7 +123,8 @@ def asked_by(place):
 
 
 def given_by(place):
-    """Yields 250 commands with the expected answers. The commands add members, credit points, close slots, revoke keys and show slots."""
+    """Yields 250 commands with the expected answers. The commands add members, credit points, close
+    slots, revoke keys and show slots."""
     for n in range(1, 51):
         day = f"2026-{6 + n // 29:02}-{1 + n % 28:02}"
         for words in (
@@ -132,7 +138,8 @@ def given_by(place):
 
 
 def beside(club, server, count):
-    """Runs four clients, and also two offices unless `count` is 0. Compares each reply and each answer with the expected text."""
+    """Runs four clients, and also two offices unless `count` is 0. Compares each reply and each
+    answer with the expected text."""
     bookings, others, commands = Times(), Times(), Times()
 
     def client(place):
@@ -163,8 +170,9 @@ def beside(club, server, count):
 
 
 def test_door_has_a_mode_and_commands_have_lines(club):
-    """Runs 500 commands while clients send 5,000 requests. Then runs three commands that take a root. The server refuses one of the three commands.
-    Another of the three commands reads the root from standard input. The log contains no root."""
+    """Runs 500 commands while clients send 5,000 requests. Then runs three commands that take a
+    root. The server refuses one of the three commands. Another of the three commands reads the root
+    from standard input. The log contains no root."""
     with club.served("--log") as server:
         assert stat.filemode(os.stat(f"{club.file}-office").st_mode) == "srw-------"
         beside(club, server, 500)
@@ -199,8 +207,9 @@ def ends(wanted, most, *words):
 
 
 def test_what_others_meet_beside_a_server(club):
-    """Starts a second server on the file. Runs commands through links to the file and to its folder. Moves the file, and runs a command with the
-    file's old path. Runs a command as another user who may read the file."""
+    """Starts a second server on the file. Runs commands through links to the file and to its
+    folder. Moves the file, and runs a command with the file's old path. Runs a command as another
+    user who may read the file."""
     folder, moved = club.file.parent, club.file.with_name("moved")
     with club.served():
         ends(FAILED, 15, club.program, "serve", club.file, "--port", "0", "--count", "1")
@@ -220,8 +229,8 @@ def test_what_others_meet_beside_a_server(club):
 
 @pytest.mark.parametrize("is_replaced", [True, False], ids=["replaced", "removed"])
 def test_file_that_is_gone(made, is_replaced):
-    """After someone removes the file of a running server, the server acknowledges no change. If someone puts a new file at the old file's path, the
-    server leaves the new file unchanged."""
+    """After someone removes the file of a running server, the server acknowledges no change. If
+    someone puts a new file at the old file's path, the server leaves the new file unchanged."""
     club = made.copied_to(made.file.with_name("gone"))
     with club.served() as server:
         assert server.exchange(ACCOUNT.under(PASSES[1]).data).startswith(b"HTTP/1.1 200 ")
@@ -241,7 +250,8 @@ def test_file_that_is_gone(made, is_replaced):
 
 
 def test_server_whose_file_was_replaced_leaves_the_door_of_the_next(made):
-    """The next server serves the new file. The old server doesn't remove the door of the next server."""
+    """The next server serves the new file. The old server doesn't remove the door of the next
+    server."""
     club = made.copied_to(made.file.with_name("twice"))
     with club.served(count=1) as first:
         made.copied_to(club.file)
@@ -284,8 +294,8 @@ def test_something_else_than_a_door_stays(club):
 
 
 def test_commands_beside_four_clients_of_which_two_dawdle(club):
-    """One client is silent, and another client sends a byte a second. The server carries out each command within 0.9 seconds, and two other clients
-    get their replies."""
+    """One client is silent, and another client sends a byte a second. The server carries out each
+    command within 0.9 seconds, and two other clients get their replies."""
     commands = Times()
 
     def dawdles(server, act):
@@ -317,8 +327,9 @@ def test_commands_beside_four_clients_of_which_two_dawdle(club):
 
 @pytest.mark.parametrize("dawdle", [lambda _: None, DRIP], ids=["silent", "a byte a second"])
 def test_client_that_dawdles_keeps_no_command(club, dawdle):
-    """The server carries out each command within 0.9 seconds, while it still waits for the slow client. The server cuts off the slow client after
-    four seconds, the value of the option `--patience`."""
+    """The server carries out each command within 0.9 seconds, while it still waits for the slow
+    client. The server cuts off the slow client after four seconds, the value of the option
+    `--patience`."""
     commands = Times()
     with club.served("--patience", "4") as server, socket.create_connection(
         ("127.0.0.1", server.port), 60
@@ -338,7 +349,8 @@ def test_client_that_dawdles_keeps_no_command(club, dawdle):
 
 @pytest.mark.parametrize("number", range(1, 21))
 def test_killed_command_or_server(club, number):
-    """The status of a command states whether the server carried out the command, or that the outcome is unknown. The totals agree with the status."""
+    """The status of a command states whether the server carried out the command, or that the
+    outcome is unknown. The totals agree with the status."""
     with club.served() as server:
         before = club.balance("k1")
         command = subprocess.Popen(
@@ -373,8 +385,8 @@ def test_server_that_ends_takes_its_door_along(club):
 
 @pytest.mark.parametrize("bookings, count", [(0, 0), (300_000, 0), (300_000, 500)])
 def test_times(made, bookings, count):
-    """Measures the times in a small club without commands. Then measures the times in a club with 300,000 bookings of 1,000 other members, first
-    without commands and then with commands."""
+    """Measures the times in a small club without commands. Then measures the times in a club with
+    300,000 bookings of 1,000 other members, first without commands and then with commands."""
     club = made.copied_to(made.file.with_name(f"at {bookings}"))
     if bookings:
         desk.add_past_bookings(club.file, bookings, ROOT)

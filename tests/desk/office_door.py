@@ -1,14 +1,18 @@
 #!/usr/bin/env -S /usr/bin/python3 -B -m pytest -q -p no:cacheprovider
 """A running desk carries out each complete command once, and nothing else that reaches its door.
 
-The door is the Unix socket through which the desk's server receives the office's commands. The test sends truncated, slow and invalid commands. The
-test also runs senders and servers that misbehave. The real server must go on serving.
+The door is the Unix socket through which the desk's server receives the office's commands. The test
+sends truncated, slow and invalid commands. The test also runs senders and servers that misbehave.
+The real server must go on serving.
 
-The test sends each prefix of a command, commands of 70,000 bytes, and JSON that isn't an array of texts. Some commands have an unknown name, the
-name `serve`, or arguments that aren't UTF-8. Some senders close the connection before the greeting, are silent, or never read the answer.
-Some servers don't greet or answer, are suspended for longer than a timeout, or end before they greet. Then the test runs 50 simultaneous commands,
-and runs a command as the user root on another user's desk. Some doors are stale, belong to root or to a stranger, or are behind a link. Other doors
-are in a folder that a server can't write to, or on a full disk. The parts with other users or a full disk must run as root.
+The test sends each prefix of a command, commands of 70,000 bytes, and JSON that isn't an array of
+texts. Some commands have an unknown name, the name `serve`, or arguments that aren't UTF-8. Some
+senders close the connection before the greeting, are silent, or never read the answer. Some servers
+don't greet or answer, are suspended for longer than a timeout, or end before they greet. Then the
+test runs 50 simultaneous commands, and runs a command as the user root on another user's desk. Some
+doors are stale, belong to root or to a stranger, or are behind a link. Other doors are in a folder
+that a server can't write to, or on a full disk. The parts with other users or a full disk must run
+as root.
 """
 
 import contextlib
@@ -143,7 +147,8 @@ def test_a_sender_that_goes(club, serving):
 
 @pytest.mark.parametrize("length", [0, len(WHOLE) // 2, len(WHOLE)])
 def test_a_silent_sender(club, serving, length):
-    """The server cuts off a silent sender after 200 milliseconds. Other clients wait for these 200 milliseconds."""
+    """The server cuts off a silent sender after 200 milliseconds. Other clients wait for these 200
+    milliseconds."""
     with visitor(club) as it:
         began = time.monotonic()
         it.sendall(WHOLE[:length])
@@ -154,8 +159,9 @@ def test_a_silent_sender(club, serving, length):
 
 
 def test_a_sender_that_takes_no_answer(club):
-    """The day sheet is too large for the socket's buffer, and the sender doesn't read it. The server cuts off the sender after 200 milliseconds,
-    even if the server's patience is longer. The truncated answer doesn't end in a zero byte."""
+    """The day sheet is too large for the socket's buffer, and the sender doesn't read it. The
+    server cuts off the sender after 200 milliseconds, even if the server's patience is longer. The
+    truncated answer doesn't end in a zero byte."""
     club.sql(
         """WITH n(i) AS (SELECT 1 UNION ALL SELECT i + 1 FROM n WHERE i < 10000)
         INSERT INTO bookings SELECT 'amy-1', 1000 + i, 'court-1', 10957, 8, 0, 0, 0, 0, 0 FROM n"""
@@ -175,7 +181,8 @@ def test_a_sender_that_takes_no_answer(club):
 
 
 def test_a_server_that_does_not_greet(club, serving):
-    """The test suspends the server until the command's timeout is over. When the server continues, it doesn't carry out the command."""
+    """The test suspends the server until the command's timeout is over. When the server continues,
+    it doesn't carry out the command."""
     os.kill(serving.process.pid, signal.SIGSTOP)
     began = time.monotonic()
     assert club.command("credit", "amy", "1") == FAILED
@@ -195,7 +202,8 @@ def stopped(server):
 
 @pytest.mark.parametrize("length, wanted", [(len(WHOLE), (0, "done\n")), (len(WHOLE) - 1, (2, ""))])
 def test_a_server_that_is_stopped_while_a_command_comes(club, serving, length, wanted):
-    """A command arrives while the server is suspended. When the server continues, it carries out the command if the command is complete."""
+    """A command arrives while the server is suspended. When the server continues, it carries out
+    the command if the command is complete."""
     with visitor(club) as it:
         with stopped(serving):
             it.sendall(WHOLE[:length])
@@ -206,8 +214,8 @@ def test_a_server_that_is_stopped_while_a_command_comes(club, serving, length, w
 
 
 def test_a_server_that_is_stopped_while_a_client_sends(club):
-    """A request arrives while the server is suspended for longer than the server's patience. When the server continues, it replies to a complete
-    request and cuts off an incomplete one."""
+    """A request arrives while the server is suspended for longer than the server's patience. When
+    the server continues, it replies to a complete request and cuts off an incomplete one."""
     whole = kinds.account().data
     with club.served("--patience", "1") as server:
         for data, begins in ((whole, b"HTTP/1.1 200 "), (whole[:-1], b"")):
@@ -222,7 +230,8 @@ def test_a_server_that_is_stopped_while_a_client_sends(club):
 
 @pytest.mark.parametrize("is_followed", [False, True], ids=["by nobody", "by another server"])
 def test_a_server_that_ends_before_it_greets(club, clubdesk, is_followed):
-    """When the server ends, the client has sent no byte of the command. Therefore the client opens the file itself or connects to the next server."""
+    """When the server ends, the client has sent no byte of the command. Therefore the client opens
+    the file itself or connects to the next server."""
     with club.served() as server:
         os.kill(server.process.pid, signal.SIGSTOP)
         with subprocess.Popen(
@@ -268,8 +277,8 @@ def test_what_a_server_may_send(club, greeting, reply, wanted):
 
 
 def test_a_server_that_closes_after_it_greeted(club):
-    """The server closes the connection before it has read the whole command, so this server can't carry out the command. The next server carries out
-    the command."""
+    """The server closes the connection before it has read the whole command, so this server can't
+    carry out the command. The next server carries out the command."""
     with socket.socket(socket.AF_UNIX) as door:
         door.bind(f"{club.file}-office")
         door.listen()
@@ -291,8 +300,8 @@ def test_a_server_that_closes_after_it_greeted(club):
 
 
 def test_fifty_at_once(club, serving, clubdesk):
-    """The server carries out each command once. On a busy machine, a client may get no processor time until its timeout for sending is over.
-    Then the client tries again."""
+    """The server carries out each command once. On a busy machine, a client may get no processor
+    time until its timeout for sending is over. Then the client tries again."""
     commands = [
         subprocess.Popen(
             [clubdesk, "credit", club.file, "amy", "1"],
@@ -332,7 +341,8 @@ def test_a_command_of_root(of_another):
 
 @needs_root
 def test_a_stale_door_of_root(of_another, clubdesk):
-    """After someone kills a server that root started, the club's owner can still give commands and start a server."""
+    """After someone kills a server that root started, the club's owner can still give commands and
+    start a server."""
     with of_another.served() as server:
         server.kill()
     door = of_another.file.with_name("club-office")
@@ -364,8 +374,8 @@ with socket.socket(socket.AF_UNIX) as door:
 
 @needs_root
 def test_a_door_of_a_stranger(club, clubdesk):
-    """A stranger's program listens at the door's path, in a folder that everybody can write to. The stranger's program gets no command and no root,
-    and no server replaces the stranger's socket."""
+    """A stranger's program listens at the door's path, in a folder that everybody can write to. The
+    stranger's program gets no command and no root, and no server replaces the stranger's socket."""
     for parent in club.file.parents:
         if parent.stat().st_mode & 0o5 != 0o5:
             parent.chmod(0o755)

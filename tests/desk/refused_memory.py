@@ -1,7 +1,9 @@
 #!/usr/bin/env -S /usr/bin/python3 -B -m pytest -q -p no:cacheprovider
-"""If an allocation is refused, each command of `passtool` still prints the right result or reports "out of memory".
+"""If an allocation is refused, each command of `passtool` still prints the right result or reports
+"out of memory".
 
-The test runs each command with each form of a pass. Each run ends with status 4 and no output, or it ends as if no allocation had been refused.
+The test runs each command with each form of a pass. Each run ends with status 4 and no output, or
+it ends as if no allocation had been refused.
 """
 
 import os

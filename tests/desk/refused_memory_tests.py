@@ -1,14 +1,17 @@
 #!/usr/bin/env -S /usr/bin/python3 -B
-"""If an allocation is refused, each call in the chosen tests returns the right result, or reports "out of memory" and changes nothing.
+"""If an allocation is refused, each call in the chosen tests returns the right result, or reports
+"out of memory" and changes nothing.
 
-The chosen tests read and write example passes in each form, and open new and existing stores. The chosen tests also run each command of the office,
-and make an example booking with `Desk::ask`, `Desk::run` and `answer`.
+The chosen tests read and write example passes in each form, and open new and existing stores. The
+chosen tests also run each command of the office, and make an example booking with `Desk::ask`,
+`Desk::run` and `answer`.
 
-The program fails if a chosen test doesn't exist, fails with ample memory, or makes no allocation. If the built tests of a crate are missing or older
-than their sources, the program first proves and builds them.
+The program fails if a chosen test doesn't exist, fails with ample memory, or makes no allocation.
+If the built tests of a crate are missing or older than their sources, the program first proves and
+builds them.
 
-On the command line, name only tests that accept "out of memory" in place of the right result. A test that expects another fault fails when memory is
-refused.
+On the command line, name only tests that accept "out of memory" in place of the right result. A
+test that expects another fault fails when memory is refused.
   tests/desk/refused_memory_tests.py                                                          runs the tests in TESTS
   tests/desk/refused_memory_tests.py club_gate_tests                                          runs the tests of this crate in TESTS
   tests/desk/refused_memory_tests.py club_gate_tests store::shown::shows_what_a_key_sees ..   runs the named tests of this crate
@@ -48,7 +51,8 @@ ROOM = tempfile.TemporaryDirectory(dir=desk.IN_MEMORY)
 
 
 def built(crate):
-    """Returns the path of the program with a crate's tests. Proves and builds the program if it is missing or older than its sources."""
+    """Returns the path of the program with a crate's tests. Proves and builds the program if it is
+    missing or older than its sources."""
     if not (desk.ROOT / "crates" / crate / "src").is_dir():
         sys.exit(f"there is no crate {crate}")
     program, begun = desk.ROOT / "crates" / crate / "out" / f"{crate}_tests", time.time()
@@ -93,8 +97,9 @@ def built(crate):
 
 
 def ends_without_memory(output):
-    """Returns whether a test failed because a call reported "out of memory". The value that the test returned or got must be only this fault, perhaps
-    inside an `Err`. If the fault appears elsewhere, such as in an expected value, the test failed for another reason.
+    """Returns whether a test failed because a call reported "out of memory". The value that the
+    test returned or got must be only this fault, perhaps inside an `Err`. If the fault appears
+    elsewhere, such as in an expected value, the test failed for another reason.
     """
 
     def has_line(head):
@@ -108,7 +113,8 @@ def ends_without_memory(output):
 
 
 def refuse(crate, test, program):
-    """Runs a test with ample memory, and then once for each allocation, with this allocation refused. Returns the number of allocations."""
+    """Runs a test with ample memory, and then once for each allocation, with this allocation
+    refused. Returns the number of allocations."""
     if (
         f"{test}: test"
         not in subprocess.run(

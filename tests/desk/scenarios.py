@@ -1,11 +1,14 @@
 #!/usr/bin/env -S /usr/bin/python3 -B
-"""Each line of a scenario (crates/scenarios/README.md) gets its stated answer from the rules in Python and from `clubdesk`.
+"""Each line of a scenario (crates/scenarios/README.md) gets its stated answer from the rules in
+Python and from `clubdesk`.
 
-`tests/reference` has the rules in Python. For `clubdesk`, the club is in a file, and a server receives the requests over a socket. The test tries
-passes in all three forms. With `--self-test`, the test checks that it finds eight faults planted in the rules.
+`tests/reference` has the rules in Python. For `clubdesk`, the club is in a file, and a server
+receives the requests over a socket. The test tries passes in all three forms. With `--self-test`,
+the test checks that it finds eight faults planted in the rules.
 
-The test refuses a file if a line can't be read or has no answer, or if the commands that make a club fail. The test also refuses a file without any
-line. The test prints the place of each fault. The self-test tries faulty files of all these kinds.
+The test refuses a file if a line can't be read or has no answer, or if the commands that make a
+club fail. The test also refuses a file without any line. The test prints the place of each fault.
+The self-test tries faulty files of all these kinds.
 
     tests/desk/scenarios.py [--player rules|programs] [FILE ..]     plays all files, or the named files
     tests/desk/scenarios.py --self-test                             reads faulty files, and plants each fault in the rules
@@ -74,7 +77,8 @@ def write_counts():
 
 
 def play_file(path, player, prints):
-    """Runs the scenarios of a file in each form of passes. Prints the counts if `prints` is true. Returns the number of lines with an answer."""
+    """Runs the scenarios of a file in each form of passes. Prints the counts if `prints` is true.
+    Returns the number of lines with an answer."""
     scenarios = whole(path)
     for scenario in scenarios:
         for form in scenario.forms:
@@ -85,8 +89,8 @@ def play_file(path, player, prints):
 
 
 def played(paths, player, jobs, prints=True):
-    """Runs the scenarios of several files at the same time. Returns the number of lines with an answer. Also returns a text for each file with a
-    wrong answer or a fault."""
+    """Runs the scenarios of several files at the same time. Returns the number of lines with an
+    answer. Also returns a text for each file with a wrong answer or a fault."""
     count, faults = 0, []
     with ThreadPoolExecutor(jobs) as pool:
         for it in [pool.submit(play_file, path, player, prints) for path in paths]:
@@ -102,7 +106,8 @@ def outcome_of(answer):
 
 
 def filled(path):
-    """Returns the text of a file. Fills in the answer of the rules in Python where a line has no answer."""
+    """Returns the text of a file. Fills in the answer of the rules in Python where a line has no
+    answer."""
     text = path.read_text(encoding="utf-8").split("\n")
     for scenario in lines.read(path):
         player = Rules()
@@ -146,8 +151,9 @@ def reply_in(data):
 
 CLUB = "club  members amy 5 100; court-1 court 4 200 8-22; keys amy-1\nat  2026-04-20T12:00\n"
 ACCOUNT = 'amy-1  GET account  200 {"member":"amy","balance":100,"quota":5,"open":0,"spent":0}'
-# Faulty files: the text after CLUB, the line of the fault, and words of the message. If the line is None, the file is valid. The texts of
-# FAULTY_CLUBS are complete files, so CLUB isn't added to them.
+# Faulty files: the text after CLUB, the line of the fault, and words of the message. If the line is
+# None, the file is valid. The texts of FAULTY_CLUBS are complete files, so CLUB isn't added to
+# them.
 FAULTY = (
     ("", 2, "no expectation"),
     ("amy-1", 3, "not understood"),
@@ -199,8 +205,8 @@ FAULTY_CLUBS = (
 
 
 def is_refused(text, line, words):
-    """Returns whether the reader refuses the text at this line, with these words. If `line` is None, returns whether the reader accepts the
-    text."""
+    """Returns whether the reader refuses the text at this line, with these words. If `line` is
+    None, returns whether the reader accepts the text."""
     with tempfile.TemporaryDirectory() as folder:
         path = Path(folder, "odd.txt")
         path.write_text(text, encoding="utf-8")
@@ -216,7 +222,8 @@ def is_refused(text, line, words):
 
 
 def self_test(paths):
-    """Checks that the reader refuses each faulty file, and that the test finds each fault planted in the rules."""
+    """Checks that the reader refuses each faulty file, and that the test finds each fault planted
+    in the rules."""
     are_refused = [is_refused(CLUB + text, line, words) for text, line, words in FAULTY] + [
         is_refused(*it) for it in FAULTY_CLUBS
     ]
@@ -231,7 +238,7 @@ def self_test(paths):
 
 
 def main():
-    parser = argparse.ArgumentParser(description=__doc__.splitlines()[0])
+    parser = argparse.ArgumentParser(description=__doc__.partition("\n\n")[0])
     parser.add_argument(
         "files",
         nargs="*",

@@ -1,16 +1,21 @@
 #!/usr/bin/env -S /usr/bin/python3 -B -m pytest -q -p no:cacheprovider
-"""The server disconnects slow clients in time, and clients that send too many bytes still get their replies.
+"""The server disconnects slow clients in time, and clients that send too many bytes still get their
+replies.
 
-The clients that come after a slow client get their replies. Some clients send far more than a request before they read the reply.
+The clients that come after a slow client get their replies. Some clients send far more than a
+request before they read the reply.
 
-The server has a patience, or timeout, of two seconds. One client sends nothing, another sends only the beginning of its request, and a third sends a
-byte a second. A fourth client never reads its reply, and a fifth stays connected after its request. Then clients send 1,000 requests, each followed
-by 1 to 100,000 more bytes, and 1,000 heads of 100,000 bytes. Half of these requests and heads come in two pieces. Then clients send requests in
-three, four and six pieces, with a Content-Length or in chunks. During 100 more requests, the test suspends and resumes the server.
+The server has a patience, or timeout, of two seconds. One client sends nothing, another sends only
+the beginning of its request, and a third sends a byte a second. A fourth client never reads its
+reply, and a fifth stays connected after its request. Then clients send 1,000 requests, each
+followed by 1 to 100,000 more bytes, and 1,000 heads of 100,000 bytes. Half of these requests and
+heads come in two pieces. Then clients send requests in three, four and six pieces, with a
+Content-Length or in chunks. During 100 more requests, the test suspends and resumes the server.
 
-Each client sends all its bytes before it reads, as Python's HTTP clients do. A client gives up if it can't send its bytes. After it refused a request,
-the server closes the connection once no byte has come for 200 milliseconds. On a busy machine, a client may be late with a piece. Such a client may
-lose its reply, but at most a tenth of the clients may be late.
+Each client sends all its bytes before it reads, as Python's HTTP clients do. A client gives up if
+it can't send its bytes. After it refused a request, the server closes the connection once no byte
+has come for 200 milliseconds. On a busy machine, a client may be late with a piece. Such a client
+may lose its reply, but at most a tenth of the clients may be late.
 """
 
 import itertools
@@ -50,7 +55,8 @@ def replied(server, data):
 
 
 def is_late(server, pieces, pause, wanted):
-    """Sends pieces with a pause between them, and expects the reply. Returns whether a piece was so late that the client may have lost the reply."""
+    """Sends pieces with a pause between them, and expects the reply. Returns whether a piece was so
+    late that the client may have lost the reply."""
     reply, times = None, [time.monotonic()]
     with connected(server) as client:
         try:
@@ -77,7 +83,8 @@ def cut(text, count):
     [
         (b"", PATIENCE - 0.2, PATIENCE + 1),
         (REQUEST[:40], PATIENCE - 0.2, PATIENCE + 1),
-        # Two clients stay connected after their requests. The server waits a fifth of a second for more bytes.
+        # Two clients stay connected after their requests. The server waits a fifth of a second for
+        # more bytes.
         (REQUEST, 0, 1),
         (REQUEST + b"x", 0, 1),
     ],
@@ -92,7 +99,8 @@ def test_client_behind_one_that_dawdles(patient, dawdle, least, most):
 
 
 def test_client_of_a_byte_a_second_is_cut_off(patient):
-    """The server cuts off the client when the server's patience is over, although the client is never silent for long."""
+    """The server cuts off the client when the server's patience is over, although the client is
+    never silent for long."""
     with patient(2) as server:
         with connected(server) as client:
             began = time.monotonic()
@@ -123,7 +131,8 @@ def test_all_is_sent_before_it_is_read(patient, data_of, wanted):
 
 @pytest.mark.parametrize("count", [3, 4, 6])
 def test_requests_in_pieces(patient, count):
-    """Tries a body with a length, a body that arrives after its head, a body in chunks, and a body that is too long."""
+    """Tries a body with a length, a body that arrives after its head, a body in chunks, and a body
+    that is too long."""
     row = Row(
         "PUT", slot(facility="court-2") + "/bookings/7", '{"guests":' + " " * 240 + "0}"
     ).gets(14)

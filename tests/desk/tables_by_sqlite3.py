@@ -1,10 +1,13 @@
 #!/usr/bin/env -S /usr/bin/python3 -B -m pytest -q -p no:cacheprovider
-"""The sqlite3 shell reads a file of `clubdesk`, and the SQL for lists and corrections in examples/ works.
+"""The sqlite3 shell reads a file of `clubdesk`, and the SQL for lists and corrections in examples/
+works.
 
-If a file is damaged, or has wrong tables or a row outside the limits, `clubdesk` reports that storage failed.
+If a file is damaged, or has wrong tables or a row outside the limits, `clubdesk` reports that
+storage failed.
 
-A file of clubdesk has the columns, keys, references and limits of docs/TABLES.md. clubdesk shows the changes that sqlite3 makes within these limits.
-If clubdesk refuses a file, it doesn't change a byte of the file.
+A file of clubdesk has the columns, keys, references and limits of docs/TABLES.md. clubdesk shows
+the changes that sqlite3 makes within these limits. If clubdesk refuses a file, it doesn't change a
+byte of the file.
 """
 
 import re
@@ -44,7 +47,8 @@ SCHEMA = re.search(
     re.MULTILINE | re.DOTALL,
 )[1]
 TABLES = re.findall(r"^CREATE TABLE (\w+)", SCHEMA, re.MULTILINE)
-# For each column with limits in docs/TABLES.md: its table, its name, its least value and its greatest value.
+# For each column with limits in docs/TABLES.md: its table, its name, its least value and its
+# greatest value.
 LIMITS = [
     (table, *limit)
     for table, columns in re.findall(
@@ -73,8 +77,9 @@ def tells(
     nine=True,
     room=False,
 ):
-    """Returns requests for three slots and the account, and a command for the day sheet, with the expected answers. `nine` is true if the court's
-    slot at 9:00 is closed, and `room` is true if the room's slot is closed."""
+    """Returns requests for three slots and the account, and a command for the day sheet, with the
+    expected answers. `nine` is true if the court's slot at 9:00 is closed, and `room` is true if
+    the room's slot is closed."""
     rows = [
         shown(0, 9, nine),
         shown(taken),
@@ -101,7 +106,8 @@ FIRST = tells(3, 9099, 1, 901)
 
 @pytest.fixture(scope="module")
 def made(new_club):
-    """A club with two bookings. One of the bookings was cancelled less than a day before its slot."""
+    """A club with two bookings. One of the bookings was cancelled less than a day before its
+    slot."""
     club = new_club(
         "add-member amy 5",
         "credit amy 10000",
@@ -121,7 +127,8 @@ def made(new_club):
 
 @pytest.fixture
 def club(made, tmp_path):
-    """Copies the club's file without its write-ahead log. The file alone contains the whole club."""
+    """Copies the club's file without its write-ahead log. The file alone contains the whole
+    club."""
     shutil.copy(made.file, tmp_path / "club")
     return Club(made.program, tmp_path / "club")
 
@@ -193,7 +200,8 @@ def statements(texts):
 
 
 def test_columns_keys_references_and_limits(club):
-    """The CREATE statements have exactly the words of docs/TABLES.md. No column may be null, and all tables are STRICT."""
+    """The CREATE statements have exactly the words of docs/TABLES.md. No column may be null, and
+    all tables are STRICT."""
     found = [it for it, in club.sql("SELECT sql FROM sqlite_schema WHERE sql NOT NULL")]
     assert statements(found) == statements(
         it for it in SCHEMA.split(";\n") if it.startswith("CREATE ")
@@ -209,7 +217,8 @@ def test_columns_keys_references_and_limits(club):
 
 
 def test_what_sqlite3_writes_is_told(club):
-    """clubdesk shows rows that sqlite3 has changed within the limits, even if clubdesk left a write-ahead log next to the file."""
+    """clubdesk shows rows that sqlite3 has changed within the limits, even if clubdesk left a
+    write-ahead log next to the file."""
     club.does(f"sheet {DAY}")
     sql(
         club,
@@ -238,7 +247,8 @@ def test_what_sqlite3_writes_is_told(club):
 
 
 def by_recipe(club, heading):
-    """Runs the statements below a comment that begins with these words in the sqlite3 shell, and returns the output."""
+    """Runs the statements below a comment that begins with these words in the sqlite3 shell, and
+    returns the output."""
     return shell(
         club, given=re.search(rf"^-- {heading}.*\n((?:(?!--).+\n)+)", RECIPES, re.MULTILINE)[1]
     )
@@ -253,8 +263,8 @@ def sound(club):
 
 
 def corrected(club, heading, again):
-    """Runs a correction twice. The first run changes one row. The second run changes `again` rows, and leaves the file unchanged if `again` is
-    0."""
+    """Runs a correction twice. The first run changes one row. The second run changes `again` rows,
+    and leaves the file unchanged if `again` is 0."""
     assert by_recipe(club, heading) == "1\n"
     sound(club)
     before = dump(club)
@@ -274,7 +284,8 @@ def test_lists(club):
 
 
 def test_corrections(club):
-    """After the corrections, the desk answers as if the club had always been in the corrected state."""
+    """After the corrections, the desk answers as if the club had always been in the corrected
+    state."""
     corrected(club, "A credit that was too high", 1)
     corrected(club, "Another quota", 1)
     corrected(club, "A slot that is open again", 0)
@@ -304,7 +315,8 @@ def test_corrections(club):
     ids=["none", "empty", "of others"],
 )
 def test_file_that_becomes_a_club(clubdesk, tmp_path, before):
-    """clubdesk makes a club in a new file, in an empty file, and in a file with another program's table. The other table stays."""
+    """clubdesk makes a club in a new file, in an empty file, and in a file with another program's
+    table. The other table stays."""
     club = Club(clubdesk, tmp_path / "new")
     if before is not None:
         club.file.touch()
@@ -329,8 +341,8 @@ def test_file_that_becomes_a_club(clubdesk, tmp_path, before):
     ],
 )
 def test_file_of_before_is_migrated(club, change):
-    """The test changes the file to an older format. After the migration, the rows and the schema are the same as before this change, and no key has
-    an older root."""
+    """The test changes the file to an older format. After the migration, the rows and the schema
+    are the same as before this change, and no key has an older root."""
     schema = sql(club, "SELECT type, name, sql FROM sqlite_schema")
     sql(club, change)
     club.play(FIRST)
@@ -342,8 +354,9 @@ def test_file_of_before_is_migrated(club, change):
 
 
 def refused(club):
-    """Checks that clubdesk reports a storage fault for a day sheet. If clubdesk can read the day sheet, one of several requests must get the reply
-    "unavailable". The file and its rows must stay unchanged."""
+    """Checks that clubdesk reports a storage fault for a day sheet. If clubdesk can read the day
+    sheet, one of several requests must get the reply "unavailable". The file and its rows must stay
+    unchanged."""
     before = club.file.read_bytes(), dump(club)
     status, _, fault = club.command("sheet", DAY)
     if (status, fault) != (5, "storage failed\n"):
@@ -376,8 +389,9 @@ def test_command_that_is_refused_changes_nothing(club):
 
 @pytest.mark.parametrize("table, column, least, most", LIMITS, ids=map(" ".join, LIMITS))
 def test_limit(club, table, column, least, most):
-    """sqlite3 accepts the least and the greatest value of each column, and refuses values outside these limits. If sqlite3 ignores the limits and
-    writes such a value, the desk refuses the file."""
+    """sqlite3 accepts the least and the greatest value of each column, and refuses values outside
+    these limits. If sqlite3 ignores the limits and writes such a value, the desk refuses the
+    file."""
     sql(club, "INSERT INTO old_roots VALUES ('amy-1', zeroblob(16), 20000000)")
     kept = club.copied_to(club.file.with_name("kept"))
     for value in (int(least) - 1, int(least), int(most), int(most) + 1):

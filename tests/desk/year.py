@@ -1,13 +1,17 @@
 #!/usr/bin/env python3
-"""During a simulated year with kills and both changes of summer time, `clubdesk` answers as the rules in Python do.
+"""During a simulated year with kills and both changes of summer time, `clubdesk` answers as the
+rules in Python do.
 
-`tests/reference` has these rules. The test compares each reply, each command's answer and each day sheet. Every 30 days the test compares all rows
-and totals. With `--self-test`, the test checks that it finds faults planted in the rules.
+`tests/reference` has these rules. The test compares each reply, each command's answer and each day
+sheet. Every 30 days the test compares all rows and totals. With `--self-test`, the test checks that
+it finds faults planted in the rules.
 
-Members use narrowed passes, and the office uses each of its commands. tests/lib/set_clock.c sets the clock of each server. The server converts the
-clock's time to the club's civil time with the zone's POSIX rule. The test converts the clock's time with Python's zoneinfo. After a kill, the test
-sends the request or command again. The second answer must match the rules, whether or not the killed program carried out the first try. A repeated
-command may also report that its key exists already.
+Members use narrowed passes, and the office uses each of its commands. tests/lib/set_clock.c sets
+the clock of each server. The server converts the clock's time to the club's civil time with the
+zone's POSIX rule. The test converts the clock's time with Python's zoneinfo. After a kill, the test
+sends the request or command again. The second answer must match the rules, whether or not the
+killed program carried out the first try. A repeated command may also report that its key exists
+already.
 
     tests/desk/year.py [--seed N] [--days N] [--requests N] [--self-test]
 """
@@ -47,7 +51,8 @@ DAYS_OF_SUMMER_TIME = (86, 87, 88, 296, 297, 298)  # about the ends of March and
 
 
 def civil_minute(instant):
-    """Returns what the club's clock shows at an instant, as minutes since 1970-01-01T00:00 on that clock."""
+    """Returns what the club's clock shows at an instant, as minutes since 1970-01-01T00:00 on that
+    clock."""
     shown = instant.astimezone(ZONE)
     return (shown.date() - caveats.EPOCH).days * 1440 + shown.hour * 60 + shown.minute
 
@@ -74,7 +79,8 @@ class Year(Both):
         self.hand_out(key)
 
     def hand_out(self, key):
-        """Adds the key's full pass and two narrowed passes to the passes in use, each in a random form."""
+        """Adds the key's full pass and two narrowed passes to the passes in use, each in a random
+        form."""
         whole = passes.minted(self.roots[key][-1], b"key:" + key.encode())
         held = [whole, *(self.narrowed(whole) for _ in range(2))]
         self.passes.setdefault(key, []).extend(
@@ -169,8 +175,9 @@ class Year(Both):
             )
 
     def give_and_kill(self, command):
-        """Runs a command that adds a key, and kills it after a random delay of at most 30 ms. Then runs the command again. The second try must
-        succeed, or report that the key exists already."""
+        """Runs a command that adds a key, and kills it after a random delay of at most 30 ms. Then
+        runs the command again. The second try must succeed, or report that the key exists
+        already."""
         self.next_key += 1
         process = subprocess.Popen(
             [self.desk, *map(str, self.words_of(command))],
@@ -237,8 +244,8 @@ class Year(Both):
         return programs.Server(self.desk, self.file, count, "--zone", RULE, variables=variables)
 
     def served(self, instant, count):
-        """Sends requests to a server whose clock shows this instant. Kills about one server in nine during a request, and sends the remaining
-        requests to a new server."""
+        """Sends requests to a server whose clock shows this instant. Kills about one server in nine
+        during a request, and sends the remaining requests to a new server."""
         moment = civil_minute(instant)
         kill_at = self.draw.randrange(count) if self.draw.randrange(KILLS_ONE_IN) == 0 else count
         asked = [self.request(moment) for _ in range(count)]
@@ -253,7 +260,8 @@ class Year(Both):
                     self.ask(server, data, moment)
 
     def cut_off(self, server, data):
-        """Sends a request, and kills the server while the server carries out the request or shortly afterwards."""
+        """Sends a request, and kills the server while the server carries out the request or shortly
+        afterwards."""
         with socket.create_connection(("127.0.0.1", server.port), 30) as client:
             client.sendall(data)
             time.sleep(self.draw.choice((0, 0.0001, 0.0005, 0.002)))
@@ -261,8 +269,8 @@ class Year(Both):
         self.kills += 1
 
     def pass_day(self, day, requests):
-        """Simulates a day of the club: first the office's commands, then two or three servers, and finally the day sheet. On days near a change of
-        summer time, runs six more servers."""
+        """Simulates a day of the club: first the office's commands, then two or three servers, and
+        finally the day sheet. On days near a change of summer time, runs six more servers."""
         draw = self.draw
         instants = sorted(
             NEW_YEAR + timedelta(days=day, minutes=draw.randrange(16 * 60))
@@ -298,7 +306,7 @@ def run(given, desk, plant=None):
 
 
 def main():
-    parser = argparse.ArgumentParser(description=__doc__.splitlines()[0])
+    parser = argparse.ArgumentParser(description=__doc__.partition("\n\n")[0])
     parser.add_argument("--seed", type=int, default=1)
     parser.add_argument("--days", type=int, default=365)
     parser.add_argument(

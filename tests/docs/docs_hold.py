@@ -1,12 +1,16 @@
 #!/usr/bin/env -S /usr/bin/python3 -B -m pytest -q -p no:cacheprovider
 """The commands, outputs, links and names on the pages are correct.
 
-The test compares README.md, CONTRIBUTING.md, the pages of docs/, and the README.md of each crate with the rest of the repository.
-- The test runs each ```console block. The blocks of a page run one after the other, in a new folder for each page. The variable PATH includes
-  bin/ and a folder with the built programs. A line that begins with `$ ` is a command, and the lines after it are the command's standard output and
-  error. The test ignores empty lines and spaces at the end of a line. The test may replace port 8080 with a free port.
+The test compares README.md, CONTRIBUTING.md, the pages of docs/, and the README.md of each crate
+with the rest of the repository.
+- The test runs each ```console block. The blocks of a page run one after the other, in a new folder
+  for each page. The variable PATH includes bin/ and a folder with the built programs. A line that
+  begins with `$ ` is a command, and the lines after it are the command's standard output and error.
+  The test ignores empty lines and spaces at the end of a line. The test may replace port 8080 with
+  a free port.
 - The docstrings of the tests below describe the other checks.
-The variables CLUBDESK and PASSTOOL have the paths of the programs. If a variable is unset, the test proves and builds its program first.
+The variables CLUBDESK and PASSTOOL have the paths of the programs. If a variable is unset, the test
+proves and builds its program first.
   tests/docs/docs_hold.py                    every page
   tests/docs/docs_hold.py -k DESK            the pages whose names have this word
   tests/docs/docs_hold.py --no-commands ..   only the checks that need no program of ours
@@ -125,7 +129,8 @@ OF_STD = {"test_kit": {"expect"}}
 
 @each_page
 def test_quoted_lines_are_in_a_file(page):
-    """Each paragraph of a ```rust, ```antt or ```text block is in a file of crates/. The indentation may differ."""
+    """Each paragraph of a ```rust, ```antt or ```text block is in a file of crates/. The
+    indentation may differ."""
     texts = [re.sub(r"^ +", "", text, flags=re.MULTILINE) for text in CODE.values()]
     for language in ("rust", "antt", "text"):
         for quote in (
@@ -137,8 +142,8 @@ def test_quoted_lines_are_in_a_file(page):
 
 
 def anchors(page):
-    """Returns the anchors of a page's headings. An anchor is the heading in lower case, with dashes in place of spaces, and without punctuation
-    except `-` and `_`."""
+    """Returns the anchors of a page's headings. An anchor is the heading in lower case, with dashes
+    in place of spaces, and without punctuation except `-` and `_`."""
     text = re.sub(
         r"^```.*?^```.*?\n",
         "",
@@ -162,8 +167,8 @@ def test_links_lead_to_pages_and_headings(page):
 
 @each_page
 def test_files_and_names_are_there(page):
-    """Each file that a page names exists. If a crate's page names a file or a folder of the crate, the file or folder exists. Each name
-    `crate::..::name` or `Type::name` has a definition."""
+    """Each file that a page names exists. If a crate's page names a file or a folder of the crate,
+    the file or folder exists. Each name `crate::..::name` or `Type::name` has a definition."""
     words = ticked(prose(page))
     scripts = [
         it
@@ -191,8 +196,8 @@ def test_files_and_names_are_there(page):
 
 @pytest.mark.parametrize("page", [it for it in PAGES if it.startswith("crates/")])
 def test_bare_names_of_a_crate(page):
-    """A crate's page mentions no unknown plain names. A known name is a word of the crate's code, a file of its folder, another crate's
-    definition, a crate or a library."""
+    """A crate's page mentions no unknown plain names. A known name is a word of the crate's code, a
+    file of its folder, another crate's definition, a crate or a library."""
     folder = Path(page).parent
     crate, names = folder.name, {name for _, name in DEFINED}
     code = "\n".join(
@@ -211,8 +216,9 @@ def test_bare_names_of_a_crate(page):
 
 @each_page
 def test_definitions_are_in_their_files(page):
-    """A list of definitions has the form `Definitions: NAME, .. in FILE; NAME, .. in FILE`. Each FILE of the list defines the names before it. A
-    FILE without a folder is in the folder of the FILE before it. FILE may also be a folder of specs/. If FILE is a folder, a file in this folder
+    """A list of definitions has the form `Definitions: NAME, .. in FILE; NAME, .. in FILE`. Each
+    FILE of the list defines the names before it. A FILE without a folder is in the folder of the
+    FILE before it. FILE may also be a folder of specs/. If FILE is a folder, a file in this folder
     defines each name."""
     for line in re.findall(r"Definitions?: (`.*)", prose(page)):
         pieces, names, folder = line.split("`"), [], ""
@@ -233,8 +239,9 @@ def test_definitions_are_in_their_files(page):
 
 @each_page
 def test_passes_are_written_under_temporary_names(page):
-    """A command that prints a pass must write to a file whose name ends in .new (`> pass.new && mv pass.new pass`). If the command wrote to the old
-    file and were refused, the shell would already have emptied the file."""
+    """A command that prints a pass must write to a file whose name ends in .new (`> pass.new && mv
+    pass.new pass`). If the command wrote to the old file and were refused, the shell would already
+    have emptied the file."""
     commands = [
         it
         for block in blocks(page, "console")
@@ -257,8 +264,9 @@ def test_passes_are_written_under_temporary_names(page):
 
 
 def test_laws():
-    """README lists the laws of docs/proofs/PROMISES.md in the same order. Each law ends in a link to docs/proofs/PROMISES.md. The text of the link names a
-    function and one of the function's clauses. tests/audit.py checks the functions and clauses of docs/proofs/PROMISES.md.
+    """README lists the laws of docs/proofs/PROMISES.md in the same order. Each law ends in a link
+    to docs/proofs/PROMISES.md. The text of the link names a function and one of the function's
+    clauses. tests/audit.py checks the functions and clauses of docs/proofs/PROMISES.md.
     """
     title = r"^\d+\. \*\*(.*?)\.\*\*"
     laws = re.findall(title, TEXTS["docs/proofs/PROMISES.md"], re.MULTILINE)
@@ -278,7 +286,8 @@ def test_first_page_is_short():
 
 
 def test_sizes_on_the_first_page():
-    """README's numbers of lines are right to a twentieth. The lines to believe are those of docs/proofs/AUDIT.md."""
+    """README's numbers of lines are right to a twentieth. The lines to believe are those of
+    docs/proofs/AUDIT.md."""
     number = r"(\d[\d,]*)"
     given = re.search(
         rf"about {number} lines of code, {number} of definitions and {number} of proofs\..* {number} lines of definitions",
@@ -300,15 +309,16 @@ def test_sizes_on_the_first_page():
 
 
 def test_layers():
-    """The table of docs/LAYERS.md has the layers (`# NAME: WHAT`) and the crates of crates.txt, in the same order."""
+    """The table of docs/LAYERS.md has the layers (`# NAME: WHAT`) and the crates of crates.txt, in
+    the same order."""
     crates, page = Path("crates.txt").read_text(encoding="utf-8"), TEXTS["docs/LAYERS.md"]
     order = re.findall(r"^# ([^:\n]*):|^([a-z][a-z_0-9]*)[ :]", crates, re.MULTILINE)
     assert re.findall(r"^\| \*\*([^*]*)\*\* \||^\| `([a-z_0-9]+)` \|", page, re.MULTILINE) == order
 
 
 def test_tour():
-    """Each question has three to six steps of the form `PATH`: `NAME`, .. If PATH is a file of code, the file defines NAME. If PATH isn't a file of
-    code, the file contains NAME."""
+    """Each question has three to six steps of the form `PATH`: `NAME`, .. If PATH is a file of
+    code, the file defines NAME. If PATH isn't a file of code, the file contains NAME."""
     questions = re.split(r"^## ", TEXTS["docs/TOUR.md"], flags=re.MULTILINE)[1:]
     assert len(questions) == 24
     for question in questions:
@@ -324,14 +334,16 @@ def test_tour():
 
 
 def test_audit_is_made_of_the_sources():
-    """docs/proofs/AUDIT.md is exactly the output of tests/audit.py. The clauses of a function that states a promise depend on a definition of
-    specs/computed/ only if docs/proofs/PROMISES.md names it, or if a named definition depends on it. In the second part of docs/TOUR.md, each step of a path
-    cites the next step."""
+    """docs/proofs/AUDIT.md is exactly the output of tests/audit.py. The clauses of a function that
+    states a promise depend on a definition of specs/computed/ only if docs/proofs/PROMISES.md names
+    it, or if a named definition depends on it. In the second part of docs/TOUR.md, each step of a
+    path cites the next step."""
     subprocess.run(["tests/audit.py", "--strict"], check=True, stdout=subprocess.DEVNULL)
 
 
 def test_table_of_groups():
-    """The table of docs/TESTING.md has each group of tests/pytest.ini, with the group's description."""
+    """The table of docs/TESTING.md has each group of tests/pytest.ini, with the group's
+    description."""
     groups = re.findall(
         r"^ +(\w+): group: (.*)$",
         Path("tests/pytest.ini").read_text(encoding="utf-8"),
@@ -364,8 +376,8 @@ def test_glossary_gives_words_of_code():
 
 
 def test_each_decision_has_its_day_and_status():
-    """Each paragraph below a heading of docs/DECISIONS.md begins with the decision. The paragraph ends with the day on which the decision was
-    written down, and with a status."""
+    """Each paragraph below a heading of docs/DECISIONS.md begins with the decision. The paragraph
+    ends with the day on which the decision was written down, and with a status."""
     sections = re.split(r"^## .*\n", TEXTS["docs/DECISIONS.md"], flags=re.MULTILINE)[1:]
     for paragraph in (it for section in sections for it in re.split(r"\n\n+", section.strip())):
         assert re.fullmatch(
@@ -398,8 +410,9 @@ def squeezed(text):
 
 
 def script_of(text):
-    """Turns a page's commands into a script that prints each command before it runs the command. `$?` is the status of the previous command. After
-    a command that ends in `&`, the script waits until the command has printed something."""
+    """Turns a page's commands into a script that prints each command before it runs the command.
+    `$?` is the status of the previous command. After a command that ends in `&`, the script waits
+    until the command has printed something."""
     lines = ["trap 'kill $(jobs -p) 2>/dev/null' EXIT", 'again() { return "$1"; }']
     for command in re.findall(r"^\$ (.*)", text, re.MULTILINE):
         is_behind = command.endswith(" &")
@@ -417,7 +430,8 @@ def script_of(text):
 
 
 def free_port(number):
-    """Returns the first free port from this number on. A port that a program has just used isn't free."""
+    """Returns the first free port from this number on. A port that a program has just used isn't
+    free."""
     is_used = any(
         f":{number:04X} " in it.read_text()
         for it in (Path("/proc/net/tcp"), Path("/proc/net/tcp6"))
@@ -436,10 +450,11 @@ def test_commands(page, tmp_path):
     # A page's commands may use these folders of the repository.
     for folder in ("bin", "deploy", "bindings"):
         (room / folder).symlink_to(desk.ROOT / folder)
-    # The file .curlrc makes curl print a line feed after each reply, because the body of a reply has no line feed at its end.
+    # The file .curlrc makes curl print a line feed after each reply, because the body of a reply
+    # has no line feed at its end.
     (tmp_path / ".curlrc").write_text('silent\nshow-error\nnoproxy = "*"\nwrite-out = "\\n"\n')
-    # The test builds the page's programs before it runs the commands. Without this step, the output of a build would count as a program's output,
-    # and a proof would use up the page's time.
+    # The test builds the page's programs before it runs the commands. Without this step, the output
+    # of a build would count as a program's output, and a proof would use up the page's time.
     given = tmp_path / "given"
     given.mkdir()
     for name in ("passtool", "clubdesk"):

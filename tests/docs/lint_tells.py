@@ -1,8 +1,9 @@
 #!/usr/bin/env -S /usr/bin/python3 -B -m pytest -q -p no:cacheprovider
-"""`tests/lint.py` finds foreign English, faulty subjects of commits and misspelt words, and finds nothing in plain English.
+"""`tests/lint.py` finds foreign English, faulty subjects of commits and misspelt words, and finds
+nothing in plain English.
 
-tests/lint.py checks the English only of added lines, and ignores code. With the same seed, `tests/docs/sentences.py` always draws the same
-sentences.
+tests/lint.py checks the English only of added lines, and ignores code. With the same seed,
+`tests/docs/sentences.py` always draws the same sentences.
 
 The test makes small repositories for these checks.
 """

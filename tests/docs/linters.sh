@@ -2,8 +2,9 @@
 # pyflakes, shellcheck, gofmt and go vet find no faults except those that the code excuses with a stated reason. black finds nothing to lay out anew.
 #
 # The program shellcheck reads the shell scripts and bats files of tests/, bin/ and deploy/. The program pyflakes reads the Python files of these
-# folders, of examples/ and of bindings/. If gofmt is installed, gofmt reads the Go files of tests/, examples/ and bindings/. If Debian's packages for
-# the desk in Go are also installed, go vet reads the desk's files.
+# folders, of examples/ and of bindings/. If gofmt is installed, gofmt reads the Go files of tests/,
+# examples/ and bindings/. If Debian's packages for the desk in Go are also installed, go vet reads
+# the desk's files.
 #
 # pytestmark = [mark.quick, mark.wants("shellcheck pyflakes3 black")]
 set -eu

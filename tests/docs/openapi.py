@@ -1,13 +1,15 @@
 #!/usr/bin/env -S /usr/bin/python3 -B -m pytest -q -p no:cacheprovider
-"""Each kind of reply that the server gives is right byte for byte, and docs/openapi.yaml describes it.
+"""Each kind of reply that the server gives is right byte for byte, and docs/openapi.yaml describes
+it.
 
-The replies are the rows of the table in tests/lib/kinds.py. The file docs/openapi.yaml obeys the schema of OpenAPI 3.0, and each of its examples
-equals one of these replies.
+The replies are the rows of the table in tests/lib/kinds.py. The file docs/openapi.yaml obeys the
+schema of OpenAPI 3.0, and each of its examples equals one of these replies.
 
-The schema comes from Debian's openapi-specification. A scene of the table is a list of requests and commands. The test runs each scene with a
-new server for each request. If a reply depends on earlier requests, the server must find their effects in the file. The bytes of a reply must
-equal those of the rules in Python. The status, fields and body of the reply must match the description and obey its schema. docs/openapi.yaml
-has the same faults and statuses as the table of docs/CLIENT.md.
+The schema comes from Debian's openapi-specification. A scene of the table is a list of requests and
+commands. The test runs each scene with a new server for each request. If a reply depends on earlier
+requests, the server must find their effects in the file. The bytes of a reply must equal those of
+the rules in Python. The status, fields and body of the reply must match the description and obey
+its schema. docs/openapi.yaml has the same faults and statuses as the table of docs/CLIENT.md.
 """
 
 import json
@@ -38,7 +40,8 @@ RESOLVER = jsonschema.RefResolver.from_schema(DOCUMENT)
 
 
 def found(part):
-    """Returns a part of the description. If the part is a reference, returns the part that it refers to."""
+    """Returns a part of the description. If the part is a reference, returns the part that it
+    refers to."""
     return RESOLVER.resolve(part["$ref"])[1] if "$ref" in part else part
 
 
@@ -87,7 +90,8 @@ def response_to(row, status):
 
 
 def example_of(row, reply):
-    """Checks the reply's fields and body. Returns the operation, the status, and the name of the example that equals the reply, or None."""
+    """Checks the reply's fields and body. Returns the operation, the status, and the name of the
+    example that equals the reply, or None."""
     operation, response = response_to(row, reply.status)
     described = {
         "Content-Type": ["application/json"],

@@ -1,9 +1,12 @@
 #!/usr/bin/env -S /usr/bin/python3 -B -m pytest -q -p no:cacheprovider
-"""The server answers each request in the tables of docs/HANDING_ON.md and docs/CLIENT.md as the page states.
+"""The server answers each request in the tables of docs/HANDING_ON.md and docs/CLIENT.md as the
+page states.
 
-The test runs the commands of a page's console blocks, and sends each request of the page's tables. The head of a table states the pass and the
-moment of the table's requests. The commands before the first table of a section make a club without bookings. The section's requests and later
-commands use a copy of this club. Another test, docs_hold.py, runs the same blocks, including the commands that start servers.
+The test runs the commands of a page's console blocks, and sends each request of the page's tables.
+The head of a table states the pass and the moment of the table's requests. The commands before the
+first table of a section make a club without bookings. The section's requests and later commands use
+a copy of this club. Another test, docs_hold.py, runs the same blocks, including the commands that
+start servers.
 """
 
 import os

@@ -1,8 +1,10 @@
 #!/usr/bin/env -S /usr/bin/python3 -B
-"""Draws sentences at random, for a reader who didn't write them. The reader marks each sentence that needs a second reading.
+"""Draws sentences at random, for a reader who didn't write them. The reader marks each sentence
+that needs a second reading.
 
-The code (its docstrings and comments), the pages, and the help each give a third of the sentences. The help consists of the tables of commands, the
-manual pages, and the texts of the office and of web/. In the same tree, the same seed always draws the same sentences.
+The code (its docstrings and comments), the pages, and the help each give a third of the sentences.
+The help consists of the tables of commands, the manual pages, and the texts of the office and of
+web/. In the same tree, the same seed always draws the same sentences.
 
     tests/docs/sentences.py                         forty sentences, seed 1
     tests/docs/sentences.py --seed 7 --count 12     twelve with another seed
@@ -74,7 +76,8 @@ def all_sentences(below):
 
 
 def context(file, line):
-    """Returns the lines around a line of a file, up to the next blank lines. In a page's table, returns the line of titles and the row."""
+    """Returns the lines around a line of a file, up to the next blank lines. In a page's table,
+    returns the line of titles and the row."""
     lines = (ROOT / file).read_text(encoding="utf-8").splitlines()
     first = last = line - 1
     is_row = file.endswith(".md") and lines[first].lstrip().startswith("|")
@@ -88,7 +91,8 @@ def context(file, line):
 
 
 def drawn(found, seed, count):
-    """Yields an equal number of sentences of each kind. If the count can't be divided equally, the first kinds get one sentence more."""
+    """Yields an equal number of sentences of each kind. If the count can't be divided equally, the
+    first kinds get one sentence more."""
     dice, kinds = random.Random(seed), [it for it in found if found[it]]
     for place, kind in enumerate(kinds):
         share = count // len(kinds) + (place < count % len(kinds))

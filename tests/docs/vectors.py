@@ -1,9 +1,12 @@
 #!/usr/bin/env -S /usr/bin/python3 -B -m pytest -q -p no:cacheprovider
-"""`passtool` and the server agree with docs/vectors.json about passes, invalid texts, caveats and replies.
+"""`passtool` and the server agree with docs/vectors.json about passes, invalid texts, caveats and
+replies.
 
-docs/vectors.json has each pass in each form, and other texts of one pass. docs/vectors.json also has the verdict of each caveat on each request,
-and each reply byte for byte. Between some requests, the test runs commands of the office, and each command prints its expected lines. Python's
-standard library must compute the same signatures. pymacaroons must write the same V1 and V2 texts, for the passes that it can write.
+docs/vectors.json has each pass in each form, and other texts of one pass. docs/vectors.json also
+has the verdict of each caveat on each request, and each reply byte for byte. Between some requests,
+the test runs commands of the office, and each command prints its expected lines. Python's standard
+library must compute the same signatures. pymacaroons must write the same V1 and V2 texts, for the
+passes that it can write.
 """
 
 import contextlib
@@ -54,7 +57,8 @@ def shown(data):
 
 
 def texts_of(vector):
-    """Returns the location, the identifier and the caveats as texts, or None if one of them isn't UTF-8."""
+    """Returns the location, the identifier and the caveats as texts, or None if one of them isn't
+    UTF-8."""
     try:
         return [
             it.decode()
@@ -85,7 +89,8 @@ def test_signatures_by_the_standard_library(vector):
 
 @each(WITH_A_ROOT)
 def test_texts_by_pymacaroons(vector):
-    """pymacaroons can write only passes in ASCII with an identifier, and in V2 only passes with a location."""
+    """pymacaroons can write only passes in ASCII with an identifier, and in V2 only passes with a
+    location."""
     texts = texts_of(vector)
     if texts is None or not all(it.isascii() for it in texts) or not texts[1]:
         pytest.skip("pymacaroons counts characters instead of bytes, and needs an identifier")
@@ -158,7 +163,8 @@ def test_text_that_is_no_pass(passtool, vector):
 
 @pytest.fixture(scope="module")
 def made(clubdesk, tmp_path_factory):
-    """Makes the club of the vectors. `amy` is the pass that the club's first add-key command prints."""
+    """Makes the club of the vectors. `amy` is the pass that the club's first add-key command
+    prints."""
     club = Club(clubdesk, tmp_path_factory.mktemp("made") / "club")
     printed = [
         club.does(command.removeprefix("clubdesk ").replace(" CLUB", ""))
@@ -217,7 +223,8 @@ def command_of(step):
 @pytest.mark.parametrize("is_served", [False, True], ids=["file", "door"])
 @each(VECTORS["office"])
 def test_commands_between_requests(club, vector, is_served):
-    """Runs each command on the club's file, directly or while a server runs. Sends each request to a new server."""
+    """Runs each command on the club's file, directly or while a server runs. Sends each request to
+    a new server."""
     for step in vector["steps"]:
         with club.served() if is_served and "command" in step else contextlib.nullcontext():
             club.play([command_of(step) if "command" in step else row_of(step)])

@@ -1,4 +1,5 @@
-"""A proxy between a client and the desk. The proxy makes some requests fail. client_survives.py and page_books.py use this proxy."""
+"""A proxy between a client and the desk. The proxy makes some requests fail. client_survives.py and
+page_books.py use this proxy."""
 
 import contextlib
 import re
@@ -8,8 +9,8 @@ import time
 
 import desk
 
-# The ways in which a request can fail. In each case the client doesn't get the desk's complete reply, although the desk may have carried out the
-# request.
+# The ways in which a request can fail. In each case the client doesn't get the desk's complete
+# reply, although the desk may have carried out the request.
 FAILURES = [
     "silent",
     "answer 502 <html>bad gateway</html>",
@@ -33,8 +34,8 @@ def request_from(client):
 
 
 class Between:
-    """Forwards connections to the desk. For each method, `fates` lists how the next requests with this method fail, in order. `most` is the greatest
-    number of simultaneous connections so far."""
+    """Forwards connections to the desk. For each method, `fates` lists how the next requests with
+    this method fail, in order. `most` is the greatest number of simultaneous connections so far."""
 
     def __init__(self, desk_port):
         self.desk_port, self.fates = desk_port, {}

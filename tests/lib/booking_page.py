@@ -1,4 +1,5 @@
-"""Makes a club, runs the club's desk behind nginx, and drives book.html in a browser. The parts of page_books.py share this module."""
+"""Makes a club, runs the club's desk behind nginx, and drives book.html in a browser. The parts of
+page_books.py share this module."""
 
 import atexit
 import base64
@@ -32,8 +33,9 @@ os.environ["PATH"] = f"/usr/sbin:/sbin:{os.environ['PATH']}"
 os.chdir(ROOM.name)
 ROOT = "00112233445566778899aabbccddeeff"
 draw = random.Random(20260501)
-# The club's zone is chosen so that the club's clock shows about noon now, because the tests need past and future hours today. The names of Etc zones
-# and POSIX rules state the offset with the opposite sign.
+# The club's zone is chosen so that the club's clock shows about noon now, because the tests need
+# past and future hours today. The names of Etc zones and POSIX rules state the offset with the
+# opposite sign.
 AHEAD = 12 - datetime.now(timezone.utc).hour
 ZONE = f"Etc/GMT{-AHEAD:+d}" if AHEAD else "Etc/GMT"
 RULE = f"<{AHEAD:+03d}>{-AHEAD}" if AHEAD else "GMT0"
@@ -60,7 +62,8 @@ def day(count=0):
 
 
 class Server(desk.Server):
-    """A server of clubdesk for the file `club`. A test can kill this server and start it again at the same port."""
+    """A server of clubdesk for the file `club`. A test can kill this server and start it again at
+    the same port."""
 
     start = desk.Server.__enter__
 
@@ -72,9 +75,10 @@ class Server(desk.Server):
 
 
 def start_proxy(upstream, rate=5000, burst=5000):
-    """Runs nginx with the repository's configuration, but with a free port and with the desk at the port `upstream`. nginx serves the pages from
-    the folder `www`. `rate` and `burst` replace nginx's request limits, because the test sends in a minute as many requests as a club sends in an
-    hour."""
+    """Runs nginx with the repository's configuration, but with a free port and with the desk at the
+    port `upstream`. nginx serves the pages from the folder `www`. `rate` and `burst` replace
+    nginx's request limits, because the test sends in a minute as many requests as a club sends in
+    an hour."""
     front = desk.free_port()
     site = pathlib.Path(TOP, "deploy/nginx.conf").read_text()
     here = os.getcwd()
@@ -127,7 +131,8 @@ def printed(*words, given=None):
 
 
 def refused(fault, *words, given=None, **variables):
-    """Checks that a command ends with status 1, prints no output, and writes a line on standard error that matches `fault`."""
+    """Checks that a command ends with status 1, prints no output, and writes a line on standard
+    error that matches `fault`."""
     found = desk.command(*words, text=given, env={**os.environ, **variables})
     check(
         found[:2] == (1, "") and re.search(fault, found[2]),
@@ -296,8 +301,8 @@ class BookingPage(Browser):
         self.when(condition, *what)
 
     def enter(self, text, ahead=None, keeps=None):
-        """Enters a pass. If `keeps` is given, presses the button with the text `keeps`. If `ahead` is given, opens the day that is `ahead` days after
-        today."""
+        """Enters a pass. If `keeps` is given, presses the button with the text `keeps`. If `ahead`
+        is given, opens the day that is `ahead` days after today."""
         self.visit(f"#{text}", "isShown('day') && dayIsThere()", "the day of a pass")
         if keeps:
             self.press(keeps, "notices")
@@ -356,7 +361,8 @@ class BookingPage(Browser):
         return self.booked(*what)
 
     def cancelled_at(self, entry, facility):
-        """Cancels a booking with a request to the desk, as another browser with the same pass would."""
+        """Cancels a booking with a request to the desk, as another browser with the same pass
+        would."""
         text = self.run("return state.text")
         fetched(
             self.front,
@@ -368,7 +374,8 @@ class BookingPage(Browser):
         )
 
     def cancelled_in_the_list(self, *what, asked="", words="came back"):
-        """Cancels the first future booking in the page's list. The dialog's question must contain `asked`, and its answer must contain `words`."""
+        """Cancels the first future booking in the page's list. The dialog's question must contain
+        `asked`, and its answer must contain `words`."""
         self.view("bookings")
         self.run(
             "[...byName('to-come').querySelectorAll('.booked button, .listed button')].find((each) => each.textContent === 'Cancel').click()"
@@ -400,7 +407,8 @@ class BookingPage(Browser):
         return [(each["method"], each["url"]) for each in sent]
 
     def complaints(self):
-        """Returns the lines of the browser's console, except those about refused requests and lost connections."""
+        """Returns the lines of the browser's console, except those about refused requests and lost
+        connections."""
         return [
             each["message"]
             for each in self.driver.get_log("browser")
@@ -410,8 +418,8 @@ class BookingPage(Browser):
 
 
 def amounts(key):
-    """Returns the bookings of a key in the file, by number. Each booking is a tuple of its facility, day, hour, guests, charge, places left,
-    cancellation and refund."""
+    """Returns the bookings of a key in the file, by number. Each booking is a tuple of its
+    facility, day, hour, guests, charge, places left, cancellation and refund."""
     found = rows(
         "SELECT number, facility, date(day * 86400, 'unixepoch'), hour, guests, charge, remains, cancelled, refund FROM bookings "
         "WHERE pass_key = ?",
@@ -421,8 +429,8 @@ def amounts(key):
 
 
 def recorded(entries, key):
-    """Returns the bookings of a key in the page's record, in the form of `amounts`. The page got these bookings from the desk's replies or from a
-    list of the office."""
+    """Returns the bookings of a key in the page's record, in the form of `amounts`. The page got
+    these bookings from the desk's replies or from a list of the office."""
     found = {}
     for each in entries:
         if each["key"] != key or "fault" in (each["book"] or {}):
@@ -529,7 +537,8 @@ def goes_to(engine, wanted):
 
 
 def engines():
-    """Starts Firefox and then WebKitGTK. Yields the number of each browser, and the browser with the functions that the tests call in the page."""
+    """Starts Firefox and then WebKitGTK. Yields the number of each browser, and the browser with
+    the functions that the tests call in the page."""
     import page_engines
 
     for place, engine_of in enumerate((page_engines.Firefox, page_engines.WebKit)):

@@ -1,4 +1,5 @@
-"""Runs the built programs and the reference side by side: one club is in a file, and the same club is in plain Python."""
+"""Runs the built programs and the reference side by side: one club is in a file, and the same club
+is in plain Python."""
 
 import desk as programs
 from reference import caveats, club as rules, passes, wire
@@ -35,7 +36,8 @@ SPELLINGS = {
 
 
 def finds_each_plant(run):
-    """Runs a test once with each planted fault of the rules. Returns whether each run finds a difference."""
+    """Runs a test once with each planted fault of the rules. Returns whether each run finds a
+    difference."""
     missed = set(rules.PLANTS)
     for plant in rules.PLANTS:
         try:
@@ -48,7 +50,8 @@ def finds_each_plant(run):
 
 
 class Both:
-    """A club in a file, which the programs change, and the same club in the reference. A difference raises AssertionError."""
+    """A club in a file, which the programs change, and the same club in the reference. A difference
+    raises AssertionError."""
 
     def __init__(self, desk, file, plant=None):
         self.desk, self.file = desk, file
@@ -62,7 +65,8 @@ class Both:
         return [name, self.file, *(SPELLINGS[kind](value) for kind, value in zip(kinds, values))]
 
     def answer_of(self, command):
-        """Carries out a command in the reference. Returns the status, the output and the standard error that the program must give."""
+        """Carries out a command in the reference. Returns the status, the output and the standard
+        error that the program must give."""
         name, *values = command
         try:
             self.club.command(command)
@@ -84,7 +88,8 @@ class Both:
         expect(f"command {command}", found, self.answer_of(command))
 
     def ask(self, server, data, moment):
-        """Sends a request's bytes to the program and to the reference. Compares the replies, and returns the program's reply."""
+        """Sends a request's bytes to the program and to the reference. Compares the replies, and
+        returns the program's reply."""
         found = programs.exchange(server.port, data)
         expect(data, found, wire.exchange(self.club, data, moment))
         return found

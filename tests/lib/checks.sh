@@ -1,5 +1,5 @@
-# Checks for the test scripts in the neighbouring folders. Source this file after serving.sh. `checks` is the number of checks so far. WHAT describes
-# a check in the message about its failure.
+# Checks for the test scripts in the neighbouring folders. Source this file after serving.sh.
+# `checks` is the number of checks so far. WHAT describes a check in the message about its failure.
 checks=0
 trap 'exit 1' INT TERM HUP
 
@@ -16,7 +16,8 @@ $2
 $3"
 }
 
-# holds WHAT COMMAND..: checks that the command ends with status 0. Writes the command's output to the file `told`.
+# holds WHAT COMMAND..: checks that the command ends with status 0. Writes the command's output to
+# the file `told`.
 holds() {
     what=$1
     shift
@@ -24,7 +25,8 @@ holds() {
     "$@" >told 2>&1 || fail "$what: $(tail -n 30 told)"
 }
 
-# soon SECONDS WHAT COMMAND..: repeats the command until it ends with status 0, for at most SECONDS. Writes the last output to the file `told`.
+# soon SECONDS WHAT COMMAND..: repeats the command until it ends with status 0, for at most SECONDS.
+# Writes the last output to the file `told`.
 soon() {
     tries=$(($1 * 10))
     what=$2

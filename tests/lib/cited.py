@@ -1,9 +1,12 @@
-"""Reads the contracts that the tables of a page, such as docs/proofs/PROMISES.md, cite. Finds the definitions on which these contracts depend.
+"""Reads the contracts that the tables of a page, such as docs/proofs/PROMISES.md, cite. Finds the
+definitions on which these contracts depend.
 
-Each section of the page is about a crate. The second cell of a row has groups, with `;` between them. Each group has the form `NAME, .. : CLAUSE, ..
-by DEFINITION, ..`. A NAME is a function of the section's crate, an implementation of a trait (`Log for LogLines`), a type or a trait. If a group has
-no CLAUSE, the group cites all clauses of its NAMEs. A DEFINITION is in the section's crate, or in the crate that its name states before `::`. The
-module or type of a NAME also applies to the next NAMEs that have no module or type. A ghost is a value that a trait declares for contracts, and that
+Each section of the page is about a crate. The second cell of a row has groups, with `;` between
+them. Each group has the form `NAME, .. : CLAUSE, .. by DEFINITION, ..`. A NAME is a function of the
+section's crate, an implementation of a trait (`Log for LogLines`), a type or a trait. If a group
+has no CLAUSE, the group cites all clauses of its NAMEs. A DEFINITION is in the section's crate, or
+in the crate that its name states before `::`. The module or type of a NAME also applies to the next
+NAMEs that have no module or type. A ghost is a value that a trait declares for contracts, and that
 implementations define."""
 
 import re
@@ -54,8 +57,9 @@ class Contracts:
         self.unknown = []  # names and words that weren't understood
 
     def below(self, citation):
-        """Yields the name of each cited clause or definition, with all definitions on which the clause or definition depends. These include the
-        definitions that the values of cited ghosts cite."""
+        """Yields the name of each cited clause or definition, with all definitions on which the
+        clause or definition depends. These include the definitions that the values of cited ghosts
+        cite."""
         above = None
         if citation.labels and not citation.names:
             self.unknown.append(f"no function of {' '.join(citation.labels)}")
@@ -112,8 +116,9 @@ class Contracts:
         return specs or [file.types[name] for file in self.files(crate) if name in file.types]
 
     def texts(self, crate, name, above, labels):
-        """Returns (file, place, label, text) for each clause of a contract, or None if there is no such contract. For the implementation of a trait,
-        also returns the values that the implementation gives to the trait's ghosts."""
+        """Returns (file, place, label, text) for each clause of a contract, or None if there is no
+        such contract. For the implementation of a trait, also returns the values that the
+        implementation gives to the trait's ghosts."""
         if " for " in name:
             return self.texts_of_implementation(crate, name)
         last = name.split("::")[-1]
@@ -138,7 +143,8 @@ class Contracts:
         return self.texts_of_ghosts(crate, last)
 
     def places(self, crate, function, above):
-        """Returns (file, place) for each function of this name. If `above` is given, returns only functions of that module or type."""
+        """Returns (file, place) for each function of this name. If `above` is given, returns only
+        functions of that module or type."""
         found, owner = [], self.behind_alias(crate, above)
         for file in self.files(crate):
             for it in re.finditer(rf"{FUNCTION}{function}\b", file.text, re.MULTILINE):
@@ -152,7 +158,8 @@ class Contracts:
         return found
 
     def behind_alias(self, crate, name):
-        """If a `type` alias has this name, returns the name of the aliased type. Otherwise returns the name itself."""
+        """If a `type` alias has this name, returns the name of the aliased type. Otherwise returns
+        the name itself."""
         found = [
             it[1]
             for file in self.files(crate)
@@ -201,7 +208,8 @@ class Contracts:
         return found
 
     def texts_of_ghosts(self, crate, name):
-        """Returns the type of a trait's ghost with this name, and the values that types give to the ghost."""
+        """Returns the type of a trait's ghost with this name, and the values that types give to the
+        ghost."""
         found = [
             (file, it.start(), name, it[1])
             for file in self.files(crate)

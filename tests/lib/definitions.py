@@ -1,7 +1,8 @@
-"""Reads specs/*.antt and the clauses in src/*.rt, and finds the definitions that each definition and each clause cites.
+"""Reads specs/*.antt and the clauses in src/*.rt, and finds the definitions that each definition
+and each clause cites.
 
-The reader understands declarations, imports and binders, and proves nothing. `Definition.unknown` has the words that are neither bound nor imported
-nor built in. Callers can report these words."""
+The reader understands declarations, imports and binders, and proves nothing. `Definition.unknown`
+has the words that are neither bound nor imported nor built in. Callers can report these words."""
 
 import re
 from functools import cached_property
@@ -59,7 +60,8 @@ class CodeFile:
         return self.text.count("\n", 0, at) + 1
 
     def block_end(self, start):
-        """Returns the end of the item that begins at `start`: the place after its block or its semicolon."""
+        """Returns the end of the item that begins at `start`: the place after its block or its
+        semicolon."""
         depth = 0
         for at in range(start, len(self.text)):
             sign = self.text[at]
@@ -74,7 +76,8 @@ class CodeFile:
         return len(self.text)
 
     def block_around(self, at):
-        """Returns the `impl` or `trait` around a place, as (head, text). Returns two empty texts if the place is at the top level of the file."""
+        """Returns the `impl` or `trait` around a place, as (head, text). Returns two empty texts if
+        the place is at the top level of the file."""
         best = ("", "")
         for found in re.finditer(
             r"^(?:pub(?:\([a-z]+\))? )?(?:impl|trait)\b[^{]*\{", self.text, re.MULTILINE
@@ -85,8 +88,9 @@ class CodeFile:
         return best
 
     def scope_at(self, at):
-        """Returns the names that clauses may use at a place. These are the imports of the file and of the block around the place, and the ghosts of
-        the trait around the place. Also returns the file's Rust names of types and constants."""
+        """Returns the names that clauses may use at a place. These are the imports of the file and
+        of the block around the place, and the ghosts of the trait around the place. Also returns
+        the file's Rust names of types and constants."""
         head, block = self.block_around(at)
         scope = Scope(self.book, imports_in(self.text, "ghost use"))
         # The imports of the block replace imports of the file with the same name.
@@ -104,7 +108,8 @@ class CodeFile:
 
     @cached_property
     def uses(self):
-        """Returns a dict of the names that `use` imports. The key is the name in this file, and the value is (crate, name in the crate)."""
+        """Returns a dict of the names that `use` imports. The key is the name in this file, and the
+        value is (crate, name in the crate)."""
         found = {}
         for line in re.finditer(
             r"^(?:pub(?:\([a-z]+\))? )?use ((?:[^;])*);", self.text, re.MULTILINE
@@ -131,7 +136,8 @@ class CodeFile:
         return self.book.constant(self, name)
 
     def clauses(self, name, owner=None):
-        """Returns the place of a function's `fn` line, and the function's clauses as (`requires` or `ensures`, label, text, place)."""
+        """Returns the place of a function's `fn` line, and the function's clauses as (`requires` or
+        `ensures`, label, text, place)."""
         for found in re.finditer(
             rf"^ *(?:pub(?:\([a-z]+\))? )?(?:final )?(?:extern \"C\" )?fn {name}\b",
             self.text,
@@ -159,7 +165,8 @@ class CodeFile:
         raise KeyError(f"{self.path}: no function {name}")
 
     def generics_at(self, at):
-        """Returns the trait bounds of each type parameter of the function at a place, and of the `impl` around the function."""
+        """Returns the trait bounds of each type parameter of the function at a place, and of the
+        `impl` around the function."""
         head = self.block_around(at)[0]
         paren = self.text.find("(", at)
         bounds = {}
@@ -171,7 +178,8 @@ class CodeFile:
         return bounds
 
     def cited_by(self, at, text):
-        """Returns the definitions that a clause cites, and the words that the reader doesn't know."""
+        """Returns the definitions that a clause cites, and the words that the reader doesn't
+        know."""
         scope = self.scope_at(at)
         bounds = self.generics_at(at)
         walk = Walk(scope)
@@ -262,7 +270,8 @@ class Book:
         return None
 
     def declared(self, module, name):
-        """Returns the item of the code (a type, a variant or a constant) that a name in a generated module refers to."""
+        """Returns the item of the code (a type, a variant or a constant) that a name in a generated
+        module refers to."""
         crate, _, place = module.partition(".specs.declared.")
         parts = place.split(".")
         start = next((at for at, part in enumerate(parts) if part[0].isupper()), len(parts))
@@ -325,7 +334,8 @@ class Book:
         return it
 
     def standing_for(self, ghost):
-        """Yields (type, file, value, definitions) for each of our own types that gives the ghost a value. The value depends on these definitions."""
+        """Yields (type, file, value, definitions) for each of our own types that gives the ghost a
+        value. The value depends on these definitions."""
         trait, name = ghost.name.split(".")
         for key, file in self.code.items():
             if key.split("/")[0].endswith("_tests") or key.split("/")[0] in (
@@ -344,8 +354,8 @@ class Book:
                     )
 
     def resolve_type(self, file, it):
-        """Finds the definitions that a type cites. If `Model` gives the type a value in contracts, these are the definitions in this value.
-        Otherwise, these are the types of the fields."""
+        """Finds the definitions that a type cites. If `Model` gives the type a value in contracts,
+        these are the definitions in this value. Otherwise, these are the types of the fields."""
         if it.rust_kind == "trait":
             return
         model = re.search(

@@ -1,7 +1,9 @@
-"""Runs the built programs for tests: finds their paths, starts a server for a `with` block, sends requests, and runs commands.
+"""Runs the built programs for tests: finds their paths, starts a server for a `with` block, sends
+requests, and runs commands.
 
-The environment variables CLUBDESK and PASSTOOL have the paths of the programs. If a variable is unset, the wrapper in bin/ runs first. The wrapper
-proves and builds the program if it is missing or out of date."""
+The environment variables CLUBDESK and PASSTOOL have the paths of the programs. If a variable is
+unset, the wrapper in bin/ runs first. The wrapper proves and builds the program if it is missing or
+out of date."""
 
 import contextlib
 import errno
@@ -27,7 +29,8 @@ AS_ANOTHER = ("setpriv", f"--reuid={ANOTHER}", f"--regid={ANOTHER}", "--clear-gr
 
 
 def program(name):
-    """Returns the path of the program itself, not of its wrapper, so that a signal reaches the program."""
+    """Returns the path of the program itself, not of its wrapper, so that a signal reaches the
+    program."""
     given = os.environ.get(name.upper())
     if given:
         return given
@@ -47,8 +50,9 @@ def library(name, folder):
 
 
 def refused_in_turn(run, folder, step=1):
-    """Calls `run` once to count the allocations of the program that `run` starts. Then calls `run` again for each allocation, with this allocation
-    refused. If `step` is greater than 1, refuses only every `step`th allocation. Returns the results of these calls. `run` passes its keyword
+    """Calls `run` once to count the allocations of the program that `run` starts. Then calls `run`
+    again for each allocation, with this allocation refused. If `step` is greater than 1, refuses
+    only every `step`th allocation. Returns the results of these calls. `run` passes its keyword
     arguments to the program as environment variables."""
     counted, preload = Path(folder, "counted"), {"LD_PRELOAD": library("refused_memory", folder)}
     run(ALLOCATIONS_COUNTED=str(counted), **preload)
@@ -62,19 +66,22 @@ def refused_in_turn(run, folder, step=1):
 
 
 def limit_files(size):
-    """Limits the size in bytes of each file that this process writes. A write beyond the limit fails, and sends no signal."""
+    """Limits the size in bytes of each file that this process writes. A write beyond the limit
+    fails, and sends no signal."""
     signal.signal(signal.SIGXFSZ, signal.SIG_IGN)
     resource.setrlimit(resource.RLIMIT_FSIZE, (size, size))
 
 
 class Server:
-    """A server of `clubdesk` for a file, as a context manager. When the `with` block begins, the server listens at `port`. After the block, the
-    server has ended.
+    """A server of `clubdesk` for a file, as a context manager. When the `with` block begins, the
+    server listens at `port`. After the block, the server has ended.
 
-    `words` are additional options, and `by` is a command that runs the server. `variables` are additional environment variables, and `given` is the
-    file that the server gets as its standard input. `file_limit` is the greatest size of the server's files, in bytes. After a block without an
-    exception, the server's status must be `status`, unless the test killed the server. If `count` is None, the end of the block kills the server. The
-    file `log` has the server's standard error. If the block ends with an exception, the context manager prints the log.
+    `words` are additional options, and `by` is a command that runs the server. `variables` are
+    additional environment variables, and `given` is the file that the server gets as its standard
+    input. `file_limit` is the greatest size of the server's files, in bytes. After a block without
+    an exception, the server's status must be `status`, unless the test killed the server. If
+    `count` is None, the end of the block kills the server. The file `log` has the server's standard
+    error. If the block ends with an exception, the context manager prints the log.
     """
 
     killed_by = signal.SIGKILL
@@ -184,7 +191,8 @@ def read(client):
 
 
 def exchange(port, data, seconds=30):
-    """Sends bytes, and then closes the sending side of the connection. Returns the bytes of the reply, or None if the connection is lost."""
+    """Sends bytes, and then closes the sending side of the connection. Returns the bytes of the
+    reply, or None if the connection is lost."""
     try:
         with socket.create_connection(("127.0.0.1", port), seconds) as client:
             client.sendall(data)
@@ -197,7 +205,8 @@ def exchange(port, data, seconds=30):
 
 
 def command(desk, *words, text=None, **more):
-    """Runs `clubdesk`, or another program, with `text` as its input. Returns the status, the output and the standard error."""
+    """Runs `clubdesk`, or another program, with `text` as its input. Returns the status, the output
+    and the standard error."""
     done = subprocess.run(
         [desk, *map(str, words)], capture_output=True, input=text, text=True, check=False, **more
     )
@@ -214,7 +223,8 @@ def copy(file, to):
 
 @contextlib.contextmanager
 def opened(file, **how):
-    """Opens a database for a `with` block. At the end of the block, commits the changes and closes the database."""
+    """Opens a database for a `with` block. At the end of the block, commits the changes and closes
+    the database."""
     with contextlib.closing(sqlite3.connect(file, **how)) as database, database:
         yield database
 
@@ -226,8 +236,8 @@ def rows(file, statement):
         return database.execute(statement).fetchall()
 
 
-# An SQL query that finds rows with wrong totals, according to the sums in docs/TABLES.md. The query also reports missing slots, broken references and
-# damage.
+# An SQL query that finds rows with wrong totals, according to the sums in docs/TABLES.md. The query
+# also reports missing slots, broken references and damage.
 SUMS = """
 SELECT 'used', name FROM members WHERE used <> (SELECT total(charge - refund) FROM bookings JOIN keys ON keys.name = pass_key WHERE member = members.name)
 UNION ALL SELECT 'taken', facility || day || ' ' || hour FROM slots s WHERE taken <> (SELECT total(guests + 1) FROM bookings b WHERE cancelled = 0
@@ -244,8 +254,8 @@ def unsound(file):
 
 
 def add_past_bookings(file, count, root):
-    """Adds the members x000 to x999, each with a key of the same name. Adds `count` bookings by these members in `old-court`, two in each slot.
-    Each total stays the sum of its rows."""
+    """Adds the members x000 to x999, each with a key of the same name. Adds `count` bookings by
+    these members in `old-court`, two in each slot. Each total stays the sum of its rows."""
     thousand = "WITH n(i) AS (SELECT 0 UNION ALL SELECT i + 1 FROM n WHERE i < 999)"
     with opened(file) as database:
         database.executescript(
@@ -270,7 +280,8 @@ def paced(whole, step, what):
 
 
 def serve(program, file, count, moment, *words):
-    """Runs a server for a shell script, and prints the server's port. The server ends after `count` connections, or when this script gets SIGTERM."""
+    """Runs a server for a shell script, and prints the server's port. The server ends after `count`
+    connections, or when this script gets SIGTERM."""
     with Server(program, file, int(count), "--at", moment, *words) as it:
 
         def end(*_):

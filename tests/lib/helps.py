@@ -1,4 +1,5 @@
-"""Reads the `--help` output of one of our programs or of deploy/office: the names of commands, options and arguments."""
+"""Reads the `--help` output of one of our programs or of deploy/office: the names of commands,
+options and arguments."""
 
 import os
 import re
@@ -12,7 +13,8 @@ def printed(*words):
 
 
 def between(text, first):
-    """Returns the indented and empty lines that directly follow the line `FIRST:`, where FIRST is the value of `first`."""
+    """Returns the indented and empty lines that directly follow the line `FIRST:`, where FIRST is
+    the value of `first`."""
     lines = text.splitlines()
     if f"{first}:" not in lines:
         return []

@@ -1,7 +1,9 @@
-"""The table of all kinds of replies: requests to a club, each with its pass, its moment and the bytes of its reply.
+"""The table of all kinds of replies: requests to a club, each with its pass, its moment and the
+bytes of its reply.
 
-A scene is a list of steps. Each scene begins with the club that COMMANDS make. A Row is a step that sends a request to a new server. A Command is a
-command of the office, and an Sql is an SQL statement for sqlite3. tests/reference computes the passes and the bytes of the replies."""
+A scene is a list of steps. Each scene begins with the club that COMMANDS make. A Row is a step that
+sends a request to a new server. A Command is a command of the office, and an Sql is an SQL
+statement for sqlite3. tests/reference computes the passes and the bytes of the replies."""
 
 import itertools
 from dataclasses import dataclass, replace
@@ -29,8 +31,8 @@ AMY, BOB, CY, DI = (key_pass(f"{name}-1") for name in ("amy", "bob", "cy", "di")
 
 @dataclass(frozen=True)
 class Row:
-    """A request and its expected reply. If `raw` is given, the request consists of these bytes. If `passed` is None, the request has no Authorization
-    field."""
+    """A request and its expected reply. If `raw` is given, the request consists of these bytes. If
+    `passed` is None, the request has no Authorization field."""
 
     method: str = ""
     path: str = ""
@@ -71,7 +73,8 @@ class Row:
 
 @dataclass(frozen=True)
 class Command:
-    """A command of clubdesk, its output, and the line on standard error if the desk refuses the command."""
+    """A command of clubdesk, its output, and the line on standard error if the desk refuses the
+    command."""
 
     words: tuple
     printed: str = "done\n"
@@ -210,8 +213,8 @@ SCENES["passes that aren't verified"] = [
     ACCOUNT.under(CHANGED).gets(9),
 ]
 
-# Amy gets the same replies in three clubs. In the first club, no other member does anything. In the second club, other members are busy. In the third
-# club, bob has a place in Amy's slot.
+# Amy gets the same replies in three clubs. In the first club, no other member does anything. In the
+# second club, other members are busy. In the third club, bob has a place in Amy's slot.
 TOLD = [account(9400, 1), CANCEL]
 SCENES["others do nothing"] = [BOOK, *TOLD]
 SCENES["others are busy"] = [
@@ -298,7 +301,8 @@ for moment, hour, fault, caveat in (
     SCENES["a caveat"].append(row.gets(fault, 1) if fault else row)
 
 
-# Texts of passes with a wrong signature of 32 zero bytes. The desk checks the form of a pass before it checks the signature.
+# Texts of passes with a wrong signature of 32 zero bytes. The desk checks the form of a pass before
+# it checks the signature.
 def unsigned_v2(caveats=b"", more=b""):
     head = b"\x02" + passes.v2_field(passes.IDENTIFIER, b"key:amy-1") + b"\0"
     return passes.to_base64(
@@ -341,7 +345,8 @@ SCENES["third-party caveats, and many"] = [
     )
 ] + [shown(0).under(text(AMY, *["guests <= 1"] * 64))]
 
-# Example passes of other programs. The form of these passes is valid, but the club has no key with their identifier and root.
+# Example passes of other programs. The form of these passes is valid, but the club has no key with
+# their identifier and root.
 BANK = (
     "MDAxY2xvY2F0aW9uIGh0dHA6Ly9teWJhbmsvCjAwMjZpZGVudGlmaWVyIHdlIHVzZWQgb3VyIHNlY3JldCBrZXkKMDAxNmNpZCB0ZXN0ID0gY2F2ZWF0CjAw"
     "MmZzaWduYXR1cmUgGXusegRK8zMyhluSZuJtSTvdZopmDkTYjOGpmMI9vWcK"
@@ -413,7 +418,8 @@ SCENES["methods that the path doesn't allow"] = [
     if method not in allow
 ]
 
-# Refusals of each action: for a bad request, an unknown facility, a refused pass, a caveat, a revoked key, and a damaged row.
+# Refusals of each action: for a bad request, an unknown facility, a refused pass, a caveat, a
+# revoked key, and a damaged row.
 ACTIONS = {
     "a view": view(),
     "a booking": book(7, THREE),
@@ -449,8 +455,9 @@ for name, row in ACTIONS.items():
         row.gets(22),
     ]
 
-# In the first step, the server's files may have at most 512 bytes. The server can open its log, but can't write a booking. The server refuses the
-# request and books nothing. In the last step, a server without this limit carries out the same request.
+# In the first step, the server's files may have at most 512 bytes. The server can open its log, but
+# can't write a booking. The server refuses the request and books nothing. In the last step, a
+# server without this limit carries out the same request.
 SCENES["no storage"] = [BOOK.but(file_limit=512).gets(22), account(), BOOK]
 
 ROWS = [it for it in itertools.chain(*SCENES.values()) if isinstance(it, Row)]

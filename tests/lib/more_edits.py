@@ -1,12 +1,14 @@
 #!/usr/bin/env python3
-"""Tries the mutants of crates/NAME/must-fail/ and crates/NAME/more-edits.txt, and prints how each mutant is refused (see more_edits.sh).
+"""Tries the mutants of crates/NAME/must-fail/ and crates/NAME/more-edits.txt, and prints how each
+mutant is refused (see more_edits.sh).
 
-Most edits change the body of a single function. The proof of a function depends only on its own body and on the contracts of the functions that it
-calls. Therefore, one check can try edits of several functions together. If this check gives no verdict on one of the functions, the program tries
-the edit of that function alone.
+Most edits change the body of a single function. The proof of a function depends only on its own
+body and on the contracts of the functions that it calls. Therefore, one check can try edits of
+several functions together. If this check gives no verdict on one of the functions, the program
+tries the edit of that function alone.
 
-Other edits change a constant, such as an SQL text. One check can try edits of several constants, too: a lemma that cites only one of these constants
-fails because of that constant's edit."""
+Other edits change a constant, such as an SQL text. One check can try edits of several constants,
+too: a lemma that cites only one of these constants fails because of that constant's edit."""
 import os
 import re
 import shutil
@@ -23,14 +25,17 @@ FOLDER, FILE = "must-fail", "more-edits.txt"
 WORDS = ("false", "goal", "names", "test", "proved", "limit", "bad")
 # The crate whose tests are files in its folder data/.
 SCENARIOS = "scenarios"
-# An edit's line with the crate and the name of a test. If no contract refuses the edit, this test must fail.
+# An edit's line with the crate and the name of a test. If no contract refuses the edit, this test
+# must fail.
 TEST = re.compile(r"^test: (\w+) ([\w:]+)$", re.MULTILINE)
-# The message of the compiler, rattle, about a goal with a counterexample. The message is on the line that reports the goal, or on the line that
-# reports a missing answer. An answer is a handwritten proof.
+# The message of the compiler, rattle, about a goal with a counterexample. The message is on the
+# line that reports the goal, or on the line that reports a missing answer. An answer is a
+# handwritten proof.
 FALSE = re.compile(
     r"the facts known there allow values at which this goal is false|may be false: the known facts allow"
 )
-# The messages of rattle about a proof file with an unknown name, and about proofs that depend on this file.
+# The messages of rattle about a proof file with an unknown name, and about proofs that depend on
+# this file.
 NAMES = re.compile(r"has no field|is not in scope|has no `|was not admitted|no item `")
 # Messages that rattle continues on the next line because a record's name is long.
 WRAPPED = re.compile(r"\n +(has no |is not in scope|was not admitted)")
@@ -46,7 +51,8 @@ FUNCTION = re.compile(
 # The first line of a constant at the top level of a file, and of a declaration in a proof file.
 CONSTANT = re.compile(r"(?:pub(?:\([^)]*\))? )?(?:const|static) (?P<name>\w+)")
 DECLARATION = re.compile(r"\s*(?:pub )?([^\s:]+) : ")
-# The message of rattle about declarations that it didn't check because they depend on another declaration.
+# The message of rattle about declarations that it didn't check because they depend on another
+# declaration.
 UNCHECKED = re.compile(r"declarations? that depends? on")
 BLOCK = re.compile(
     r"(?:impl(?:<.*?>)? |(?:pub(?:\([^)]*\))? )?trait )(?:(?:\w+::)*(?P<trait>\w+)(?:<.*?>)? for )?(?:\w+::)*(?P<type>\w+)"
@@ -71,7 +77,8 @@ class Edit(NamedTuple):
 
 
 def edits_of(crate):
-    """Reads the edits of a crate. An edit is a file in must-fail/, or a part of more-edits.txt that begins with `edit: NAME`."""
+    """Reads the edits of a crate. An edit is a file in must-fail/, or a part of more-edits.txt that
+    begins with `edit: NAME`."""
     for path in sorted((crate / FOLDER).glob("*.edit")):
         yield Edit(path.stem, FOLDER, path.read_text(encoding="utf-8"))
     if (crate / FILE).exists():
@@ -94,7 +101,8 @@ def changes_of(edit):
 
 
 def edited_texts(crate, edit):
-    """Returns the changed text of each file that an edit changes, by the file's path in the crate. Applies the edit in the same way as `rt ci`."""
+    """Returns the changed text of each file that an edit changes, by the file's path in the crate.
+    Applies the edit in the same way as `rt ci`."""
     texts = {}
     for path, old, new in changes_of(edit):
         text = texts[path] if path in texts else (crate / path).read_text(encoding="utf-8")
@@ -105,8 +113,8 @@ def edited_texts(crate, edit):
 
 
 def function_at(path, text, offset):
-    """Returns the function whose body contains a place in a file, as the words of the function's path, its first line and its last line. Returns
-    None if no body contains the place."""
+    """Returns the function whose body contains a place in a file, as the words of the function's
+    path, its first line and its last line. Returns None if no body contains the place."""
     lines = text.split("\n")
     place = text.count("\n", 0, offset)
     first = next((it for it in range(place, -1, -1) if FUNCTION.match(lines[it])), None)
@@ -135,8 +143,9 @@ def function_at(path, text, offset):
 
 
 def constant_at(text, offset):
-    """Returns the constant whose declaration contains a place in a file, as its name after "const", its first line and its last line. Returns None if
-    no declaration of a constant contains the place."""
+    """Returns the constant whose declaration contains a place in a file, as its name after "const",
+    its first line and its last line. Returns None if no declaration of a constant contains the
+    place."""
     lines = text.split("\n")
     place = text.count("\n", 0, offset)
     first = next(it for it in range(place, -1, -1) if it == 0 or lines[it][:1].strip())
@@ -146,8 +155,9 @@ def constant_at(text, offset):
 
 
 def edited_item(crate, edit):
-    """Returns the file and the function whose body contains all changes of an edit, or the file and the constant whose declaration contains them.
-    Returns None if there is no such function or constant."""
+    """Returns the file and the function whose body contains all changes of an edit, or the file and
+    the constant whose declaration contains them. Returns None if there is no such function or
+    constant."""
     found = set()
     for path, old, _ in changes_of(edit):
         text = (crate / path).read_text(encoding="utf-8")
@@ -165,8 +175,8 @@ def edited_item(crate, edit):
 
 
 def groups_of(crate, edits):
-    """Groups the edits. No two edits of a group change the same function or constant. An edit that doesn't change exactly one function body or constant
-    is alone in its group."""
+    """Groups the edits. No two edits of a group change the same function or constant. An edit that
+    doesn't change exactly one function body or constant is alone in its group."""
     groups = []
     for edit in edits:
         place = edited_item(crate, edit)
@@ -208,7 +218,8 @@ def check(crate):
 
 
 def faults_in(lines):
-    """Yields (text, file, line, whether it is an error, whether a name is missing) for each fault that a check reports."""
+    """Yields (text, file, line, whether it is an error, whether a name is missing) for each fault
+    that a check reports."""
     for line in lines:
         if found := FAULT.match(line):
             yield line, found[1], int(found[2]), found[3].startswith("error"), bool(
@@ -217,8 +228,8 @@ def faults_in(lines):
 
 
 def without_answers(crate, lines):
-    """Returns the new text of each proof file in which these lines report unknown names, by path. The new text lacks the declarations that use
-    unknown names."""
+    """Returns the new text of each proof file in which these lines report unknown names, by path.
+    The new text lacks the declarations that use unknown names."""
     places = defaultdict(set)
     for _, path, number, _, is_name in faults_in(lines):
         if path.startswith("proofs/") and is_name:
@@ -248,8 +259,9 @@ def without_answers(crate, lines):
 
 
 def open_goal(lines, gone):
-    """Returns the line of a goal that is open for a reason other than a missing name. An answer is a handwritten proof of a goal. Either the goal's
-    answer fails, or the goal has no answer although no answer was removed from its file."""
+    """Returns the line of a goal that is open for a reason other than a missing name. An answer is
+    a handwritten proof of a goal. Either the goal's answer fails, or the goal has no answer
+    although no answer was removed from its file."""
     failing = {
         line
         for line, path, _, is_error, is_name in faults_in(lines)
@@ -266,7 +278,8 @@ def open_goal(lines, gone):
 
 
 def declaration_at(text, number):
-    """Returns the lines of the declaration in a proof file that contains line `number`, from its name and type on."""
+    """Returns the lines of the declaration in a proof file that contains line `number`, from its
+    name and type on."""
     found, name = [], None
     for place, line in enumerate(text.split("\n"), 1):
         head = DECLARATION.match(line)
@@ -279,8 +292,8 @@ def declaration_at(text, number):
 
 
 def lines_about(crate, constant, others, lines):
-    """Returns the lines of a check that report a fault in a declaration of a proof file, if the declaration cites this constant and none of the
-    others."""
+    """Returns the lines of a check that report a fault in a declaration of a proof file, if the
+    declaration cites this constant and none of the others."""
     found = []
     for line, path, number, *_ in faults_in(lines):
         if path.startswith("proofs/") and not UNCHECKED.search(line):
@@ -295,8 +308,8 @@ def lines_about(crate, constant, others, lines):
 
 
 def lines_of(crate, path, function, lines):
-    """Returns the lines of a check that are about this function. If a method is in another file than its type, rt names the method after the type's
-    module."""
+    """Returns the lines of a check that are about this function. If a method is in another file
+    than its type, rt names the method after the type's module."""
     words, first, last = function
     before, own = (r"(\w+/)*", words[-2:]) if words[-2:][0][0].isupper() else ("", words)
     proofs, head = re.compile(f"proofs/{before}{'/'.join(own)}/"), re.compile(
@@ -341,8 +354,9 @@ class Trial:
             yield edit, word, line
 
     def tested(self, edit, crate, test):
-        """Runs the test that an edit names, because no contract has refused the edit. Returns `test` if the test fails and `proved` otherwise, with
-        the test's line. rt runs the test without a proof."""
+        """Runs the test that an edit names, because no contract has refused the edit. Returns
+        `test` if the test fails and `proved` otherwise, with the test's line. rt runs the test
+        without a proof."""
         self.restore()
         self.put(edited_texts(self.crate, edit))
         front, words = f"test {test} ...", ["--test", "--", test]
@@ -364,8 +378,8 @@ class Trial:
         return ("proved" if line.endswith((" ok", " lines")) else "test"), line
 
     def told_together(self, group):
-        """Checks the crate once with all edits of a group. Returns the results of those edits whose functions or constants have a false or open goal and
-        no missing name."""
+        """Checks the crate once with all edits of a group. Returns the results of those edits whose
+        functions or constants have a false or open goal and no missing name."""
         for edit in group.values():
             with suppress(NoVerdict):
                 self.put(edited_texts(self.crate, edit))
@@ -388,7 +402,8 @@ class Trial:
             elif left := open_goal(own, set()):
                 told[edit] = "goal", left
         if not told and len(group) > 3:
-            # One of these edits may have stopped the check, so the program tries each half of the group.
+            # One of these edits may have stopped the check, so the program tries each half of the
+            # group.
             items = list(group.items())
             middle = len(items) // 2
             told = self.told_together(dict(items[:middle])) | self.told_together(
@@ -410,7 +425,8 @@ class Trial:
             if (path in texts or path.startswith("src/")) and is_error and is_name:
                 raise NoVerdict("bad", line)
         gone = set()
-        # Each round removes answers with unknown names. Other answers may use a removed answer. The next round removes these too.
+        # Each round removes answers with unknown names. Other answers may use a removed answer. The
+        # next round removes these too.
         for _ in range(4):
             if false := next(filter(FALSE.search, lines), None):
                 return "false", false
@@ -438,7 +454,8 @@ def link_or_copy(source, target):
 
 
 def crates_below(names):
-    """Returns all crates that these crates depend on, directly or through other crates, according to crates.txt."""
+    """Returns all crates that these crates depend on, directly or through other crates, according
+    to crates.txt."""
     uses = {
         name: used.split()
         for name, used in re.findall(
@@ -457,8 +474,9 @@ def crates_below(names):
 
 
 def take_libraries(copy, names):
-    """Puts the built libraries of this tree into the copy, so that rt doesn't build them again. For the crates that the tried crates depend on, the
-    copy has hard links, because no check writes to these libraries."""
+    """Puts the built libraries of this tree into the copy, so that rt doesn't build them again. For
+    the crates that the tried crates depend on, the copy has hard links, because no check writes to
+    these libraries."""
     below = crates_below(names) - set(names)
     for crates, parts, copies in (
         (below, ("rlib",), link_or_copy),

@@ -1,5 +1,5 @@
-"""Opens the page pass.html in a browser, asks passtool for the right answers, and draws random passes and caveats. The parts of page_narrows.py share
-this module."""
+"""Opens the page pass.html in a browser, asks passtool for the right answers, and draws random
+passes and caveats. The parts of page_narrows.py share this module."""
 
 import base64
 import json
@@ -47,7 +47,8 @@ def written(form, it):
 
 
 def amys(form, *caveats):
-    """Returns the text of a pass for Amy's key with these caveats. The pass has 32 zero bytes as its signature."""
+    """Returns the text of a pass for Amy's key with these caveats. The pass has 32 zero bytes as
+    its signature."""
     return written(
         form,
         Pass(
@@ -63,7 +64,8 @@ def amys(form, *caveats):
 
 
 def tool(*words, given):
-    """Runs passtool. Returns the status and the output. If passtool fails, returns its line on standard error in place of the output."""
+    """Runs passtool. Returns the status and the output. If passtool fails, returns its line on
+    standard error in place of the output."""
     status, printed, fault = desk.command(TOOL, *words, text=given)
     return status, fault if status else printed
 
@@ -76,7 +78,8 @@ def narrowed_by_tool(text, lines):
 
 
 def reading_by_tool(text):
-    """Returns what the page must show for a text: the number of the fault, or the pass's facts and caveats."""
+    """Returns what the page must show for a text: the number of the fault, or the pass's facts and
+    caveats."""
     status, output = tool("show", given=text.strip(" \t\r\n"))
     if status == 3:
         return int(output[len("fault ")])
@@ -99,7 +102,8 @@ def is_understood_by_tool(caveat):
 
 # ---- The browser
 
-# JavaScript functions for the calls below. The functions fill in the page's fields and read the visible texts, as a person does.
+# JavaScript functions for the calls below. The functions fill in the page's fields and read the
+# visible texts, as a person does.
 HELPERS = """
 const byId = (id) => document.getElementById(id);
 const changed = (field) => field.dispatchEvent(new Event("input", { bubbles: true }));
@@ -144,7 +148,8 @@ class NarrowingPage(Browser):
     helpers = HELPERS
 
     def narrow(self, text, *fields):
-        """Enters the text of a pass, and makes a choice for each (name, value) in `fields`. Returns the page's answer."""
+        """Enters the text of a pass, and makes a choice for each (name, value) in `fields`. Returns
+        the page's answer."""
         return self.each("narrow", [(text, fields)])[0]
 
     def visit(self, text=""):
@@ -200,7 +205,8 @@ def drawn_line(choice):
 
 
 def fields_of(*lines):
-    """Returns (name, value) for each field of the page that must be filled in to add these caveats."""
+    """Returns (name, value) for each field of the page that must be filled in to add these
+    caveats."""
     found = []
     for line in lines:
         name, _, value = re.split(" (=|<=|<) ", line)
@@ -225,7 +231,8 @@ def drawn_pass():
 
 
 def drawn_spelling(form, drawn):
-    """Draws a text that readers accept as this pass. Many of the drawn texts differ from the text that our programs write."""
+    """Draws a text that readers accept as this pass. Many of the drawn texts differ from the text
+    that our programs write."""
     text = written(form, drawn)
     if form == "json":
         names = json.loads(text)

@@ -1,5 +1,5 @@
-"""Functions for the parts of office_holds.py. The functions check refused commands, send requests to the desk, and read the office's log, which is
-called the book."""
+"""Functions for the parts of office_holds.py. The functions check refused commands, send requests
+to the desk, and read the office's log, which is called the book."""
 
 import json
 
@@ -14,8 +14,9 @@ COPIES, BOOK, TURN = HOME / "back-ups", HOME / "club-book", HOME / "club-orders"
 
 
 def refused(words, status, line, by="anna", given="", keeps=True):
-    """Checks that the office refuses the command with this status and this text on standard error. Unless `keeps` is false, also checks that the
-    rows of the club don't change. Returns the output."""
+    """Checks that the office refuses the command with this status and this text on standard error.
+    Unless `keeps` is false, also checks that the rows of the club don't change. Returns the
+    output."""
     before = everything() if keeps else None
     found, out, errors = office(*words, by=by, given=given)
     same(f"office {' '.join(words)}: refused", (found, line in errors), (status, True))
@@ -58,7 +59,8 @@ def book_lines(*words):
 
 
 def changed_meanwhile(words, shown, change):
-    """Checks that a command is refused if the club changes after the office has asked the clerk and before the clerk answers."""
+    """Checks that a command is refused if the club changes after the office has asked the clerk and
+    before the clerk answers."""
     with begun(*words, *AT) as command:
         same("the shown line", command.stdout.readline(), f"{shown}\n")
         change()

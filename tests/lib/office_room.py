@@ -1,8 +1,9 @@
-"""Functions for the tests of the office, which run in a room that imitates a machine. The functions imitate a service manager, run commands as
-clerks, send requests, and check a club's file.
+"""Functions for the tests of the office, which run in a room that imitates a machine. The functions
+imitate a service manager, run commands as clerks, send requests, and check a club's file.
 
-If a script imports this module outside a room, tests/lib/office_room.sh makes the room and runs the script again in it. When a server ends, the
-service manager restarts it a second later, as deploy/clubdesk@.service does (Restart=always, RestartSec=1). For each server, a file in the room's
+If a script imports this module outside a room, tests/lib/office_room.sh makes the room and runs the
+script again in it. When a server ends, the service manager restarts it a second later, as
+deploy/clubdesk@.service does (Restart=always, RestartSec=1). For each server, a file in the room's
 folder `services` has the process id, so that the room's systemctl can end the server.
 """
 
@@ -56,7 +57,8 @@ def leave():
 
 
 def run_as(user, *line, given=None, folder=None):
-    """Runs a command as a user, in `folder` or in the user's home folder. Returns the status, the output and the standard error."""
+    """Runs a command as a user, in `folder` or in the user's home folder. Returns the status, the
+    output and the standard error."""
     return command("runuser", "-u", user, "--", *line, text=given, cwd=folder or f"/home/{user}")
 
 
@@ -72,7 +74,8 @@ def done(*words, by="anna", given=""):
 
 
 def desk(command, *words):
-    """Runs clubdesk on the club, without the office, as the user `clubdesk`. Returns clubdesk's status and output."""
+    """Runs clubdesk on the club, without the office, as the user `clubdesk`. Returns clubdesk's
+    status and output."""
     return run_as("clubdesk", "clubdesk", command, CLUB, *words, folder="/")[:2]
 
 
@@ -113,7 +116,8 @@ class Service:
             time.sleep(1 if self.is_wanted else 0)
 
     def is_heard(self):
-        """Waits until the server listens, for about half a minute at most. Returns whether the server listens."""
+        """Waits until the server listens, for about half a minute at most. Returns whether the
+        server listens."""
         for _ in range(1500):
             with contextlib.suppress(OSError), socket.create_connection(
                 ("127.0.0.1", self.port), 5
@@ -129,8 +133,8 @@ class Service:
         self.named.unlink()
 
     def answer(self, text, method, path, body=None):
-        """Repeats a request with the pass `text` until the server gives a complete reply with a status below 500. Returns the reply's status and
-        body."""
+        """Repeats a request with the pass `text` until the server gives a complete reply with a
+        status below 500. Returns the reply's status and body."""
         for _ in range(200):
             with contextlib.closing(
                 http.client.HTTPConnection("127.0.0.1", self.port, timeout=30)
@@ -159,8 +163,9 @@ def begun(*words):
 
 
 def kill(command, chance=None):
-    """Kills a process and all its children, including those in sessions that sudo began. If `chance` is given, kills only one of these processes,
-    chosen at random. Waits until the killed processes have ended."""
+    """Kills a process and all its children, including those in sessions that sudo began. If
+    `chance` is given, kills only one of these processes, chosen at random. Waits until the killed
+    processes have ended."""
     with contextlib.suppress(psutil.NoSuchProcess):
         first = psutil.Process(command.pid)
         found = [first, *first.children(recursive=True)]

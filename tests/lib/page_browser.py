@@ -1,7 +1,8 @@
-"""Runs a page in chromium for the tests of pass.html and book.html. Checks the contrast of texts, the height of buttons and fields, and the names for
-screen readers.
+"""Runs a page in chromium for the tests of pass.html and book.html. Checks the contrast of texts,
+the height of buttons and fields, and the names for screen readers.
 
-page_narrows.py and page_books.py use this module. Needs Debian's chromium, chromium-driver and python3-selenium."""
+page_narrows.py and page_books.py use this module. Needs Debian's chromium, chromium-driver and
+python3-selenium."""
 import base64
 import hashlib
 import json
@@ -19,8 +20,8 @@ def check(holds, *what):
 
 
 class Browser:
-    """A chromium that resolves host names only according to `rules`. If `before` is given, the browser runs this script in each page ahead of the
-    page's own script."""
+    """A chromium that resolves host names only according to `rules`. If `before` is given, the
+    browser runs this script in each page ahead of the page's own script."""
 
     helpers = ""  # JavaScript functions for the scripts that `run` and `each` execute
     batch = 25  # how many items go to the page in one call
@@ -58,7 +59,8 @@ class Browser:
         return self.driver.execute_cdp_cmd(name, words)
 
     def open(self, address):
-        # First opens an empty page, so that the browser also loads an address that differs from the current address only after `#`.
+        # First opens an empty page, so that the browser also loads an address that differs from the
+        # current address only after `#`.
         self.driver.get("about:blank")
         self.driver.get(address)
 
@@ -111,8 +113,9 @@ class Browser:
         check(across <= width, "sideways scrolling", width, across, *what)
 
     def is_legible(self, *what):
-        """Checks that each visible text has a contrast of at least 4.5, and that buttons, fields and the labels of options are at least 44 pixels
-        high. Returns the number of visible texts."""
+        """Checks that each visible text has a contrast of at least 4.5, and that buttons, fields
+        and the labels of options are at least 44 pixels high. Returns the number of visible
+        texts."""
         count, faint = self.run(CONTRASTS)
         check(not faint, "faint texts", *what, *faint)
         small = self.run(SMALL_TARGETS)
@@ -120,8 +123,9 @@ class Browser:
         return count
 
     def is_named(self, roles, live, *what):
-        """Checks that each focusable element, and each element with one of these roles, has a name for screen readers. The elements with the ids
-        `live` must announce their changes to screen readers. Returns the nodes of the page's accessibility tree.
+        """Checks that each focusable element, and each element with one of these roles, has a name
+        for screen readers. The elements with the ids `live` must announce their changes to screen
+        readers. Returns the nodes of the page's accessibility tree.
         """
         tree = [
             node
@@ -147,13 +151,14 @@ class Browser:
         return tree
 
     def is_audited(self, *what):
-        """Checks the elements of a page with the script AUDIT, which implements a selection of axe-core's rules."""
+        """Checks the elements of a page with the script AUDIT, which implements a selection of
+        axe-core's rules."""
         found = self.run(AUDIT)
         check(not found, "the audit's findings", *what, *found)
 
     def cuts_nothing_off(self, width, *what):
-        """Checks that the page doesn't scroll sideways, and that no text extends beyond the right edge. Texts in elements that may scroll sideways
-        are exempt."""
+        """Checks that the page doesn't scroll sideways, and that no text extends beyond the right
+        edge. Texts in elements that may scroll sideways are exempt."""
         across = self.run("return document.documentElement.scrollWidth")
         check(across <= width, "sideways scrolling", *what, across)
         cut = self.run(CUT_OFF)
@@ -165,7 +170,8 @@ class Browser:
         check(not broken, "words that are broken", *what, *broken)
 
     def focus_is_seen(self, *what):
-        """Checks that the focused element has an outline. A date field needs no outline, because the browser marks a part of the date."""
+        """Checks that the focused element has an outline. A date field needs no outline, because
+        the browser marks a part of the date."""
         outline = self.run(
             """const style = getComputedStyle(document.activeElement);
             return document.activeElement.type === "date" || [style.outlineStyle, style.outlineWidth];"""
@@ -193,7 +199,8 @@ class Browser:
         return self.command("Page.captureScreenshot")["data"]
 
     def picture(self, top=0, height=None):
-        """Returns a PNG in base64 of the whole page, or of the part that begins at `top` and has the height `height`."""
+        """Returns a PNG in base64 of the whole page, or of the part that begins at `top` and has
+        the height `height`."""
         width, whole = self.run(
             "const { offsetWidth, offsetHeight } = document.documentElement; return [offsetWidth, offsetHeight];"
         )
@@ -225,8 +232,9 @@ class Browser:
 
 
 def policy_holds(page, more, calls, *links):
-    """Checks that the page's Content-Security-Policy admits the page's own script and style by their hashes, and lets the page load nothing else.
-    `more` has further directives that the policy must have. The page may link only to `links` and to `data:` addresses, and must use none of the
+    """Checks that the page's Content-Security-Policy admits the page's own script and style by
+    their hashes, and lets the page load nothing else. `more` has further directives that the policy
+    must have. The page may link only to `links` and to `data:` addresses, and must use none of the
     calls `calls`."""
     text = page.read_text(encoding="utf-8")
     policy = re.search('http-equiv="Content-Security-Policy" content="([^"]*)"', text)[1]

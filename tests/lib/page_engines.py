@@ -1,7 +1,8 @@
-"""Drives three browsers through one interface: chromium, Debian's firefox-esr through Marionette, and WebKitGTK's MiniBrowser through its driver.
-MiniBrowser needs a display.
+"""Drives three browsers through one interface: chromium, Debian's firefox-esr through Marionette,
+and WebKitGTK's MiniBrowser through its driver. MiniBrowser needs a display.
 
-page_narrows.py and page_books.py use this module. Needs Debian's chromium-driver, firefox-esr, webkit2gtk-driver, xvfb and python3-selenium."""
+page_narrows.py and page_books.py use this module. Needs Debian's chromium-driver, firefox-esr,
+webkit2gtk-driver, xvfb and python3-selenium."""
 import base64
 import json
 import os
@@ -37,7 +38,8 @@ WIDTH, HEIGHT = 400, 820
 
 
 class Engine:
-    """The common interface of the browsers. Its methods open an address, run a script in the page, and press a button."""
+    """The common interface of the browsers. Its methods open an address, run a script in the page,
+    and press a button."""
 
     helpers = ""  # functions for the scripts
     name = host = ""
@@ -65,7 +67,8 @@ class Engine:
             time.sleep(0.1)
 
     def code(self, place):
-        """Scrolls to an element, and returns the text of the QR code on the screen, or an empty text."""
+        """Scrolls to an element, and returns the text of the QR code on the screen, or an empty
+        text."""
         self.run("document.getElementById(arguments[0]).scrollIntoView({ block: 'center' })", place)
         with tempfile.NamedTemporaryFile(suffix=".png") as file:
             for _ in range(20):
@@ -170,7 +173,8 @@ class Firefox(Engine):
         self.command("WebDriver:SetWindowRect", width=WIDTH, height=HEIGHT)
 
     def received(self):
-        """Returns the next message. A message consists of its length in digits, a colon, and JSON."""
+        """Returns the next message. A message consists of its length in digits, a colon, and
+        JSON."""
         while b":" not in self.rest:
             self.rest += self.come()
         length, _, self.rest = self.rest.partition(b":")
@@ -199,7 +203,8 @@ class Firefox(Engine):
         self.command("WebDriver:Navigate", url=address)
 
     def run(self, script, *words):
-        """Runs a script in the page. The script can use the page's functions, but not its constants."""
+        """Runs a script in the page. The script can use the page's functions, but not its
+        constants."""
         return self.command(
             "WebDriver:ExecuteScript", script=script, args=list(words), sandbox=None
         )["value"]
@@ -225,7 +230,8 @@ class Firefox(Engine):
 
 
 class WebKit(Engine):
-    """WebKitGTK's MiniBrowser, on a separate virtual display. The browser resolves only the names of this machine."""
+    """WebKitGTK's MiniBrowser, on a separate virtual display. The browser resolves only the names
+    of this machine."""
 
     name, host = "WebKit", "localhost"
 

@@ -1,12 +1,14 @@
-"""Finds the sentences of the repository, and the patterns in a sentence that make an English reader stop. tests/lint.py and tests/docs/sentences.py
-use this module.
+"""Finds the sentences of the repository, and the patterns in a sentence that make an English reader
+stop. tests/lint.py and tests/docs/sentences.py use this module.
 
-This module represents a paragraph as a list of (line number, text). Paragraphs, list items and table cells of pages are paragraphs. So are the
-paragraphs of docstrings, comments and help texts, and the texts of web/src/words. Their texts have no markup and no tags, and have CODE in place of
+This module represents a paragraph as a list of (line number, text). Paragraphs, list items and
+table cells of pages are paragraphs. So are the paragraphs of docstrings, comments and help texts,
+and the texts of web/src/words. Their texts have no markup and no tags, and have CODE in place of
 inline code.
 
-CONTRIBUTING.md has the rules of wording. PATTERNS and FIRST have the rules that a regular expression can check, each with a remedy. EXCEPTIONS has
-the texts that may break a rule, each with its reason."""
+CONTRIBUTING.md has the rules of wording. PATTERNS and FIRST have the rules that a regular
+expression can check, each with a remedy. EXCEPTIONS has the texts that may break a rule, each with
+its reason."""
 
 import ast
 import re
@@ -58,7 +60,8 @@ EXCEPTIONS = {
     ): "the help's table of statuses, no sentence",
     ("deploy/clubdesk-setup", "[--title TITLE]"): "a line of usage, no sentence",
 }
-# Files that this module doesn't read: generated pages, data, and texts that tests compare byte for byte.
+# Files that this module doesn't read: generated pages, data, and texts that tests compare byte for
+# byte.
 LEFT_OUT = re.compile(
     r"docs/proofs/AUDIT\.md|.*/more-edits\.txt|.*\.(told|png|svg|lock|toml|edit)|.*/stdout|tests/lib/words\.txt|docs/vectors\.json|web/[a-z]+\.(html|js|webmanifest)"
 )
@@ -164,7 +167,8 @@ def of_python(text, lines):
 
 
 def of_help(lines):
-    """Returns the help texts of a table of commands, which are its string literals of several words. Leaves out examples."""
+    """Returns the help texts of a table of commands, which are its string literals of several
+    words. Leaves out examples."""
     text = "\n".join(line for _, line in lines)
     found = []
     for literal in re.finditer(
@@ -181,7 +185,8 @@ def of_help(lines):
 
 
 def of_texts(text):
-    """Returns the English texts of the office. In the table of texts, the first text of each pair is English."""
+    """Returns the English texts of the office. In the table of texts, the first text of each pair
+    is English."""
     pairs = [
         it.value
         for it in ast.parse(text).body
@@ -241,7 +246,8 @@ def paragraphs(path, text):
 
 
 def sentences(paragraph):
-    """Yields the sentences of a paragraph, each with its line numbers. Skips headings. The two dots of an ellipsis don't end a sentence."""
+    """Yields the sentences of a paragraph, each with its line numbers. Skips headings. The two dots
+    of an ellipsis don't end a sentence."""
     joined, starts = "", []
     for number, text in paragraph:
         starts.append((len(joined), number))
@@ -288,7 +294,8 @@ def is_excepted(file, sentence):
 
 
 def foreign(file, text, added=None):
-    """Yields a line of text for each slip in the sentences of a file. If `added` is given, checks only sentences on these lines."""
+    """Yields a line of text for each slip in the sentences of a file. If `added` is given, checks
+    only sentences on these lines."""
     for paragraph in paragraphs(file, text):
         for numbers, sentence in sentences(paragraph):
             if (added is None or numbers & added) and not is_excepted(str(file), sentence):
@@ -327,8 +334,8 @@ def git(root, *words):
 
 
 def base_of(root):
-    """Returns the commit at which this branch left its upstream branch. If there is no upstream branch, returns HEAD. Outside a clone, returns
-    None."""
+    """Returns the commit at which this branch left its upstream branch. If there is no upstream
+    branch, returns HEAD. Outside a clone, returns None."""
     if git(root, "rev-parse", "--show-toplevel") is None or not (root / ".git").exists():
         return None
     return (
@@ -337,7 +344,8 @@ def base_of(root):
 
 
 def added_lines(root, base):
-    """Returns, for each changed file, the numbers of the lines added since the base. For an untracked file, the value is None."""
+    """Returns, for each changed file, the numbers of the lines added since the base. For an
+    untracked file, the value is None."""
     found, file = {}, None
     for line in git(
         root, "diff", "--unified=0", "--no-color", "--no-ext-diff", "-M", base, "--"
@@ -353,7 +361,8 @@ def added_lines(root, base):
 
 
 def of_change(root, base, below=""):
-    """Yields a line of text for each slip in lines and in subjects of commits that were added since the base."""
+    """Yields a line of text for each slip in lines and in subjects of commits that were added since
+    the base."""
     for file, added in added_lines(root, base).items():
         path = root / file
         if path.is_file() and file.startswith(below):
@@ -377,7 +386,8 @@ def of_change(root, base, below=""):
 
 
 def spelled(root):
-    """Yields the files that aspell must check, each with its language. The files are the pages and the texts of web/."""
+    """Yields the files that aspell must check, each with its language. The files are the pages and
+    the texts of web/."""
     pages = [
         *map(root.joinpath, PAGES),
         *sorted((root / "docs").glob("**/*.md")),
@@ -416,7 +426,8 @@ def misspelt(text, language):
 
 
 def misspellings(root):
-    """Yields a line of text for each word that neither aspell nor tests/lib/words.txt knows. Skips names of files."""
+    """Yields a line of text for each word that neither aspell nor tests/lib/words.txt knows. Skips
+    names of files."""
     known, texts = known_words(root), {}
     for path, language in spelled(root):
         file = str(path.relative_to(root))

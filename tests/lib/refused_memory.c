@@ -1,7 +1,8 @@
-// Refuses the allocation whose number is in the variable REFUSED_ALLOCATION. The first allocation has number 1. If the variable ALLOCATIONS_COUNTED
-// names a file, a program that exits normally writes its number of allocations to this file. If the variable CALLS_TOLD names a file, each call of
-// fdatasync, fsync or send adds a line to this file. The line has `sync` or `send`, and the number of allocations so far. LD_PRELOAD must load this
-// library before the C library.
+// Refuses the allocation whose number is in the variable REFUSED_ALLOCATION. The first allocation
+// has number 1. If the variable ALLOCATIONS_COUNTED names a file, a program that exits normally
+// writes its number of allocations to this file. If the variable CALLS_TOLD names a file, each call
+// of fdatasync, fsync or send adds a line to this file. The line has `sync` or `send`, and the
+// number of allocations so far. LD_PRELOAD must load this library before the C library.
 #define _GNU_SOURCE
 #include <dlfcn.h>
 #include <errno.h>
@@ -40,7 +41,8 @@ void *realloc(void *old, size_t size) {
     return refuses() ? NULL : next(old, size);
 }
 
-// Writes a word and the number of allocations so far to the file that a variable names. Allocates nothing.
+// Writes a word and the number of allocations so far to the file that a variable names. Allocates
+// nothing.
 static void tell(const char *variable, int how, const char *word) {
     const char *path = getenv(variable);
     if (!path) return;

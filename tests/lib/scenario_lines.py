@@ -1,5 +1,5 @@
-"""Reads files of scenarios (crates/scenarios/README.md) as clubs and their events. If a line can't be read, the reader raises a Fault with the file and the
-line."""
+"""Reads files of scenarios (crates/scenarios/README.md) as clubs and their events. If a line can't
+be read, the reader raises a Fault with the file and the line."""
 
 import json
 import re
@@ -17,8 +17,8 @@ MOST_CREDIT = 1_000_000  # points of one command
 ESCAPES = {"r": b"\r", "n": b"\n", "t": b"\t", "\\": b"\\"}
 AGAIN = "anywhere in the next line; then the same line again"
 REFUSALS = ("exists", "unknown", "out of range", "slot in use")
-# COMMANDS has the kinds of each command's values. OF_KEYS has the commands that print a key's pass. The number in OF_KEYS is the position of the
-# root among the command's values.
+# COMMANDS has the kinds of each command's values. OF_KEYS has the commands that print a key's pass.
+# The number in OF_KEYS is the position of the root among the command's values.
 COMMANDS = {
     "add-member": ("name", "number"),
     "credit": ("name", "number"),
@@ -120,7 +120,8 @@ class Event:
 
 @dataclass(frozen=True)
 class Request(Event):
-    """A request to the desk, as a list of pieces. Each piece is bytes, a pass, or a text in place of a pass."""
+    """A request to the desk, as a list of pieces. Each piece is bytes, a pass, or a text in place
+    of a pass."""
 
     pieces: tuple
     reply: Reply | None
@@ -135,8 +136,9 @@ class Request(Event):
 
 @dataclass(frozen=True)
 class Office(Event):
-    """A command of the office, with its words and its outcomes. After a crash, the test runs the command again. If the desk had already carried out
-    the command before the crash, the second run has the second outcome."""
+    """A command of the office, with its words and its outcomes. After a crash, the test runs the
+    command again. If the desk had already carried out the command before the crash, the second run
+    has the second outcome."""
 
     words: tuple
     outcomes: tuple
@@ -158,7 +160,8 @@ class Listing(Event):
 
 @dataclass(frozen=True)
 class Reopen(Event):
-    """The desk closes its tables and opens them again. If `version` is given, the tables are first changed to the format of this older version."""
+    """The desk closes its tables and opens them again. If `version` is given, the tables are first
+    changed to the format of this older version."""
 
     version: int | None
 
@@ -184,7 +187,8 @@ class Scenario:
 
     @property
     def forms(self):
-        """Returns the forms of passes with which the test runs the scenario: all forms, or only V2 if each pass in the scenario states its form."""
+        """Returns the forms of passes with which the test runs the scenario: all forms, or only V2
+        if each pass in the scenario states its form."""
         return tuple(passes.FORMS) if any(it.is_in_any_form for it in self.requests) else ("v2",)
 
 
@@ -258,7 +262,8 @@ class Reader:
         return self.scenarios
 
     def below(self):
-        """Returns the lines that belong to the current line: the following lines that begin with a space."""
+        """Returns the lines that belong to the current line: the following lines that begin with a
+        space."""
         found = []
         for line in self.lines[self.at :]:
             if not line.startswith(" "):
@@ -375,14 +380,16 @@ class Reader:
         self.roots[name] = self.root(root)
 
     def read_text(self, columns, below):
-        """Reads one of two kinds of lines: the definition of a text, or a request that has a defined text in place of a pass."""
+        """Reads one of two kinds of lines: the definition of a text, or a request that has a
+        defined text in place of a pass."""
         if len(columns) > 2:
             return self.read_request([f"text {columns[1]}", *columns[2:]], below)
         (name,) = self.matched(" ".join(columns[1:]), rf"({NAME})", "a text has a name")
         self.texts[name] = b"".join(self.repeated(it) for it in below)
 
     def repeated(self, text):
-        """Returns the bytes of a text. If the text begins with `N times`, returns the bytes N times."""
+        """Returns the bytes of a text. If the text begins with `N times`, returns the bytes N
+        times."""
         count, _, what = text.partition(" times ")
         return unescaped(what) * int(count) if what and count.isdecimal() else unescaped(text)
 
@@ -432,7 +439,8 @@ class Reader:
         self.asked([it for line in below for it in self.pieces(line)], columns[1:])
 
     def pieces(self, line):
-        """Yields the pieces of a request's line of bytes. Between < and >, the line names the holder of a pass."""
+        """Yields the pieces of a request's line of bytes. Between < and >, the line names the
+        holder of a pass."""
         for plain, holder in re.findall(r"([^<]+)|<([^>]*)>", line):
             yield self.repeated(plain) if plain else self.holder(holder)
 
@@ -593,7 +601,8 @@ class Reader:
 
 
 def example(lines):
-    """Returns the lines of the example in a page. Empty lines replace the page's other lines, so that each line keeps its number."""
+    """Returns the lines of the example in a page. Empty lines replace the page's other lines, so
+    that each line keeps its number."""
     begin = lines.index("```scenario") + 1
     end = lines.index("```", begin)
     return [""] * begin + lines[begin:end] + [""] * (len(lines) - end)

@@ -1,5 +1,6 @@
-"""Plays scenarios, either with the rules in Python or with `clubdesk`. The server of `clubdesk` uses a file, and gets requests over a socket. If an
-answer is wrong, the player raises a Difference with the file and the line."""
+"""Plays scenarios, either with the rules in Python or with `clubdesk`. The server of `clubdesk`
+uses a file, and gets requests over a socket. If an answer is wrong, the player raises a Difference
+with the file and the line."""
 
 import copy
 import random
@@ -19,7 +20,8 @@ from reference import caveats, club as rules, passes, wire
 from scenario_lines import Crash, Fault, Listing, Office, Reopen, Request
 
 KILLS = 4  # how often the test kills the program for a line after `crash`
-# The SQL that changes the tables to their format of version 1, which had no older roots and no index of bookings by key.
+# The SQL that changes the tables to their format of version 1, which had no older roots and no
+# index of bookings by key.
 AS_VERSION_1 = (
     "DROP TABLE old_roots; DROP INDEX IF EXISTS bookings_by_key; UPDATE desk SET version = 1"
 )
@@ -48,8 +50,8 @@ def shown(value):
 
 
 def printed(event):
-    """Returns the output of a command that succeeds: `done`, or the pass of a key in the requested form. Without a requested form, the pass is in
-    V2."""
+    """Returns the output of a command that succeeds: `done`, or the pass of a key in the requested
+    form. Without a requested form, the pass is in V2."""
     name, *values = event.words
     if name not in lines.OF_KEYS:
         return "done"
@@ -61,8 +63,8 @@ def printed(event):
 
 
 def wanted_of(event, number=0):
-    """Returns the expected answer to a command. If `number` is 1, returns the answer that is expected if the desk has already carried out the
-    command."""
+    """Returns the expected answer to a command. If `number` is 1, returns the answer that is
+    expected if the desk has already carried out the command."""
     outcome = event.outcomes[min(number, len(event.outcomes) - 1)]
     return printed(event) if outcome == "done" else outcome.removeprefix("prints ")
 
@@ -104,8 +106,8 @@ class Rules:
         return listing(self.club, event)
 
     def crashes(self, event):
-        """Plays two cases: the desk crashes after or before it carries out the event. In both cases, repeats the event after the crash. Both cases
-        must lead to the same club."""
+        """Plays two cases: the desk crashes after or before it carries out the event. In both
+        cases, repeats the event after the crash. Both cases must lead to the same club."""
         before = copy.deepcopy(self.club)
         compare(event, self.wanted(event), self.found(event))
         compare(event, self.wanted(event, 1), self.found(event))
@@ -161,7 +163,8 @@ def listing(club, event):
 
 
 class Programs:
-    """Plays scenarios with `clubdesk`. Commands change a file, and a server of this file gets the requests over a socket."""
+    """Plays scenarios with `clubdesk`. Commands change a file, and a server of this file gets the
+    requests over a socket."""
 
     name = "clubdesk over a file and a socket"
 
@@ -185,7 +188,8 @@ class Programs:
         return scenario.events
 
     def made(self, scenario):
-        """Returns a file with the scenario's club. Makes the club only if no earlier scenario had the same club."""
+        """Returns a file with the scenario's club. Makes the club only if no earlier scenario had
+        the same club."""
         whole = Path(self.folder, f"club-{abs(hash(tuple(scenario.commands)))}")
         if not whole.exists():
             begun = Path(tempfile.mkdtemp(dir=self.folder))
@@ -195,7 +199,8 @@ class Programs:
         return whole / "club"
 
     def make(self, scenario, file):
-        """Makes the club with commands. If a member has more points than one command can credit, sets the points with SQL."""
+        """Makes the club with commands. If a member has more points than one command can credit,
+        sets the points with SQL."""
         points = Counter()
         self.carry_out(scenario, file, ("sheet", "2000-01-01"))
         for command in scenario.commands:
@@ -244,8 +249,8 @@ class Programs:
         return output.removesuffix("\n") if status == 0 else fault.removesuffix("\n")
 
     def crashes(self, event):
-        """Plays an event with a crash several times, each time on a new copy of the file. Starts the event, kills the program after a random delay,
-        and then plays the event again."""
+        """Plays an event with a crash several times, each time on a new copy of the file. Starts
+        the event, kills the program after a random delay, and then plays the event again."""
         before = Path(f"{self.file}.before")
         programs.copy(self.file, before)
         for _ in range(KILLS):
@@ -278,7 +283,8 @@ class Programs:
 
 
 def runs(events):
-    """Groups neighbouring requests of the same moment. An event that isn't a request is alone in its group."""
+    """Groups neighbouring requests of the same moment. An event that isn't a request is alone in
+    its group."""
     found = []
     for event in events:
         if (
@@ -294,13 +300,15 @@ def runs(events):
 
 
 def status_of(faults):
-    """Prints the faults that players have found, one per line. Returns 1 if there are faults, otherwise 0."""
+    """Prints the faults that players have found, one per line. Returns 1 if there are faults,
+    otherwise 0."""
     print(*faults, sep="\n", end="\n" if faults else "")
     return 1 if faults else 0
 
 
 def run_as_test(main):
-    """Runs a test's `main`, and exits with its status. If a file of scenarios can't be played, exits with the Fault as the message."""
+    """Runs a test's `main`, and exits with its status. If a file of scenarios can't be played,
+    exits with the Fault as the message."""
     try:
         sys.exit(main())
     except Fault as it:

@@ -1,9 +1,11 @@
 """Finds the test programs in tests/, and runs them, for tests/run and tests/conftest.py.
 
-A test program has a list `pytestmark`. In a script that pytest doesn't import, the list is a comment. tests/pytest.ini describes the marks. If the
-mark of a group has arguments, these are the command-line arguments of a separate run of the program. The mark may also state needs and packages for
-this run. The run without arguments has the name of the program. A separate run in the group `quick` has the name NAME-quick. The name of any other
-separate run ends in the run's first argument, as in hostile-self-test."""
+A test program has a list `pytestmark`. In a script that pytest doesn't import, the list is a
+comment. tests/pytest.ini describes the marks. If the mark of a group has arguments, these are the
+command-line arguments of a separate run of the program. The mark may also state needs and packages
+for this run. The run without arguments has the name of the program. A separate run in the group
+`quick` has the name NAME-quick. The name of any other separate run ends in the run's first
+argument, as in hostile-self-test."""
 
 import ast
 import configparser
@@ -79,7 +81,8 @@ class Test:
 
 @functools.cache
 def head_of(path):
-    """Returns the comment or docstring at the head of a program, and the program's marks, each with its name and its arguments."""
+    """Returns the comment or docstring at the head of a program, and the program's marks, each with
+    its name and its arguments."""
     text = path.read_text(encoding="utf-8")
     listed = re.search(r"^(?:# )?(pytestmark = \[(?:[^\]]*\n)*?.*\])$", text, re.MULTILINE)
     marks = []
@@ -101,8 +104,8 @@ def head_of(path):
 
 
 def shown_by(head):
-    """Returns the first paragraph of a head, which describes what the test shows. If the paragraph ends in a colon, adds the items of the list
-    after it."""
+    """Returns the first paragraph of a head, which describes what the test shows. If the paragraph
+    ends in a colon, adds the items of the list after it."""
     paragraph = re.match(r"(?:(?!- |  ).+\n?)+", head)[0]
     if paragraph.rstrip().endswith(":"):
         items = re.match(r"(?:(?:- |  ).*\n?)*", head[len(paragraph) :])[0]
@@ -169,7 +172,8 @@ def planted_tests():
 
 
 def missing(packages):
-    """Returns the Debian packages that aren't installed. If dpkg-query is missing, returns all packages."""
+    """Returns the Debian packages that aren't installed. If dpkg-query is missing, returns all
+    packages."""
     if not packages or not shutil.which("dpkg-query"):
         return list(packages)
     found = subprocess.run(
@@ -182,7 +186,8 @@ def missing(packages):
 
 
 def prepare(packages):
-    """Installs the missing packages, if the caller is root and the system has apt-get. Stops downloading after SECONDS_TO_INSTALL seconds."""
+    """Installs the missing packages, if the caller is root and the system has apt-get. Stops
+    downloading after SECONDS_TO_INSTALL seconds."""
     OUT.mkdir(parents=True, exist_ok=True)
     (OUT / "apt.conf").write_text(
         'DPkg::Lock::Timeout "600";\nAcquire::Retries "1";\nAcquire::http::Timeout "20";\n',
@@ -194,7 +199,8 @@ def prepare(packages):
     with open(OUT / "apt.log", "wb") as log:
 
         def apt(*words, limit=None):
-            """Runs apt-get, and returns whether it succeeds. With a limit in seconds, kills apt-get when the time is over."""
+            """Runs apt-get, and returns whether it succeeds. With a limit in seconds, kills apt-get
+            when the time is over."""
             with suppress(subprocess.TimeoutExpired):
                 seconds = limit and max(1, min(limit, ends - time.monotonic()))
                 return (
@@ -218,7 +224,8 @@ def prepare(packages):
         lacking = missing(packages)
         if not lacking or not apt("update", limit=120):
             return
-        # First tries all packages together, then each one alone, because one unavailable package stops a joint installation.
+        # First tries all packages together, then each one alone, because one unavailable package
+        # stops a joint installation.
         for some in (lacking, *([it] for it in lacking)):
             install = ["install", "-y", "--no-install-recommends", *some]
             if (
@@ -243,7 +250,8 @@ def processes():
 
 
 def begun_by(leader):
-    """Returns (process, start time) for the processes in the session of `leader`, and for all their children, even in other sessions."""
+    """Returns (process, start time) for the processes in the session of `leader`, and for all their
+    children, even in other sessions."""
     every = processes()
     found = {it for it, (_, session, _) in every.items() if session == leader}
     while more := {it for it, (parent, _, _) in every.items() if parent in found} - found:
@@ -252,7 +260,8 @@ def begun_by(leader):
 
 
 def end(process):
-    """Asks a process and its children to end, gives them time to clean up, and kills those that remain."""
+    """Asks a process and its children to end, gives them time to clean up, and kills those that
+    remain."""
     begun = begun_by(process.pid)
     with suppress(ProcessLookupError):
         os.killpg(process.pid, signal.SIGTERM)
@@ -266,8 +275,8 @@ def end(process):
 
 
 def lacks(test, is_built):
-    """Returns the reason why a test can't run here, or an empty text. If `is_built` is true, a test can't run if it needs a program that isn't
-    built yet."""
+    """Returns the reason why a test can't run here, or an empty text. If `is_built` is true, a test
+    can't run if it needs a program that isn't built yet."""
     if "root" in test.marks and os.geteuid() != 0:
         return "needs root"
     packages = missing(test.packages)
@@ -282,7 +291,8 @@ def lacks(test, is_built):
 
 
 def status_of(test, output, root, variables, seconds):
-    """Runs a test in a new session, and returns its status. If the test takes too long, ends the test and all processes that it began."""
+    """Runs a test in a new session, and returns its status. If the test takes too long, ends the
+    test and all processes that it began."""
     environment = {
         **os.environ,
         "APT_CONFIG": str(OUT / "apt.conf"),
@@ -313,8 +323,8 @@ def status_of(test, output, root, variables, seconds):
 
 
 def status_with_fault(test, output, seconds):
-    """Runs a test with its planted fault in a copy of the tree. Returns 0 if the test fails because of the fault, SKIPPED if the test is skipped,
-    and otherwise 1."""
+    """Runs a test with its planted fault in a copy of the tree. Returns 0 if the test fails because
+    of the fault, SKIPPED if the test is skipped, and otherwise 1."""
     with tempfile.TemporaryDirectory() as folder:
         variables = planted.plant(test.plant, Path(folder))
         shorter = replace(test, words=list(planted.PLANTS[test.plant][4:]) or test.words)
@@ -324,8 +334,8 @@ def status_with_fault(test, output, seconds):
 
 
 def run(test, is_built=False, has_timer=False):
-    """Runs a test and returns its result. Writes the output of the test to out/tests/NAME.log. If `has_timer` is true, sets no timeout, because
-    pytest-timeout ends the test."""
+    """Runs a test and returns its result. Writes the output of the test to out/tests/NAME.log. If
+    `has_timer` is true, sets no timeout, because pytest-timeout ends the test."""
     OUT.mkdir(parents=True, exist_ok=True)
     begun, log = time.monotonic(), OUT / f"{test.name}.log"
     seconds = None if has_timer else test.seconds
@@ -356,7 +366,8 @@ def run(test, is_built=False, has_timer=False):
 
 
 class Results:
-    """The results of tests. Prints a line for each test when it ends, and writes all results to out/tests/results.json."""
+    """The results of tests. Prints a line for each test when it ends, and writes all results to
+    out/tests/results.json."""
 
     def __init__(self):
         self.all = {}

@@ -1,5 +1,6 @@
-// Makes the clock CLOCK_REALTIME always show the time in the variable CLOCK_SECOND, in seconds since 1970. If the variable isn't a number, calls that
-// read this clock fail. Other clocks, such as the monotonic clock, stay unchanged. LD_PRELOAD must load this library before the C library.
+// Makes the clock CLOCK_REALTIME always show the time in the variable CLOCK_SECOND, in seconds
+// since 1970. If the variable isn't a number, calls that read this clock fail. Other clocks, such
+// as the monotonic clock, stay unchanged. LD_PRELOAD must load this library before the C library.
 #define _GNU_SOURCE
 #include <dlfcn.h>
 #include <errno.h>

@@ -1,7 +1,9 @@
-"""Finds out which definitions the vectors in docs/vectors.json exercise, by running the reference in Python (tests/reference) on the vectors.
+"""Finds out which definitions the vectors in docs/vectors.json exercise, by running the reference
+in Python (tests/reference) on the vectors.
 
-Each function of the reference computes in Python what some definitions in specs/ state. `WRITTEN` lists these definitions for each function. The mark
-of a definition is `all` if the vectors run each line of its functions, `part` if they run only some lines, and `none` if they run no line. Lines of
+Each function of the reference computes in Python what some definitions in specs/ state. `WRITTEN`
+lists these definitions for each function. The mark of a definition is `all` if the vectors run each
+line of its functions, `part` if they run only some lines, and `none` if they run no line. Lines of
 planted faults don't count."""
 
 import ast
@@ -19,7 +21,8 @@ ROOT = Path(__file__).resolve().parents[2]
 REFERENCE = ROOT / "tests" / "reference"
 VECTORS = ROOT / "docs" / "vectors.json"
 
-# Each key is one or more functions of the reference. The value lists the definitions of these functions by module, as `CRATE.FILE: NAME ..`.
+# Each key is one or more functions of the reference. The value lists the definitions of these
+# functions by module, as `CRATE.FILE: NAME ..`.
 WRITTEN = {
     "passes.sign": "pass_mac.Hmac: block_len short_key key_block masked_block hmac",
     "passes.chain": "pass_mac.Chain: derivation_key derived_key extended_signature chain",
@@ -154,7 +157,8 @@ def check_passes(vectors):
         expect(vector["what"], passes.read(vector["text"].encode()), pass_of(vectors["passes"][2]))
 
 
-# The number of the desk's fault for the text of each passtool fault. passtool numbers these faults differently.
+# The number of the desk's fault for the text of each passtool fault. passtool numbers these faults
+# differently.
 FAULTS = {
     "too long": passes.TOO_LONG,
     "malformed": passes.MALFORMED,
@@ -278,7 +282,8 @@ def check_all():
 
 
 def lines_run():
-    """Returns each line of the reference that the vectors run, as (file, first line of the function, name of the function, line)."""
+    """Returns each line of the reference that the vectors run, as (file, first line of the
+    function, name of the function, line)."""
     found = set()
 
     def trace(frame, event, _value):
@@ -308,7 +313,8 @@ def codes_in(code):
 
 
 def lines_of_functions():
-    """Returns the lines of each function of the reference, in the form that `lines_run` returns. Leaves out lines of planted faults."""
+    """Returns the lines of each function of the reference, in the form that `lines_run` returns.
+    Leaves out lines of planted faults."""
     found = {}
     for path in sorted(REFERENCE.glob("*.py")):
         text = path.read_text(encoding="utf-8")

@@ -17,7 +17,8 @@ BUILT_IN = set(
     now old new entry result self Self true false fields
 """.split()
 )
-# The page that lists the computing definitions, and the functions whose contracts use these definitions.
+# The page that lists the computing definitions, and the functions whose contracts use these
+# definitions.
 COMPUTED = ROOT / "docs" / "proofs" / "COMPUTED.md"
 # The kinds of definitions in specs/.
 OF_SPECS = ("definition", "record", "data")
@@ -43,7 +44,8 @@ PATTERNS = {
 
 @cache
 def computing():
-    """Returns the definitions that docs/proofs/COMPUTED.md names after `by`, each as (crate, name)."""
+    """Returns the definitions that docs/proofs/COMPUTED.md names after `by`, each as (crate,
+    name)."""
     crate, found = "", set()
     for line in COMPUTED.read_text(encoding="utf-8").splitlines():
         if line.startswith("## "):
@@ -58,8 +60,8 @@ def computing():
 
 @dataclass(eq=False)
 class Definition:
-    """A definition in specs/, a type or constant of the code, a ghost of a trait, or a definition of a library. Only a library's definition has no
-    file."""
+    """A definition in specs/, a type or constant of the code, a ghost of a trait, or a definition
+    of a library. Only a library's definition has no file."""
 
     module: str
     name: str
@@ -105,7 +107,8 @@ def indent_of(line):
 
 
 def names_of(path, lead=""):
-    """Returns (module, name) for each name in the path of an import. A list in the path may contain names, paths and nested lists."""
+    """Returns (module, name) for each name in the path of an import. A list in the path may contain
+    names, paths and nested lists."""
     head, brace, inner = path.partition("{")
     if not brace:
         module, _, name = (lead + path).rpartition(".")
@@ -119,7 +122,8 @@ def names_of(path, lead=""):
 
 @cache
 def spelled_out(text):
-    """Returns the text without nested imports. Replaces an import that has paths in its list with one import for each module."""
+    """Returns the text without nested imports. Replaces an import that has paths in its list with
+    one import for each module."""
 
     def flat(line):
         modules = {}
@@ -139,8 +143,8 @@ def spelled_out(text):
 
 
 def imports_in(text, word):
-    """Returns the imports in a text, each as (module, name in the module, name in the text). If the text imports the module itself, the second
-    value is None and the third is the alias."""
+    """Returns the imports in a text, each as (module, name in the module, name in the text). If the
+    text imports the module itself, the second value is None and the third is the alias."""
     found = []
     for line in re.finditer(
         rf"^ *(pub )?{word} Rattle\.([\w.-]+?)(?:\.\{{([^}}]*)\}}|;|$| as ([\w◌]+))",
@@ -172,7 +176,8 @@ class Scope:
                 self.names.setdefault(sign, (module, name))
 
     def find(self, word):
-        """Returns the definition of a word. The word may begin with the alias of a module, and end with names of fields."""
+        """Returns the definition of a word. The word may begin with the alias of a module, and end
+        with names of fields."""
         head, _, rest = word.partition(".")
         if word in self.names:
             return self.book.look(*self.names[word])
@@ -212,8 +217,9 @@ class Walk:
             self.unknown.append(word)
 
     def pattern(self, tokens):
-        """Reads the left side of an equation. Each word that isn't a constructor is a variable. The exception is a library's function at the
-        beginning of a bracket, which is applied to the words after it."""
+        """Reads the left side of an equation. Each word that isn't a constructor is a variable. The
+        exception is a library's function at the beginning of a bracket, which is applied to the
+        words after it."""
         for at, token in enumerate(tokens):
             if token in "(){},;_":
                 continue
@@ -306,7 +312,8 @@ def tokens_of(text):
 
 
 def top_level(tokens, sign):
-    """Returns the position of the first token `sign` outside all brackets, or None if there is no such token."""
+    """Returns the position of the first token `sign` outside all brackets, or None if there is no
+    such token."""
     depth = 0
     for at, token in enumerate(tokens):
         depth += (token in "({") - (token in ")}")
@@ -345,8 +352,8 @@ class SpecsFile:
         return " ".join(lines)
 
     def read(self):
-        """Splits the text into declarations. The declarations within `module _ (..) where` are indented. Each of these declarations has the
-        module's parameters."""
+        """Splits the text into declarations. The declarations within `module _ (..) where` are
+        indented. Each of these declarations has the module's parameters."""
         lines = self.text.splitlines()
         raw = self.raw.splitlines()
         outer = []  # the modules around this line: (indent, parameters, indent of the contents)

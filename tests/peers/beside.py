@@ -1,22 +1,29 @@
 #!/usr/bin/env -S /usr/bin/python3 -B
-"""Desks written in C, Go and Python, which use SQLite's library, reply as clubdesk does. The test compares their times with clubdesk's.
+"""Desks written in C, Go and Python, which use SQLite's library, reply as clubdesk does. The test
+compares their times with clubdesk's.
 
-The test measures requests of 50 members, in a file with 100 past bookings and in a file with 100,000. In the second file, the test also measures
-requests of a member with 10,000 bookings of her own, and of a member without bookings. The desk beside_c/desk.c has its own server. The desk
-beside_go uses net/http and database/sql. The desk beside_flask.py uses Flask under gunicorn with one worker. All desks use the same file, the same
-transactions and pragmas, and the SQL statements of crates/club_tables. For each reply, all desks read the same rows. The desk in C replies with the
-same bytes as clubdesk. The replies of Go and Flask have the same status line and body, and the same header fields in another order. gunicorn adds the
-fields Date and Server. The test also measures a minimal server in C, which reads once and writes 133 bytes.
+The test measures requests of 50 members, in a file with 100 past bookings and in a file with
+100,000. In the second file, the test also measures requests of a member with 10,000 bookings of her
+own, and of a member without bookings. The desk beside_c/desk.c has its own server. The desk
+beside_go uses net/http and database/sql. The desk beside_flask.py uses Flask under gunicorn with
+one worker. All desks use the same file, the same transactions and pragmas, and the SQL statements
+of crates/club_tables. For each reply, all desks read the same rows. The desk in C replies with the
+same bytes as clubdesk. The replies of Go and Flask have the same status line and body, and the same
+header fields in another order. gunicorn adds the fields Date and Server. The test also measures a
+minimal server in C, which reads once and writes 133 bytes.
 
-The test prints the median times in microseconds for a booking, a repeated booking, an account, a slot, a refused pass and a forged pass. The test
-also prints the ratio of clubdesk's median to each other desk's median. The time of a request runs from before the client connects until the end of
-the reply. Then the test prints the ratios that have an upper limit. To find the system calls of a request, strace counts the calls for 101 requests
-and for one request, and the test divides the difference by 100. One client sends requests to the servers in turn. If the machine has two processors,
-the client runs on one and the servers run on the other.
+The test prints the median times in microseconds for a booking, a repeated booking, an account, a
+slot, a refused pass and a forged pass. The test also prints the ratio of clubdesk's median to each
+other desk's median. The time of a request runs from before the client connects until the end of the
+reply. Then the test prints the ratios that have an upper limit. To find the system calls of a
+request, strace counts the calls for 101 requests and for one request, and the test divides the
+difference by 100. One client sends requests to the servers in turn. If the machine has two
+processors, the client runs on one and the servers run on the other.
 
-The test runs each desk as DESK FILE MOMENT < STATEMENTS. MOMENT is in minutes since 1970. Each line of STATEMENTS has one SQL statement. A desk
-prints the same first line as clubdesk, and serves until the test stops it. Like clubdesk, a desk reads a key's older root only if the key's current
-root didn't sign the pass.
+The test runs each desk as DESK FILE MOMENT < STATEMENTS. MOMENT is in minutes since 1970. Each line
+of STATEMENTS has one SQL statement. A desk prints the same first line as clubdesk, and serves until
+the test stops it. Like clubdesk, a desk reads a key's older root only if the key's current root
+didn't sign the pass.
 
   tests/peers/beside.py [--desks c,go,flask] [COUNT [ROUNDS [ROWS ..]]]      COUNT requests of each kind in a round; without: 500 7 100 100000
 """
@@ -55,13 +62,15 @@ def day_text(offset):
 
 
 def slot_path(number):
-    """Returns the path of the slot with this number. The slots are the hours of nine days from April 21 on, at 48 courts."""
+    """Returns the path of the slot with this number. The slots are the hours of nine days from
+    April 21 on, at 48 courts."""
     court, rest = divmod(number, 9 * 24)
     return f"/slots/court-{3 + court}/{day_text(rest // 24)}/{rest % 24:02}"
 
 
 class Asker:
-    """Makes the requests of one member, with each of the member's keys in turn. In each round, the booking numbers and slots are new."""
+    """Makes the requests of one member, with each of the member's keys in turn. In each round, the
+    booking numbers and slots are new."""
 
     def __init__(self, keys, first_number, first_slot):
         self.keys, self.first_number, self.slot, self.asked = keys, first_number, first_slot, 0
@@ -74,7 +83,8 @@ class Asker:
         }
 
     def refused(self):
-        """Returns requests that the desk refuses, each for a different reason. The test sends these requests after the rounds."""
+        """Returns requests that the desk refuses, each for a different reason. The test sends these
+        requests after the rounds."""
         key, slot = self.keys[0], slot_path(self.slot)
         whole, passed, book = (
             key_pass(key, ROOT.hex()),
@@ -134,8 +144,8 @@ class Asker:
 
 
 def make_file(clubdesk, path, rows, has_big):
-    """Makes a club with 50 courts and as many past bookings as `rows` says. If `has_big`, adds a member with
-    10,000 bookings and a member without bookings."""
+    """Makes a club with 50 courts and as many past bookings as `rows` says. If `has_big`, adds a
+    member with 10,000 bookings and a member without bookings."""
     subprocess.run([clubdesk, "add-member", path, "x", "1"], check=True, stdout=subprocess.DEVNULL)
     numbers = "WITH n(i) AS (SELECT 1 UNION ALL SELECT i + 1 FROM n WHERE i < {})".format
     statements = [
@@ -187,7 +197,8 @@ def built_in_go():
     return os.path.abspath("desk_in_go")
 
 
-# DESKS has a function for each other desk. The function builds the desk and returns the desk's command line.
+# DESKS has a function for each other desk. The function builds the desk and returns the desk's
+# command line.
 DESKS = {
     "c": lambda: [built("desk", "-lsqlite3", "-lnettle")],
     "go": lambda: [built_in_go()],
@@ -196,7 +207,8 @@ DESKS = {
 
 
 def write_statements():
-    """Writes clubdesk's SQL statements into a file, one per line. The file has only those statements that the desks need."""
+    """Writes clubdesk's SQL statements into a file, one per line. The file has only those
+    statements that the desks need."""
     source = (desk.ROOT / "crates" / "club_tables" / "src" / "texts.rt").read_text(encoding="utf-8")
     texts = dict(re.findall(r'const (\w+): &str = "(.*?)";', source, re.DOTALL))
     Path("statements").write_text(
@@ -215,7 +227,8 @@ class Beside(desk.Server):
 
 
 def ask(server, requests):
-    """Sends the requests one after the other. Returns the time of each request, and the bytes of all replies."""
+    """Sends the requests one after the other. Returns the time of each request, and the bytes of
+    all replies."""
     Path("requests").write_bytes(b"".join(b"%d\n%b" % (len(it), it) for it in requests))
     words = [*on(PROCESSORS[-1]), "./client", str(server.port), "requests", "replies"]
     told = subprocess.run(words, check=True, capture_output=True, text=True).stdout
@@ -246,7 +259,8 @@ def compare(kind, replies):
 
 
 def measure(clubdesk, path, askers, count, rounds, desks):
-    """Returns the median time of each round, for each asker, kind of request and server. Also returns the number of compared replies."""
+    """Returns the median time of each round, for each asker, kind of request and server. Also
+    returns the number of compared replies."""
     for name in (OURS, *desks):
         desk.copy(path, name)
     found = {title: {kind: defaultdict(list) for kind in KINDS} for title in askers}
@@ -279,7 +293,8 @@ def measure(clubdesk, path, askers, count, rounds, desks):
 
 
 def ratio(times, others):
-    """Divides the times of one server by those of another, round by round, and returns the median of these ratios."""
+    """Divides the times of one server by those of another, round by round, and returns the median
+    of these ratios."""
     return statistics.median(ours / its for ours, its in zip(times, others, strict=True))
 
 

@@ -1,7 +1,8 @@
 #!/usr/bin/python3 -B
-"""A desk with Flask and Python's sqlite3 under gunicorn with one worker. tests/peers/beside.py compares the times of this desk with those of
-clubdesk. The desk has the same file, statements and replies as beside_c/desk.c. The desk uses the package tests/reference to read and verify passes,
-to read caveats, and to write refusals.
+"""A desk with Flask and Python's sqlite3 under gunicorn with one worker. tests/peers/beside.py
+compares the times of this desk with those of clubdesk. The desk has the same file, statements and
+replies as beside_c/desk.c. The desk uses the package tests/reference to read and verify passes, to
+read caveats, and to write refusals.
 
   beside_flask.py FILE MOMENT < STATEMENTS      beside.py explains these arguments
 """
@@ -66,7 +67,8 @@ def row_of(statement, *values):
 
 
 def verified():
-    """Reads and verifies the request's pass. Returns the caveats, the name of the key, and the key's member."""
+    """Reads and verifies the request's pass. Returns the caveats, the name of the key, and the
+    key's member."""
     scheme, _, text = request.headers.get("Authorization", "").partition(" ")
     if scheme.lower() != "bearer":
         refuse(4)
@@ -92,8 +94,8 @@ def spent_by(key):
 
 
 def has_spent_above(key, member, most):
-    """Returns whether a key has spent more than `most` points. Adds up the costs of the key's bookings only if the member has used more than `most`
-    points."""
+    """Returns whether a key has spent more than `most` points. Adds up the costs of the key's
+    bookings only if the member has used more than `most` points."""
     return most < 0 or (row_of(MEMBER, member)[3] > most and spent_by(key) > most)
 
 
@@ -193,7 +195,8 @@ def book(name, day, hour, number):
 
 
 def book_anew(facility, slot, key, member, number, guests, charge):
-    """Writes a booking, and updates the sums of the slot and of the member. Returns how many places are left."""
+    """Writes a booking, and updates the sums of the slot and of the member. Returns how many places
+    are left."""
     _, _, places, _, opens, shuts = facility
     _, day, hour = slot
     if not opens <= hour < shuts or not 0 < day * DAY + hour * 60 - app.moment <= WINDOW:

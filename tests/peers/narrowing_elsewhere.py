@@ -1,11 +1,15 @@
 #!/usr/bin/env -S /usr/bin/python3 -B
-"""Python's standard library, pymacaroons, Go's macaroon.v2 and Node.js narrow 1,000 passes with the same result as `passtool`.
+"""Python's standard library, pymacaroons, Go's macaroon.v2 and Node.js narrow 1,000 passes with the
+same result as `passtool`.
 
-A fixed seed determines the passes, and the programs in examples/ narrow them. The programs with Python's standard library and with Node.js narrow
-passes in V2. The programs with pymacaroons and with Go's macaroon.v2 narrow passes in V1, V2 and JSON. The test compares the bytes of passes in V1
-and V2. JSON allows several spellings, and in V2 pymacaroons writes an empty location, which passtool omits. In these two cases, passtool converts the
-narrowed pass before the comparison. In V1, pymacaroons counts the characters of a location and of an identifier instead of their bytes. Therefore
-pymacaroons gets only passes with ASCII in both fields, like the desk's own passes. Each narrowed pass is signed under its root.
+A fixed seed determines the passes, and the programs in examples/ narrow them. The programs with
+Python's standard library and with Node.js narrow passes in V2. The programs with pymacaroons and
+with Go's macaroon.v2 narrow passes in V1, V2 and JSON. The test compares the bytes of passes in V1
+and V2. JSON allows several spellings, and in V2 pymacaroons writes an empty location, which
+passtool omits. In these two cases, passtool converts the narrowed pass before the comparison. In
+V1, pymacaroons counts the characters of a location and of an identifier instead of their bytes.
+Therefore pymacaroons gets only passes with ASCII in both fields, like the desk's own passes. Each
+narrowed pass is signed under its root.
 """
 # pytestmark = [mark.programs, mark.needs("passtool"), mark.wants("python3-pymacaroons nodejs golang-go golang-gopkg-macaroon.v2-dev")]
 
@@ -57,7 +61,8 @@ def line_of(words, given=""):
 
 
 def any_text(least, most):
-    """Draws a text of characters with one to four bytes in UTF-8, including line feeds, quotes and backslashes."""
+    """Draws a text of characters with one to four bytes in UTF-8, including line feeds, quotes and
+    backslashes."""
     odd = (
         lambda: draw.choice('\n"\\/<>&äß€�\U0001f3be')
         if draw.random() < 0.5
@@ -101,7 +106,8 @@ class Pass:
         self.narrowed = {}
 
     def narrow(self, texts, form):
-        """Narrows the pass in each form with passtool. Checks the signature of the narrowed pass in `form`."""
+        """Narrows the pass in each form with passtool. Checks the signature of the narrowed pass in
+        `form`."""
         self.narrowed = {
             form: line_of([TOOL, "narrow", "--any", "--", *texts], text)
             for form, text in self.texts.items()

@@ -1,6 +1,7 @@
-/* Measures how long C libraries take to read and verify a pass with three caveats: passes_beside ROUNDS. tests/peers/passes_beside.py runs this
- * program. Prints a line for each kind, with the kind's name and the mean nanoseconds of a round. The kinds are our library with V1, V2 and JSON, and
- * Debian's libmacaroons with V1. Each round reads the pass from its text. */
+/* Measures how long C libraries take to read and verify a pass with three caveats: passes_beside
+ * ROUNDS. tests/peers/passes_beside.py runs this program. Prints a line for each kind, with the
+ * kind's name and the mean nanoseconds of a round. The kinds are our library with V1, V2 and JSON,
+ * and Debian's libmacaroons with V1. Each round reads the pass from its text. */
 #include <clubpass.h>
 #include <macaroons.h>
 #include <stdio.h>

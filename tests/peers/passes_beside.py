@@ -1,11 +1,14 @@
 #!/usr/bin/env -S /usr/bin/python3 -B
-"""Measures how long our library of passes, libmacaroons and pymacaroons take to read and verify a pass.
+"""Measures how long our library of passes, libmacaroons and pymacaroons take to read and verify a
+pass.
 
 The pass has three caveats, and is given as a text.
 
-In C, our library reads V1, V2 and JSON, and Debian's libmacaroons reads only V1. In Python, our module and pymacaroons read all three forms. The
-verifiers of libmacaroons and pymacaroons accept only these three caveats. A separate line shows how long our module takes to test the caveats
-against a request. The test prints the median processor time in microseconds, and the ratios of these times.
+In C, our library reads V1, V2 and JSON, and Debian's libmacaroons reads only V1. In Python, our
+module and pymacaroons read all three forms. The verifiers of libmacaroons and pymacaroons accept
+only these three caveats. A separate line shows how long our module takes to test the caveats
+against a request. The test prints the median processor time in microseconds, and the ratios of
+these times.
 
   tests/peers/passes_beside.py [ROUNDS [COUNT]]      COUNT passes of each kind in a round; without: 11 2000
 """
@@ -114,8 +117,8 @@ def main():
             ],
             check=True,
         )
-        # The dynamic loader reads the variable LD_LIBRARY_PATH only when a program starts, so this script starts itself again. The loader chooses the
-        # library's copy for this processor.
+        # The dynamic loader reads the variable LD_LIBRARY_PATH only when a program starts, so this
+        # script starts itself again. The loader chooses the library's copy for this processor.
         found = dict(os.environ, LD_LIBRARY_PATH=f"{room}/lib")
         return subprocess.run(
             [sys.executable, "-B", __file__, rounds, count, room], check=False, env=found

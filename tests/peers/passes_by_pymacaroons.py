@@ -1,10 +1,12 @@
 #!/usr/bin/env -S /usr/bin/python3 -B
-"""The desk replies to 1,500 requests as the rules in Python demand. pymacaroons narrowed the passes of half of the requests.
+"""The desk replies to 1,500 requests as the rules in Python demand. pymacaroons narrowed the passes
+of half of the requests.
 
 The passes are in V1, V2 and JSON.
 
-The rules are in tests/reference. As in tests/desk/hostile.py, a fixed seed determines the club, the requests and the caveats. passtool narrows the
-passes of the other requests. From each key's root, pymacaroons must also make the same pass as our programs.
+The rules are in tests/reference. As in tests/desk/hostile.py, a fixed seed determines the club, the
+requests and the caveats. passtool narrows the passes of the other requests. From each key's root,
+pymacaroons must also make the same pass as our programs.
 """
 # pytestmark = [mark.programs, mark.needs("clubdesk passtool"), mark.wants("python3-pymacaroons")]
 
@@ -68,7 +70,8 @@ def add_caveats(macaroon, *texts):
 
 
 class World(hostile.World):
-    """Keeps a club in clubdesk and in Python, and draws random requests from a seed. The club's keys have passes in V1, V2 and JSON."""
+    """Keeps a club in clubdesk and in Python, and draws random requests from a seed. The club's
+    keys have passes in V1, V2 and JSON."""
 
     def __init__(self, folder):
         super().__init__("pymacaroons", DESK, folder)
@@ -79,7 +82,8 @@ class World(hostile.World):
             (key, form): self.text_of(key, form) for key in hostile.KEYS for form in FORMS
         }
 
-    # clubdesk prints the first key's pass in V1, the second key's pass in V2, the third key's pass in JSON, and so on.
+    # clubdesk prints the first key's pass in V1, the second key's pass in V2, the third key's pass
+    # in JSON, and so on.
 
     def words_of(self, command):
         return [
@@ -102,7 +106,8 @@ class World(hostile.World):
         return FORMS[hostile.KEYS.index(key) % 3]
 
     def text_of(self, key, form):
-        """Returns a key's pass that passtool has converted into this form. pymacaroons must make the same pass from the root."""
+        """Returns a key's pass that passtool has converted into this form. pymacaroons must make
+        the same pass from the root."""
         (root,) = self.roots[key]
         minted = passes.minted(root, f"key:{key}".encode())
         text = passtool(
@@ -135,7 +140,8 @@ class World(hostile.World):
         ]
 
     def narrowed(self, text, form, by_pymacaroons):
-        """Returns the pass with random caveats. Also returns the number of the expected fault if the test spoiled the pass, and None otherwise."""
+        """Returns the pass with random caveats. Also returns the number of the expected fault if
+        the test spoiled the pass, and None otherwise."""
         more = self.caveats()
         if not by_pymacaroons:
             return passtool("narrow", "--any", "--", *more, given=text) if more else text, None
@@ -166,7 +172,8 @@ class World(hostile.World):
         return write(macaroon, form)[:-1], 6
 
     def ask_under(self, server, form, by_pymacaroons):
-        """Sends a request. Returns the fault number of the refusal, or 0 if the desk carries out the request."""
+        """Sends a request. Returns the fault number of the refusal, or 0 if the desk carries out
+        the request."""
         key, method, path, body = self.target()
         text, spoil = self.narrowed(self.texts[key, form], form, by_pymacaroons)
         data = (

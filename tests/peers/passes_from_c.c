@@ -246,7 +246,8 @@ static void knows_caveats(void) {
         HOLDS(!clubpass_is_caveat((const uint8_t *)others[i], strlen(others[i])));
 }
 
-/* If an object contains random bytes, each call treats the object as a pass, and doesn't read beyond the object. */
+/* If an object contains random bytes, each call treats the object as a pass, and doesn't read
+ * beyond the object. */
 static void bears_any_object(void) {
     clubpass pass;
     uint8_t out[CLUBPASS_MAX_TEXT];

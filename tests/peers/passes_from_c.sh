@@ -1,12 +1,15 @@
 #!/bin/sh
 # Each function of clubpass.h, called from C, does what the header says.
 #
-# The test calls each function with normal values, with values at its limits, and with values that cause each fault.
+# The test calls each function with normal values, with values at its limits, and with values that
+# cause each fault.
 #
-# gcc and clang build tests/peers/passes_from_c.c with the shared library and with the static library. The test also compiles the header as C99 and
-# as C++. The program runs without tools, under valgrind, and with AddressSanitizer and UndefinedBehaviorSanitizer. The program also runs with eight
-# threads, without tools and under helgrind. Each input ends before an inaccessible page of memory. In each further run, one allocation fails. Then
-# the call must return "out of memory", and the object must be empty.
+# gcc and clang build tests/peers/passes_from_c.c with the shared library and with the static
+# library. The test also compiles the header as C99 and as C++. The program runs without tools,
+# under valgrind, and with AddressSanitizer and UndefinedBehaviorSanitizer. The program also runs
+# with eight threads, without tools and under helgrind. Each input ends before an inaccessible page
+# of memory. In each further run, one allocation fails. Then the call must return "out of memory",
+# and the object must be empty.
 # pytestmark = [mark.programs, mark.needs("pass_c"), mark.wants("gcc g++ clang libc6-dev pkg-config valgrind")]
 set -eu
 here=$(CDPATH='' cd -P -- "$(dirname -- "$0")" && pwd)
@@ -53,8 +56,8 @@ same 'names of the shared library' "$(grep -o 'clubpass_[a-z_]*(' "$here/../../i
 same 'names of the static library' "$(nm -D --defined-only library/lib/libclubpass.so.0 | sed -n 's/.* T \([a-z_]*\)@.*/\1/p' | sort -u)" \
     "$(nm -g --defined-only library/lib/libclubpass.a | sed -n 's/.* [A-Z] //p' | sort -u)"
 
-# ---- In each run, another allocation fails. If the program itself needs this allocation to read a line of input, the program prints fewer lines.
-# Such a run doesn't count.
+# ---- In each run, another allocation fails. If the program itself needs this allocation to read a
+# line of input, the program prints fewer lines. Such a run doesn't count.
 holds 'tell is built' gcc -g -O1 -o tell "$here/passes_from_c/tell.c" -I "$here/../../include" library/lib/libclubpass.a
 holds 'refused_memory is built' gcc -shared -fPIC -O1 -o refused_memory "$here/../lib/refused_memory.c" -ldl
 cat >lines <<'LINES'

@@ -1,14 +1,15 @@
 #!/usr/bin/env -S /usr/bin/python3 -B
-"""The library of passes, called from Python, agrees with `passtool` on 100,000 random or damaged texts.
+"""The library of passes, called from Python, agrees with `passtool` on 100,000 random or damaged
+texts.
 
-A seed determines the texts. The texts are passes with random bytes in V1, V2 or JSON, with up to 64 caveats.
-The test damages some of the texts. In some of these, the test changes, inserts, removes or doubles bytes in
-the text, or in the data that the text encodes. The test truncates others, writes them in another alphabet of
-base64, or changes names in JSON. For each text, the test runs one command of passtool (`show`, `convert`,
-`narrow` or `verify`), and makes the corresponding calls of the library. The test compares the output, the
-fault number, and whether the pass is signed. Most caveats are valid or almost valid lines of the caveat
-language, and the others are random bytes. The library must understand exactly the caveats that `narrow`
-accepts without `--any`.
+A seed determines the texts. The texts are passes with random bytes in V1, V2 or JSON, with up to 64
+caveats. The test damages some of the texts. In some of these, the test changes, inserts, removes or
+doubles bytes in the text, or in the data that the text encodes. The test truncates others, writes
+them in another alphabet of base64, or changes names in JSON. For each text, the test runs one
+command of passtool (`show`, `convert`, `narrow` or `verify`), and makes the corresponding calls of
+the library. The test compares the output, the fault number, and whether the pass is signed. Most
+caveats are valid or almost valid lines of the caveat language, and the others are random bytes. The
+library must understand exactly the caveats that `narrow` accepts without `--any`.
 
   tests/peers/passes_from_python.py [--count N] [--seed N]
 """
@@ -183,7 +184,8 @@ def line(name, data):
 
 
 def by_library(clubpass, text, words):
-    """Calls the library, and returns the exit status, standard output and fault line that passtool must have."""
+    """Calls the library, and returns the exit status, standard output and fault line that passtool
+    must have."""
     command = words[0]
     if command == "narrow" and "--any" not in words:
         for number, caveat in enumerate(words[2:], 1):
@@ -226,7 +228,7 @@ def compare(clubpass, tool, case):
 
 
 def main():
-    parser = argparse.ArgumentParser(description=__doc__.splitlines()[0])
+    parser = argparse.ArgumentParser(description=__doc__.partition("\n\n")[0])
     parser.add_argument("--count", type=int, default=100_000)
     parser.add_argument("--seed", type=int, default=1)
     given = parser.parse_args()

@@ -1,8 +1,9 @@
 #!/bin/sh
 # The functions of clubpass.h do what the header says, with each input that libFuzzer tries.
 #
-# libFuzzer runs for ten minutes, or for as many seconds as the first argument says. The test runs tests/peers/passes_from_c/fuzz.c with
-# AddressSanitizer, in a process for each processor. The fuzzer begins with the texts of docs/vectors.json, with the bytes that these texts encode in
+# libFuzzer runs for ten minutes, or for as many seconds as the first argument says. The test runs
+# tests/peers/passes_from_c/fuzz.c with AddressSanitizer, in a process for each processor. The
+# fuzzer begins with the texts of docs/vectors.json, with the bytes that these texts encode in
 # base64, and with the caveats of that file.
 # pytestmark = [mark.faults, mark.needs("pass_c"), mark.wants("clang libclang-rt-dev python3")]
 set -eu
@@ -44,7 +45,8 @@ printf '"%s"\n' '\"i\":\"' '\"i64\":\"' '\"c\":[' '{\"i\":\"' '\"s64\":\"' '\"v\
 clang -g -O1 -fsanitize=fuzzer,address -o fuzz "$here/passes_from_c/fuzz.c" -I "$here/../../include" library/lib/libclubpass.a
 seconds=${1-600}
 status=0
-# Runs each input of the corpus once, because in its fork mode libFuzzer skips inputs at which the program ends.
+# Runs each input of the corpus once, because in its fork mode libFuzzer skips inputs at which the
+# program ends.
 ./fuzz seeds/* >log 2>&1 || { tail -n 40 log >&2; exit 1; }
 ./fuzz -max_total_time="$seconds" -max_len=20000 -len_control=20 -dict=words -fork="${FUZZERS-$(nproc)}" -ignore_crashes=0 -print_final_stats=1 seeds >log 2>&1 || status=$?
 if [ "$status" != 0 ] || grep -q 'ERROR: \|not so, line' log; then

@@ -3,9 +3,10 @@
 
 These desks support views, bookings and accounts, with passes in V2 and four kinds of caveats.
 
-The test runs each scenario up to the first line that the desks don't support, such as a cancellation. `clubdesk` carries out the scenario's commands
-and listings on the same file. The desk in C replies with the same bytes as clubdesk. The desk in Go writes the header lines in another order. If Go
-is missing, the test skips the desk in Go.
+The test runs each scenario up to the first line that the desks don't support, such as a
+cancellation. `clubdesk` carries out the scenario's commands and listings on the same file. The desk
+in C replies with the same bytes as clubdesk. The desk in Go writes the header lines in another
+order. If Go is missing, the test skips the desk in Go.
 
     tests/peers/scenarios_beside.py [FILE ..]
 """
@@ -116,7 +117,8 @@ def in_order(reply):
 
 
 def statements(folder):
-    """Writes clubdesk's SQL statements into a file, one per line. The file has only those statements that the desks need."""
+    """Writes clubdesk's SQL statements into a file, one per line. The file has only those
+    statements that the desks need."""
     source = (programs.ROOT / "crates" / "club_tables" / "src" / "texts.rt").read_text(
         encoding="utf-8"
     )
@@ -129,7 +131,8 @@ def statements(folder):
 
 
 def desks(folder):
-    """Builds the desks. For each desk, yields the name, the command line, and whether the header lines have clubdesk's order."""
+    """Builds the desks. For each desk, yields the name, the command line, and whether the header
+    lines have clubdesk's order."""
     in_c, in_go = Path(folder, "desk_in_c"), Path(folder, "desk_in_go")
     subprocess.run(
         [

@@ -15,7 +15,8 @@ FIRST_DAY, LAST_DAY = (date(2000, 1, 1) - EPOCH).days, (date(2099, 12, 31) - EPO
 
 @dataclass
 class Ask:
-    """The values of a request that a pass's caveats check. `slot` is a facility, a day and an hour, or None. `kind` is the kind of the facility."""
+    """The values of a request that a pass's caveats check. `slot` is a facility, a day and an hour,
+    or None. `kind` is the kind of the facility."""
 
     action: str
     slot: tuple | None
@@ -27,7 +28,8 @@ class Ask:
 
 
 def day_of(text):
-    """Returns the number of days from 1970-01-01 to the day in the text, or None if the text isn't a day from 2000 to 2099."""
+    """Returns the number of days from 1970-01-01 to the day in the text, or None if the text isn't
+    a day from 2000 to 2099."""
     if not re.fullmatch(r"\d{4}-\d{2}-\d{2}", text, re.ASCII):
         return None
     try:
@@ -42,7 +44,8 @@ def hour_of(text):
 
 
 def moment_of(text):
-    """Returns the number of minutes from 1970-01-01T00:00 to the moment in the text, or None if the text isn't a moment from 2000 to 2099."""
+    """Returns the number of minutes from 1970-01-01T00:00 to the moment in the text, or None if the
+    text isn't a moment from 2000 to 2099."""
     found = re.fullmatch(r"(\d{4}-\d{2}-\d{2})T([01]\d|2[0-3]):([0-5]\d)", text, re.ASCII)
     day = day_of(found[1]) if found else None
     return None if day is None else (day * 24 + int(found[2])) * 60 + int(found[3])
@@ -55,8 +58,8 @@ def number_of(text, most):
 
 
 def listed(text, words):
-    """Reads a list of one or more of these words with commas between them, in the order of `words`. Returns the places of the words in `words`, or
-    False if the text isn't such a list."""
+    """Reads a list of one or more of these words with commas between them, in the order of `words`.
+    Returns the places of the words in `words`, or False if the text isn't such a list."""
     places = [words.index(it) if it in words else None for it in text.split(",")]
     return (
         None not in places and all(one < other for one, other in zip(places, places[1:])) and places
@@ -128,7 +131,8 @@ LINES = (
 
 
 def test_of(caveat):
-    """Returns the predicate on an Ask that a caveat states, or None if the caveat isn't understood."""
+    """Returns the predicate on an Ask that a caveat states, or None if the caveat isn't
+    understood."""
     if len(caveat) > MOST_BYTES or not caveat.isascii():
         return None
     text = caveat.decode()
@@ -139,8 +143,8 @@ NOT_UNDERSTOOD, DENIES = 11, 12
 
 
 def first_fault(caveats, ask):
-    """Finds the first caveat that isn't understood or that denies the request. Returns the fault and the number of this caveat, counted from 1.
-    Returns None if all caveats allow the request."""
+    """Finds the first caveat that isn't understood or that denies the request. Returns the fault
+    and the number of this caveat, counted from 1. Returns None if all caveats allow the request."""
     for number, caveat in enumerate(caveats, 1):
         test = test_of(caveat)
         if test is None:

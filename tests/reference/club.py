@@ -1,4 +1,5 @@
-"""The club and its rules: the reply to a request with a pass, and the effect of an office command (docs/DESK.md)."""
+"""The club and its rules: the reply to a request with a pass, and the effect of an office command
+(docs/DESK.md)."""
 
 import re
 from dataclasses import dataclass, replace
@@ -10,7 +11,8 @@ DAY_MINUTES = 1440
 AHEAD_MINUTES = 86_400
 MOST_POINTS = 999_999_999
 
-# The names of faults that a test can plant in the rules. A planted fault makes one rule wrong, so that the test must find a difference.
+# The names of faults that a test can plant in the rules. A planted fault makes one rule wrong, so
+# that the test must find a difference.
 PLANTS = (
     "until_takes_its_minute",
     "cancels_without_a_refund",
@@ -70,7 +72,8 @@ class Refused:
 
 
 class CommandRefused(Exception):
-    """Raised if the club refuses a command of the office. The message of the exception is the refusal, such as `exists`."""
+    """Raised if the club refuses a command of the office. The message of the exception is the
+    refusal, such as `exists`."""
 
 
 @dataclass
@@ -261,7 +264,8 @@ class Club:
     # ---- the office
 
     def command(self, words):
-        """Carries out a command. `words` has the command's name and values. Raises CommandRefused if the club refuses the command."""
+        """Carries out a command. `words` has the command's name and values. Raises CommandRefused
+        if the club refuses the command."""
         name, *values = words
         return getattr(self, "command_" + name.replace("-", "_"))(*values)
 

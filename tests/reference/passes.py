@@ -1,4 +1,5 @@
-"""Passes as texts: V1, V2 and JSON, their envelope, and the chain of signatures (docs/PASSES.md)."""
+"""Passes as texts: V1, V2 and JSON, their envelope, and the chain of signatures
+(docs/PASSES.md)."""
 
 import base64
 import hashlib
@@ -61,7 +62,8 @@ def minted(root, identifier, location=b"club-desk", caveats=()):
     return Pass(location, identifier, list(caveats), chain(root, identifier, caveats))
 
 
-# A parsed pass, which may have third-party caveats. Each caveat is (identifier, whether it is a third-party caveat).
+# A parsed pass, which may have third-party caveats. Each caveat is (identifier, whether it is a
+# third-party caveat).
 @dataclass
 class WidePass:
     location: bytes
@@ -87,7 +89,8 @@ class Packets:
         self.data, self.at = data, 0
 
     def peek(self, key):
-        """Returns the data of the next packet and the place where the packet ends. Returns None if the packet has another key."""
+        """Returns the data of the next packet and the place where the packet ends. Returns None if
+        the packet has another key."""
         digits = self.data[self.at : self.at + 4]
         if not re.fullmatch(rb"[0-9a-f]{4}", digits):
             raise Malformed
@@ -155,7 +158,8 @@ class Fields:
         return self.data[self.at - 1]
 
     def number(self):
-        """Reads a number in its varint encoding, and raises Malformed if the encoding isn't the shortest."""
+        """Reads a number in its varint encoding, and raises Malformed if the encoding isn't the
+        shortest."""
         value = shift = 0
         while True:
             byte = self.byte()
@@ -230,8 +234,8 @@ def v2_bytes(it):
 
 
 def whole_number(text):
-    """Reads a JSON number without fraction and exponent as Rust's serde_json does. Returns an int if the number is from 0 to 2^64 - 1, otherwise a
-    float."""
+    """Reads a JSON number without fraction and exponent as Rust's serde_json does. Returns an int
+    if the number is from 0 to 2^64 - 1, otherwise a float."""
     number = finite(text)
     return int(text) if not text.startswith("-") and int(text) < 2**64 else number
 
@@ -267,8 +271,8 @@ def has_lone_surrogate(value):
 
 
 def json_value(data):
-    """Reads bytes as JSON in the same way as serde_json. If an object has a name twice, the last value counts. Raises one of NO_JSON for bytes that
-    aren't JSON."""
+    """Reads bytes as JSON in the same way as serde_json. If an object has a name twice, the last
+    value counts. Raises one of NO_JSON for bytes that aren't JSON."""
     seen = []
 
     def pairs(found):
@@ -290,8 +294,8 @@ def json_value(data):
 
 
 def json_bytes_of(value, plain, encoded):
-    """Returns the bytes that an object has under a plain name, or in base64 under the encoded name. Returns None if both names are missing, and
-    raises Malformed if the object has both names."""
+    """Returns the bytes that an object has under a plain name, or in base64 under the encoded name.
+    Returns None if both names are missing, and raises Malformed if the object has both names."""
     if plain in value and encoded in value:
         raise Malformed
     text = value.get(plain, value.get(encoded))
@@ -359,8 +363,8 @@ def to_base64(data):
 
 
 def from_base64(text):
-    """Decodes base64 in the standard or the URL-safe alphabet, but not in a mixture of both. The text must have the right padding or none, and its
-    unused bits must be zero."""
+    """Decodes base64 in the standard or the URL-safe alphabet, but not in a mixture of both. The
+    text must have the right padding or none, and its unused bits must be zero."""
     letters = text.rstrip(b"=")
     padding = len(text) - len(letters)
     if (
@@ -400,7 +404,8 @@ def read_wide(text):
 
 
 def read(text):
-    """Returns the pass that a text encodes. Raises NoPass with the first fault that the checks find."""
+    """Returns the pass that a text encodes. Raises NoPass with the first fault that the checks
+    find."""
     if len(text) > MOST_BYTES:
         raise NoPass(TOO_LONG)
     try:

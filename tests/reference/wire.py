@@ -82,8 +82,8 @@ PATH = re.compile(r"/slots/(%s)/([^/]*)/([^/]*)(?:/bookings/([1-9][0-9]{0,8}))?"
 
 
 class NotDecoded(Exception):
-    """Raised for a request that the desk refuses before it reads the pass. `fault` is the number of the refusal. With refusal 3, `methods` has the
-    methods that the path allows."""
+    """Raised for a request that the desk refuses before it reads the pass. `fault` is the number of
+    the refusal. With refusal 3, `methods` has the methods that the path allows."""
 
     def __init__(self, fault, methods=None):
         super().__init__(fault)
@@ -91,7 +91,8 @@ class NotDecoded(Exception):
 
 
 def split(data):
-    """Splits the request at the beginning of `data` into its method, target, fields and body. `data` is the whole input."""
+    """Splits the request at the beginning of `data` into its method, target, fields and body.
+    `data` is the whole input."""
     end = data.find(b"\r\n\r\n", 0, MOST_HEAD)
     if end < 0:
         raise NotDecoded(1)
@@ -157,8 +158,8 @@ def decoded(data):
 
 
 def slot_request(method, target, guests):
-    """Returns the Request for a method and the path of a slot or a booking, and the methods that the path allows. The Request is None if the path
-    doesn't allow the method."""
+    """Returns the Request for a method and the path of a slot or a booking, and the methods that
+    the path allows. The Request is None if the path doesn't allow the method."""
     parts = PATH.fullmatch(target)
     day, hour = (day_of(parts[2]), hour_of(parts[3])) if parts else (None, None)
     if day is None or hour is None:
@@ -204,7 +205,8 @@ def reply_bytes(reply, methods=None):
 
 
 def exchange(club, data, moment):
-    """Carries out the request that a complete input contains, and returns the bytes of the reply."""
+    """Carries out the request that a complete input contains, and returns the bytes of the
+    reply."""
     try:
         text, request = decoded(data)
     except NotDecoded as refusal:

@@ -1,4 +1,5 @@
-// Tests of the reader of the address's part after #: the reader recognizes each kind of part, and mistakes no unusual text for another kind.
+// Tests of the reader of the address's part after #: the reader recognizes each kind of part, and
+// mistakes no unusual text for another kind.
 import assert from "node:assert/strict";
 import { test } from "node:test";
 import { isScreen, readFragment } from "../src/fragment.mjs";

@@ -1,11 +1,13 @@
-// Tests of stored passes and loans, and of loans that only the page knows because the browser can't store more.
+// Tests of stored passes and loans, and of loans that only the page knows because the browser can't
+// store more.
 import assert from "node:assert/strict";
 import { beforeEach, test } from "node:test";
 import { dropLoan, dropSpare, isPassTooMany, keepLoan, keepPass, keepSpares, keptLoans, keptPasses, keptSpares, sparesTooMany } from "../src/keeping.mjs";
 import { freeSpares } from "../src/lend.mjs";
 import { narrowed, readPass, writePass } from "../src/pass.mjs";
 
-// AMY is a pass of key amy-1, whose root has sixteen zero bytes. SPARES has this pass, and the same pass with another signature.
+// AMY is a pass of key amy-1, whose root has sixteen zero bytes. SPARES has this pass, and the same
+// pass with another signature.
 const AMY = readPass("AgIJa2V5OmFteS0xAAAGIN6DUCO_GPEfuM-1MV-MxNrJgiVxMmDgBrq42Kle8bor");
 const SPARES = [writePass(AMY), writePass({ ...AMY, signature: AMY.signature.map((byte) => byte ^ 1) })];
 

@@ -11,7 +11,8 @@ export function speak(language) {
   useWords(TABLES, language);
 }
 
-// Returns the bytes of a vector's value. The value is in hexadecimal if its name ends with "hex", otherwise a text.
+// Returns the bytes of a vector's value. The value is in hexadecimal if its name ends with "hex",
+// otherwise a text.
 export function bytesIn(vector, name) {
   return vector[`${name} hex`] !== undefined ? Uint8Array.from(Buffer.from(vector[`${name} hex`], "hex")) : new TextEncoder().encode(vector[name]);
 }

@@ -1,4 +1,5 @@
-// Tests of long or hostile lists: how many bookings one press adds, what only lists show, and the cost of a long record.
+// Tests of long or hostile lists: how many bookings one press adds, what only lists show, and the
+// cost of a long record.
 import assert from "node:assert/strict";
 import { test } from "node:test";
 import { daysLater } from "../src/dates.mjs";

@@ -1,4 +1,5 @@
-// Tests of the price that the page showed: the desk never charges more, whatever happens to the request or to the price.
+// Tests of the price that the page showed: the desk never charges more, whatever happens to the
+// request or to the price.
 import assert from "node:assert/strict";
 import { test } from "node:test";
 import { narrowed, readPass, writePass } from "../src/pass.mjs";
@@ -30,7 +31,8 @@ function entryOf(number = 7, guests = 0, agreed = 200) {
 
 const UNSEEN = { ...entryOf(), agreed: undefined }; // the page showed no price
 
-// Returns a function like exchange() that asks a desk. `before` and `after` run with each request, and may throw.
+// Returns a function like exchange() that asks a desk. `before` and `after` run with each request,
+// and may throw.
 function exchangeWith(desk, { before = () => {}, after = () => {}, log = [] } = {}) {
   return async (text, action, { facility, day, hour, number, guests }) => {
     log.push(action);

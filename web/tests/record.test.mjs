@@ -101,7 +101,8 @@ test("the desk's answers stay next to a list's claims, and of two lists the one 
   assert.deepEqual([stateOf(noted), isLive(noted), noted.saidCancelled], ["booked", true, true]);
   assert.equal(merged(noted, gone), noted);
   assert.equal(answered(withCancellation(noted), "cancel", { booking: "amy-1/7", refund: 0 }).saidCancelled, undefined);
-  // A booking from one list is merged with another list's claims. The member's cancellation stays open, and the desk's answer to it stays.
+  // A booking from one list is merged with another list's claims. The member's cancellation stays
+  // open, and the desk's answer to it stays.
   const pressed = withCancellation(known);
   const rows = [[pressed, "cancelling"], [answered(pressed, "cancel", { booking: "amy-1/7", refund: 300 }), "cancelled"], [answered(pressed, "cancel", { fault: 21 }), "listed"]];
   for (const [own, state] of rows) {
@@ -122,8 +123,8 @@ test("the points that the desk counts show which bookings are missing or may be 
     assert.deepEqual([found.is, found.points, found.entries.map(({ number }) => number)], [is, points, numbers], spent);
   }
   for (const open of [ASKED, withCancellation(BOOKED), { ...BOOKED, book: {} }]) assert.equal(compared([...list, open], 901, moment), null);
-  // A list may claim bookings that don't exist. Such claims neither cast doubt on the bookings that the desk confirmed, nor hide that one of them is
-  // gone.
+  // A list may claim bookings that don't exist. Such claims neither cast doubt on the bookings that
+  // the desk confirmed, nor hide that one of them is gone.
   const madeUp = (charge, refund) => ({ ...ASKED, number: 9, book: {}, listed: { charge, left: 0, ...(refund === undefined ? {} : { refund }) } });
   for (const [extra, spent, is, numbers] of [[madeUp(200), 901, "claims", [9]], [madeUp(400), 901, "claims", [9]], [madeUp(0, 400), 901, "same", []], [madeUp(0, 400), 501, "less", [1]]]) {
     const found = compared([...list, extra], spent, moment);

@@ -1,4 +1,5 @@
-// Tests of the sender, with a store and a desk of the test. No failure makes the sender book twice or lose a booking that the desk has acknowledged.
+// Tests of the sender, with a store and a desk of the test. No failure makes the sender book twice
+// or lose a booking that the desk has acknowledged.
 import assert from "node:assert/strict";
 import { test } from "node:test";
 import { isEntry, readRecord, stateOf, unfinished } from "../src/record.mjs";
@@ -30,7 +31,8 @@ class MemoryStore {
   }
 }
 
-// A desk that records bookings, but may lose requests and replies. For each request, `fate` returns "reply", "lost before" or "lost after".
+// A desk that records bookings, but may lose requests and replies. For each request, `fate` returns
+// "reply", "lost before" or "lost after".
 class Desk {
   constructor(fate = () => "reply") {
     this.fate = fate;
@@ -286,7 +288,8 @@ test("a listed booking is never sent by itself, and on request only under its nu
   assert.deepEqual(desk.log, ["book 7", "cancel 8"]);
   assert.equal((await store.get("amy-1", 8)).notCancelled.fault, 15);
   assert.equal(stateOf(await store.get("amy-1", 8)), "listed");
-  // A listed booking may state other guests than the desk's booking with the same number. The sender then makes no additional booking.
+  // A listed booking may state other guests than the desk's booking with the same number. The
+  // sender then makes no additional booking.
   desk.bookings.set("amy-1/9", { guests: 2, cancelled: false });
   await sender.askFor("amy-1", 9);
   await sender.run();

@@ -1,5 +1,5 @@
-// Prints the small desk's replies for tests/pages/small_desk.py. The first line of the input is a club in JSON, and each other line is a request in
-// JSON.
+// Prints the small desk's replies for tests/pages/small_desk.py. The first line of the input is a
+// club in JSON, and each other line is a request in JSON.
 import { createInterface } from "node:readline";
 import { SmallDesk } from "../src/small_desk.mjs";
 

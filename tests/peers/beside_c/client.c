@@ -1,5 +1,6 @@
-// Sends requests to a desk one after the other, each over its own connection. For each request, prints the microseconds from before the client
-// connects until the end of the reply. Writes the replies to a file.
+// Sends requests to a desk one after the other, each over its own connection. For each request,
+// prints the microseconds from before the client connects until the end of the reply. Writes the
+// replies to a file.
 //   client PORT REQUESTS REPLIES      REQUESTS has, for each request, a line with its length, then its bytes
 #include <arpa/inet.h>
 #include <stdio.h>

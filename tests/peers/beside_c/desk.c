@@ -1,6 +1,8 @@
-// A desk in C with SQLite's library. tests/peers/beside.py compares the times of this desk with those of clubdesk. The desk has the same file,
-// statements and replies as clubdesk, and serves one connection after the other. The desk reads the row of the key, then checks the signature, and
-// reads other rows only if the pass is signed. The desk understands only the caveats that beside.py writes: guests, until, spend, actions.
+// A desk in C with SQLite's library. tests/peers/beside.py compares the times of this desk with
+// those of clubdesk. The desk has the same file, statements and replies as clubdesk, and serves one
+// connection after the other. The desk reads the row of the key, then checks the signature, and
+// reads other rows only if the pass is signed. The desk understands only the caveats that beside.py
+// writes: guests, until, spend, actions.
 //   desk FILE MOMENT < STATEMENTS      beside.py explains these arguments
 //   desk                               runs the minimal server, which reads once, writes 133 bytes and closes the connection
 #include <arpa/inet.h>
@@ -55,7 +57,8 @@ static void copy_root(enum statement s, int column, struct root *to) {
     memcpy(to->at, sqlite3_column_blob(statements[s], column), to->len = (size_t)sqlite3_column_bytes(statements[s], column));
 }
 
-// Binds the values of a statement. `kinds` has a letter for each value: t for a text, n for a number.
+// Binds the values of a statement. `kinds` has a letter for each value: t for a text, n for a
+// number.
 static void set(enum statement s, const char *kinds, ...) {
     va_list values;
     va_start(values, kinds);
@@ -65,8 +68,8 @@ static void set(enum statement s, const char *kinds, ...) {
     va_end(values);
 }
 
-// Returns whether a statement has another row, and reads the row's columns. `kinds` has a letter for each column: t for a text, n for a number, r for
-// a root.
+// Returns whether a statement has another row, and reads the row's columns. `kinds` has a letter
+// for each column: t for a text, n for a number, r for a root.
 static bool next_row(enum statement s, const char *kinds, ...) {
     int status = sqlite3_step(statements[s]);
     if (status == SQLITE_DONE) return sqlite3_reset(statements[s]), false;
@@ -97,7 +100,8 @@ struct pass {
     uint8_t signature[SIGNATURE];
 };
 
-// Reads a field of this type from the rest of the pass. The end of a section is a field of type 0 without bytes.
+// Reads a field of this type from the rest of the pass. The end of a section is a field of type 0
+// without bytes.
 static bool take(struct bytes *rest, uint8_t type, struct bytes *field) {
     const uint8_t *at = rest->at, *end = at + rest->len;
     size_t length = 0;
@@ -209,7 +213,8 @@ static int day_number(int year, int month, int day) {
     return (int)(timegm(&(struct tm){.tm_year = year - 1900, .tm_mon = month - 1, .tm_mday = day}) / 86400);
 }
 
-// Reads the head and the body of a request. The desk refuses only those malformed requests that the test sends.
+// Reads the head and the body of a request. The desk refuses only those malformed requests that the
+// test sends.
 static bool read_request(char *bytes, struct request *it) {
     char method[8], path[96];
     int year, month, date;
@@ -276,8 +281,8 @@ static struct member member_of(const char *name) {
     return it;
 }
 
-// Returns whether a key has spent more than `most` points. Adds up the costs of the key's bookings only if the member has used more than `most`
-// points.
+// Returns whether a key has spent more than `most` points. Adds up the costs of the key's bookings
+// only if the member has used more than `most` points.
 static bool has_spent_above(const struct row *row, int most) {
     return most < 0 || (member_of(row->member).used > most && spent_by(row->key) > most);
 }
@@ -310,8 +315,8 @@ static struct booking booking_of(const char *key, int number) {
     return it;
 }
 
-// Returns the number of the first caveat that denies the request, or minus the number of the first caveat that isn't understood. Returns 0 if all
-// caveats allow the request.
+// Returns the number of the first caveat that denies the request, or minus the number of the first
+// caveat that isn't understood. Returns 0 if all caveats allow the request.
 static int first_fault(const struct pass *pass, const struct request *request, const struct row *row, int owed) {
     static const char *const actions[] = {"view", "book", "account"};
     for (int n = 0; n < pass->count; n++) {

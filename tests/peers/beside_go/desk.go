@@ -1,5 +1,6 @@
-// A desk with net/http and SQLite's C library. tests/peers/beside.py compares the times of this desk with
-// those of clubdesk. The desk has the same file, statements and replies as beside_c/desk.c.
+// A desk with net/http and SQLite's C library. tests/peers/beside.py compares the times of this
+// desk with those of clubdesk. The desk has the same file, statements and replies as
+// beside_c/desk.c.
 //
 //	desk FILE MOMENT < STATEMENTS      beside.py explains these arguments
 package main
@@ -92,8 +93,8 @@ func (d *desk) spentBy(key string) (spent int) {
 	return spent
 }
 
-// hasSpentAbove returns whether a key has spent more than `most` points. It adds up the costs of the key's bookings only if the member
-// has used more than `most` points.
+// hasSpentAbove returns whether a key has spent more than `most` points. It adds up the costs of
+// the key's bookings only if the member has used more than `most` points.
 func (d *desk) hasSpentAbove(key key, most int) bool {
 	_, _, used := d.memberOf(key.member)
 	return used > most && d.spentBy(key.name) > most
@@ -145,7 +146,8 @@ func refuse(fault int, more string) reply {
 	return reply{faults[fault].status, fmt.Sprintf(`{"fault":%d,"text":%q%s}`, fault, faults[fault].body, more)}
 }
 
-// readRequest reads the path and the body. If the request has no fault, readRequest returns fault 0.
+// readRequest reads the path and the body. If the request has no fault, readRequest returns fault
+// 0.
 func readRequest(r *http.Request) (it request, fault int) {
 	if r.URL.Path == "/account" {
 		return request{action: "account"}, 0
@@ -207,7 +209,8 @@ func (d *desk) signer(p *macaroon.Macaroon) (it key, isSigned bool) {
 	return it, err == nil
 }
 
-// firstFault returns the fault and the number of the first caveat that denies the request or isn't understood.
+// firstFault returns the fault and the number of the first caveat that denies the request or isn't
+// understood.
 func (d *desk) firstFault(p *macaroon.Macaroon, key key, it request, owed int) (fault, number int) {
 	for n, caveat := range p.Caveats() {
 		if allows, isUnderstood := d.allows(string(caveat.Id), key, it, owed); !isUnderstood {

@@ -45,7 +45,8 @@ static bool is_empty(const clubpass *pass) {
            clubpass_location(pass, byte, 0, &len) == CLUBPASS_OK && clubpass_identifier(pass, byte, 0, &len) == CLUBPASS_OK && len == 0;
 }
 
-/* Mints a new pass with the given pass's fields under this root, and adds the given pass's caveats. */
+/* Mints a new pass with the given pass's fields under this root, and adds the given pass's caveats.
+ * */
 static clubpass minted_again(const clubpass *pass, const uint8_t *root, size_t root_len) {
     static uint8_t identifier[CLUBPASS_ROOM];
     clubpass made = CLUBPASS_INIT;
@@ -112,7 +113,8 @@ static void tell_caveat(char **words) {
     puts(clubpass_is_caveat(out, len) ? "yes" : "no");
 }
 
-/* Returns the place of a word in a list, counted from 1, or 0 if the list doesn't contain the word. */
+/* Returns the place of a word in a list, counted from 1, or 0 if the list doesn't contain the word.
+ * */
 static uint32_t place_of(const char *word, const char *const *list) {
     for (uint32_t i = 0; list[i]; i++)
         if (strcmp(word, list[i]) == 0)
