@@ -51,16 +51,25 @@ os.chdir(ROOT)
 # Names that two modules in specs/ may define, each with the reason.
 TWINS = {
     "◌>>=◌": "the bind of `do`, which each kind of result defines",
-    "Entry table_of": "points in a reply, or a row in a program's table of commands; a table of SQL, or of commands",
-    "header_at caveat_at optional_at wide_at": "the readings of V1 and V2 state the same about two layouts",
+    "Entry table_of": (
+        "points in a reply, or a row in a program's table of commands; a table of SQL, or of"
+        " commands"
+    ),
+    "header_at caveat_at optional_at wide_at": (
+        "the readings of V1 and V2 state the same about two layouts"
+    ),
     "Answers": "the answers in rows of tables, and the results of calls with arguments",
     "ReadsArguments of_arguments": "how both programs read their arguments",
     "is_key_of": "whether a member's key has a name, in a club and in the reference's lists",
-    "EndsWith exit_status fault_line fault_output fault_status": "the faults of both programs, their lines and statuses",
+    "EndsWith exit_status fault_line fault_output fault_status": (
+        "the faults of both programs, their lines and statuses"
+    ),
 }
 UNITS = re.compile(
-    "byte|bit|character|letter|digit|column|line|caveat|pass|place|person|guest|booking|point|day|hour|minute|second|moment|year|name|fault"
-    "|status|connection|port|version|row|request|key|field|case|number|memory|count|length",
+    (
+        "byte|bit|character|letter|digit|column|line|caveat|pass|place|person|guest|booking|point|day|hour|minute|second|moment|year|name|fault"
+        "|status|connection|port|version|row|request|key|field|case|number|memory|count|length"
+    ),
     re.IGNORECASE,
 )
 # A line that begins with a string literal, or with a field and its string literal, may be longer.
@@ -99,7 +108,10 @@ def twice_defined(crates):
             for name in {
                 a or b
                 for a, b in re.findall(
-                    r"^(?:(?:pub )?(?:record|data) (\S+)|(?:(?:abbrev|unfoldable|opaque) )?(?:pub )?(\S+) :(?: |$))",
+                    (
+                        r"^(?:(?:pub )?(?:record|data) (\S+)|(?:(?:abbrev|unfoldable|opaque)"
+                        r" )?(?:pub )?(\S+) :(?: |$))"
+                    ),
                     text,
                     re.MULTILINE,
                 )
@@ -170,7 +182,10 @@ def without_unit(crate):
             text = " ".join(re.findall(r"/// (.*)", found[1]))
             plain = re.sub("`[^`]*`", "", text)
             plain = re.sub(
-                r"below 0|RFC [0-9]+|FIPS [0-9-]+|SHA-256|[0-9]+-[0-9]+-[0-9]+(T[0-9:]+)?|[A-Za-z-]+[0-9]+",
+                (
+                    r"below 0|RFC [0-9]+|FIPS"
+                    r" [0-9-]+|SHA-256|[0-9]+-[0-9]+-[0-9]+(T[0-9:]+)?|[A-Za-z-]+[0-9]+"
+                ),
                 "",
                 plain,
             )
@@ -180,7 +195,10 @@ def without_unit(crate):
                 and not UNITS.search(plain)
                 and "test" not in file.name
             ):
-                yield f"number without a unit: {file}:{whole.count(chr(10), 0, found.start()) + 1}: {text}"
+                yield (
+                    f"number without a unit: {file}:{whole.count(chr(10), 0, found.start()) + 1}:"
+                    f" {text}"
+                )
 
 
 MOD = re.compile(r"^(?:pub )?mod (\S+)$", re.MULTILINE)

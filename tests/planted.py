@@ -375,8 +375,10 @@ PLANTS = {
     "office_door:stopped": (
         "clubdesk",
         BY_HAND,
-        '[ "$1" != serve ] || (while sleep 0.1 && [ -e /proc/$$ ]; do ! grep -q "^State:.T" /proc/$$/status || kill -9 $$; done) '
-        '>/dev/null 2>&1 & exec "$PROGRAM" "$@"',
+        (
+            '[ "$1" != serve ] || (while sleep 0.1 && [ -e /proc/$$ ]; do ! grep -q "^State:.T"'
+            ' /proc/$$/status || kill -9 $$; done) >/dev/null 2>&1 & exec "$PROGRAM" "$@"'
+        ),
         "test_a_server_that_is_stopped_while_a_command_comes",
         "-k",
         "is_stopped",
@@ -384,9 +386,11 @@ PLANTS = {
     "office_door:ends": (
         "clubdesk",
         BY_HAND,
-        '[ "$1" != credit ] || [ ! -S "$2-office" ] || /usr/bin/python3 -c '
-        '"import socket, sys; it = socket.socket(socket.AF_UNIX); it.connect(sys.argv[1]); it.recv(1) or sys.exit(5)" "$2-office" || exit 5; '
-        'exec "$PROGRAM" "$@"',
+        (
+            '[ "$1" != credit ] || [ ! -S "$2-office" ] || /usr/bin/python3 -c "import socket, sys;'
+            " it = socket.socket(socket.AF_UNIX); it.connect(sys.argv[1]); it.recv(1) or"
+            ' sys.exit(5)" "$2-office" || exit 5; exec "$PROGRAM" "$@"'
+        ),
         "test_a_server_that_ends_before_it_greets",
         "-k",
         "ends_before",
@@ -402,7 +406,10 @@ PLANTS = {
     "office_door:stale": (
         "clubdesk",
         BY_HAND,
-        '[ "$1" != credit ] || [ ! -S "$2-office" ] || [ -w "$2-office" ] || exit 5; exec "$PROGRAM" "$@"',
+        (
+            '[ "$1" != credit ] || [ ! -S "$2-office" ] || [ -w "$2-office" ] || exit 5; exec'
+            ' "$PROGRAM" "$@"'
+        ),
         "test_a_stale_door_of_root",
         "-k",
         "stale",
@@ -932,9 +939,11 @@ PLANTS = {
     "passes_of_odd_types:a-pool-of-objects": (
         "bindings/python/clubpass/__init__.py",
         "    made._at = ctypes.byref(Object())\n",
-        "    made._at = POOL.pop() if POOL else ctypes.byref(Object())\n"
-        "    return made\n\n\nPOOL = []\nPass.__del__ = lambda it: POOL.append(it._at)\n\n\n"
-        "def unused(made):\n",
+        (
+            "    made._at = POOL.pop() if POOL else ctypes.byref(Object())\n"
+            "    return made\n\n\nPOOL = []\nPass.__del__ = lambda it: POOL.append(it._at)\n\n\n"
+            "def unused(made):\n"
+        ),
         "test_a_pass_that_outlives_its_deletion",
     ),
     "passes_of_odd_types:an-object-with-a-length": (

@@ -84,15 +84,18 @@ def run_gate(work, names):
     spent = Counter()
     # TMPDIR puts the folders of the mutants below the scratch folder. So the measured times include
     # the mutants of this run, but no other run on the machine.
-    with open(work / "log", "wb") as log, subprocess.Popen(
-        ["rt", "ci", *names],
-        cwd=work / "clone",
-        stdin=subprocess.DEVNULL,
-        stdout=log,
-        stderr=log,
-        env={**os.environ, "TMPDIR": str(work / "rooms")},
-        start_new_session=True,
-    ) as gate:
+    with (
+        open(work / "log", "wb") as log,
+        subprocess.Popen(
+            ["rt", "ci", *names],
+            cwd=work / "clone",
+            stdin=subprocess.DEVNULL,
+            stdout=log,
+            stderr=log,
+            env={**os.environ, "TMPDIR": str(work / "rooms")},
+            start_new_session=True,
+        ) as gate,
+    ):
         try:
             while gate.poll() is None:
                 sample(spent, work)
@@ -140,7 +143,8 @@ def main(names):
             spent,
         )
         print(
-            f"{minutes:.1f} minutes of processor time, {wall:.1f} minutes of elapsed time, {os.cpu_count()} processors"
+            f"{minutes:.1f} minutes of processor time, {wall:.1f} minutes of elapsed time,"
+            f" {os.cpu_count()} processors"
         )
         print(
             *(work / "log")

@@ -208,9 +208,12 @@ def test_commands(own):
             (
                 "list",
                 0,
-                '{"number":N,"book":{"booking":"amy-1/N","charge":600,"left":1},"facility":"court-1","day":"2026-05-01","hour":"18","guests":2,"points":600,'
-                '"cancel":{"booking":"amy-1/N","refund":600}}\n'
-                '{"number":N,"book":{"fault":18,"text":"no places"},"facility":"court-1","day":"2026-05-01","hour":"18","guests":1,"points":400}\n',
+                (
+                    '{"number":N,"book":{"booking":"amy-1/N","charge":600,"left":1},"facility":"court-1","day":"2026-05-01","hour":"18","guests":2,"points":600,'
+                    '"cancel":{"booking":"amy-1/N","refund":600}}\n'
+                    '{"number":N,"book":{"fault":18,"text":"no'
+                    ' places"},"facility":"court-1","day":"2026-05-01","hour":"18","guests":1,"points":400}\n'
+                ),
             ),
         ):
             assert prints(it.port, words)[:2] == (wanted, text)

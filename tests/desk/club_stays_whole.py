@@ -41,15 +41,27 @@ COMMANDS = {
     "credit amy 10000": "UPDATE members SET credited = credited + 10000",
     "debit amy 500": "UPDATE members SET credited = credited - 500",
     "set-quota amy 8": "UPDATE members SET quota = 8",
-    "add-facility court-1 court 4 200 8 22": "INSERT INTO facilities VALUES ('court-1', 'court', 4, 200, 8, 22)",
-    "set-facility court-1 2 250 7 23": "UPDATE facilities SET places = 2, price = 250, opens = 7, shuts = 23",
-    f"add-key amy-1 amy {ROOT} --form v1": f"INSERT INTO keys VALUES ('amy-1', 'amy', x'{ROOT}', 0)",
+    "add-facility court-1 court 4 200 8 22": (
+        "INSERT INTO facilities VALUES ('court-1', 'court', 4, 200, 8, 22)"
+    ),
+    "set-facility court-1 2 250 7 23": (
+        "UPDATE facilities SET places = 2, price = 250, opens = 7, shuts = 23"
+    ),
+    f"add-key amy-1 amy {ROOT} --form v1": (
+        f"INSERT INTO keys VALUES ('amy-1', 'amy', x'{ROOT}', 0)"
+    ),
     f"add-key amy-2 amy {ROOT}": f"INSERT INTO keys VALUES ('amy-2', 'amy', x'{ROOT}', 0)",
-    f"rotate-key amy-1 {OTHER} 2026-05-01T18:00 --form json": f"UPDATE keys SET root = x'{OTHER}' WHERE name = 'amy-1'; INSERT INTO old_roots VALUES ('amy-1', x'{ROOT}', 29627640)",
+    f"rotate-key amy-1 {OTHER} 2026-05-01T18:00 --form json": (
+        f"UPDATE keys SET root = x'{OTHER}' WHERE name = 'amy-1'; INSERT INTO old_roots VALUES"
+        f" ('amy-1', x'{ROOT}', 29627640)"
+    ),
     "close-slot court-1 2026-05-01 09": "INSERT INTO slots VALUES ('court-1', 20574, 9, 1, 0)",
     "open-slot court-1 2026-05-01 09": "UPDATE slots SET closed = 0",
     "revoke-key amy-2": "UPDATE keys SET revoked = 1 WHERE name = 'amy-2'",
-    "cancel-booking amy-1 7": "UPDATE bookings SET cancelled = 1, refund = charge; UPDATE slots SET taken = 0; UPDATE members SET used = 0",
+    "cancel-booking amy-1 7": (
+        "UPDATE bookings SET cancelled = 1, refund = charge; UPDATE slots SET taken = 0; UPDATE"
+        " members SET used = 0"
+    ),
 }
 # The request that a member sends before the test runs the command.
 BOOKED_BEFORE = {

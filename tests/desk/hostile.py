@@ -187,7 +187,10 @@ class World(Both):
             "until < 2099-12-31T23:59",
             f"guests <= {draw.choice((0, 1, 2, 49))}",
             f"spend <= {draw.choice((0, 199, 200, 600, 601, 1803, 9999, 999_999_999))}",
-            f"actions = {draw.choice(('view', 'book', 'view,book', 'book,cancel', 'cancel,account', 'view,book,cancel,account'))}",
+            (
+                "actions ="
+                f" {draw.choice(('view', 'book', 'view,book', 'book,cancel', 'cancel,account', 'view,book,cancel,account'))}"
+            ),
         )
         odd = (
             "hours = 20-18",

@@ -85,7 +85,10 @@ class Times(list):
 
     def show(self, what):
         print(
-            f"{len(self)} {what}: median {statistics.median(self) * 1000:.1f} ms, longest {max(self) * 1000:.1f} ms",
+            (
+                f"{len(self)} {what}: median {statistics.median(self) * 1000:.1f} ms, longest"
+                f" {max(self) * 1000:.1f} ms"
+            ),
             flush=True,
         )
 
@@ -331,9 +334,10 @@ def test_client_that_dawdles_keeps_no_command(club, dawdle):
     client. The server cuts off the slow client after four seconds, the value of the option
     `--patience`."""
     commands = Times()
-    with club.served("--patience", "4") as server, socket.create_connection(
-        ("127.0.0.1", server.port), 60
-    ) as client:
+    with (
+        club.served("--patience", "4") as server,
+        socket.create_connection(("127.0.0.1", server.port), 60) as client,
+    ):
         begun, dawdling = time.monotonic(), threading.Thread(target=dawdle, args=[client])
         dawdling.start()
         for wait in (0.2, 1.1):

@@ -46,7 +46,10 @@ TESTS = {
     ),
     "club_http_tests": "bodies::refused_memory counted::refused_memory",
 }
-FAULT = r"([A-Za-z]+\()*((OutOf)?Memory|AllocError|AllocFailed \{ \.\. \}|Os \{ code: 12, kind: OutOfMemory, .*\})\)*"
+FAULT = (
+    r"([A-Za-z]+\()*((OutOf)?Memory|AllocError|AllocFailed \{ \.\. \}|Os \{ code: 12, kind:"
+    r" OutOfMemory, .*\})\)*"
+)
 ROOM = tempfile.TemporaryDirectory(dir=desk.IN_MEMORY)
 
 
@@ -145,13 +148,17 @@ def refuse(crate, test, program):
     for number, (status, output) in enumerate(found, 1):
         if status and not ends_without_memory(output):
             sys.exit(
-                f"status {status}\n{output}{crate} {test}: fails for another reason if allocation {number} is refused"
+                f"status {status}\n{output}{crate} {test}: fails for another reason if allocation"
+                f" {number} is refused"
             )
     if not found:
         sys.exit(f"{crate} {test}: no allocation was counted")
     ended = sum(status != 0 for status, _ in found)
     print(
-        f"{crate} {test}: refused each of {len(found)} allocations in turn; {ended} runs ended with out of memory",
+        (
+            f"{crate} {test}: refused each of {len(found)} allocations in turn; {ended} runs ended"
+            " with out of memory"
+        ),
         flush=True,
     )
     return len(found)

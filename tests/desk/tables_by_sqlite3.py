@@ -180,7 +180,10 @@ amy-1|8|room-1|20574|18|0|601|0|1|300
 
 
 def test_sums_of_an_auditor(club):
-    taken = "SELECT total(guests + 1) FROM bookings WHERE cancelled = 0 AND day = 20574 AND hour = 18 AND facility ="
+    taken = (
+        "SELECT total(guests + 1) FROM bookings WHERE cancelled = 0 AND day = 20574 AND hour = 18"
+        " AND facility ="
+    )
     assert (
         sql(
             club,

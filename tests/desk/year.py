@@ -301,7 +301,8 @@ def run(given, desk, plant=None):
         year.pass_days(given.days, given.requests)
         bookings = sum(map(len, year.club.bookings.values()))
         print(
-            f"{given.days} days, seed {given.seed}: {bookings} bookings, {year.commands} commands, {year.kills} kills, no difference"
+            f"{given.days} days, seed {given.seed}: {bookings} bookings, {year.commands} commands,"
+            f" {year.kills} kills, no difference"
         )
 
 

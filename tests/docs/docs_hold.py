@@ -102,7 +102,10 @@ FIELDS = within(
 ITEMS = FUNCTIONS.union(
     found(
         ".rt",
-        rf"{HEAD}(?:(?:struct|enum|trait|type|mod|static|abbrev) |ghost (?=[A-Za-z_]+(?: =|:)))(\w+)",
+        (
+            rf"{HEAD}(?:(?:struct|enum|trait|type|mod|static|abbrev) |ghost (?=[A-Za-z_]+(?:"
+            r" =|:)))(\w+)"
+        ),
     ),
     found(".rt", r"^ *(?:pub )?const ([A-Z]\w*)"),
     found(".rt", "^    pub ([a-z_]+): "),
@@ -290,7 +293,10 @@ def test_sizes_on_the_first_page():
     docs/proofs/AUDIT.md."""
     number = r"(\d[\d,]*)"
     given = re.search(
-        rf"about {number} lines of code, {number} of definitions and {number} of proofs\..* {number} lines of definitions",
+        (
+            rf"about {number} lines of code, {number} of definitions and {number} of proofs\..*"
+            rf" {number} lines of definitions"
+        ),
         TEXTS["README.md"],
     )
     counted = [
@@ -381,7 +387,10 @@ def test_each_decision_has_its_day_and_status():
     sections = re.split(r"^## .*\n", TEXTS["docs/DECISIONS.md"], flags=re.MULTILINE)[1:]
     for paragraph in (it for section in sections for it in re.split(r"\n\n+", section.strip())):
         assert re.fullmatch(
-            r"\*\*.* \*20\d\d-\d\d-\d\d, (accepted|measured|stand-in)(, changed 20\d\d-\d\d-\d\d)?\*",
+            (
+                r"\*\*.* \*20\d\d-\d\d-\d\d, (accepted|measured|stand-in)(, changed"
+                r" 20\d\d-\d\d-\d\d)?\*"
+            ),
             paragraph,
         ), paragraph
 
@@ -424,7 +433,8 @@ def script_of(text):
         ]
         if is_behind:
             lines.append(
-                'for wait in $(seq 100); do [ "$(wc -c <"$OUT")" = "$printed" ] || break; sleep 0.1; done'
+                'for wait in $(seq 100); do [ "$(wc -c <"$OUT")" = "$printed" ] || break; sleep'
+                " 0.1; done"
             )
     return "\n".join(lines)
 

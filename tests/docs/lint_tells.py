@@ -67,7 +67,10 @@ FILES = {
     "web/src/words/en.json": ('{\n  "found": "Found exactly if there."\n}\n', 2),
     "man/a.1": (".Sh NAME\nFound exactly if there.\n", 2),
     "crates/a/src/table.rt": (
-        'const HELP: &str = "FILE is the file.\nIt is found exactly if there.\n\nExample:\n  exactly if";\n',
+        (
+            'const HELP: &str = "FILE is the file.\nIt is found exactly if there.\n\nExample:\n '
+            ' exactly if";\n'
+        ),
         2,
     ),
     "deploy/club_office/texts.py": (

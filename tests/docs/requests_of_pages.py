@@ -29,7 +29,10 @@ pytestmark = [
 ]
 
 PART = re.compile(
-    r"^```console\n(?P<block>[^`]*?)^```$|^(?P<section>##.*)|^\| (?P<under>Under `.*)|^\| (?P<asked>`(?:GET|PUT|DELETE|POST) .*)",
+    (
+        r"^```console\n(?P<block>[^`]*?)^```$|^(?P<section>##.*)|^\| (?P<under>Under `.*)|^\|"
+        r" (?P<asked>`(?:GET|PUT|DELETE|POST) .*)"
+    ),
     re.MULTILINE,
 )
 UNDER = re.compile(r"Under `([^`]+)` at (\S+) \|.*")

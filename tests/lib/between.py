@@ -72,7 +72,8 @@ class Between:
         if kind == "answer":
             status, body = detail.split(" ", 1)
             client.sendall(
-                f"HTTP/1.1 {status} X\r\nContent-Length: {len(body)}\r\nConnection: close\r\n\r\n{body}".encode()
+                f"HTTP/1.1 {status} X\r\nContent-Length: {len(body)}\r\nConnection:"
+                f" close\r\n\r\n{body}".encode()
             )
         elif kind != "silent":
             time.sleep(float(detail) if kind == "slow" else 0)

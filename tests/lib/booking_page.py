@@ -348,7 +348,10 @@ class BookingPage(Browser):
 
     def cancelled(self, number, *what):
         self.run(
-            "offerCancellation(ownEntries().find((each) => each.number === arguments[0]), () => {})",
+            (
+                "offerCancellation(ownEntries().find((each) => each.number === arguments[0]), ()"
+                " => {})"
+            ),
             number,
         )
         self.press("Cancel the booking")
@@ -378,7 +381,8 @@ class BookingPage(Browser):
         `asked`, and its answer must contain `words`."""
         self.view("bookings")
         self.run(
-            "[...byName('to-come').querySelectorAll('.booked button, .listed button')].find((each) => each.textContent === 'Cancel').click()"
+            "[...byName('to-come').querySelectorAll('.booked button, .listed button')].find((each)"
+            " => each.textContent === 'Cancel').click()"
         )
         check(asked in self.run("return dialogText()"), *what, self.run("return dialogText()"))
         self.press("Cancel the booking")
@@ -421,8 +425,10 @@ def amounts(key):
     """Returns the bookings of a key in the file, by number. Each booking is a tuple of its
     facility, day, hour, guests, charge, places left, cancellation and refund."""
     found = rows(
-        "SELECT number, facility, date(day * 86400, 'unixepoch'), hour, guests, charge, remains, cancelled, refund FROM bookings "
-        "WHERE pass_key = ?",
+        (
+            "SELECT number, facility, date(day * 86400, 'unixepoch'), hour, guests, charge,"
+            " remains, cancelled, refund FROM bookings WHERE pass_key = ?"
+        ),
         key,
     )
     return {number: tuple(rest) for number, *rest in found}
@@ -526,7 +532,10 @@ def slot_path(title, hour):
 
 def goes_to(engine, wanted):
     engine.run(
-        "const field = document.getElementById('day-field'); field.value = arguments[0]; field.dispatchEvent(new Event('change'))",
+        (
+            "const field = document.getElementById('day-field'); field.value = arguments[0];"
+            " field.dispatchEvent(new Event('change'))"
+        ),
         wanted,
     )
     engine.when(

@@ -167,7 +167,10 @@ class Both:
             f"{facility:<24} {hour:02d}:00 {key:<24} {number:9d} {persons:2d} {charge:6d}"
             for facility, hour, key, number, persons, charge in rows
         ]
-        total = f"Total bookings {len(rows)}, persons {sum(it[4] for it in rows)}, charge {sum(it[5] for it in rows)}"
+        total = (
+            f"Total bookings {len(rows)}, persons {sum(it[4] for it in rows)}, charge"
+            f" {sum(it[5] for it in rows)}"
+        )
         text = "\n".join(
             [f"Day sheet {spelled_day(day)}", *lines, total if rows else "No bookings.", ""]
         )

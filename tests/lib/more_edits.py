@@ -32,7 +32,8 @@ TEST = re.compile(r"^test: (\w+) ([\w:]+)$", re.MULTILINE)
 # line that reports the goal, or on the line that reports a missing answer. An answer is a
 # handwritten proof.
 FALSE = re.compile(
-    r"the facts known there allow values at which this goal is false|may be false: the known facts allow"
+    r"the facts known there allow values at which this goal is false|may be false: the known facts"
+    r" allow"
 )
 # The messages of rattle about a proof file with an unknown name, and about proofs that depend on
 # this file.
@@ -55,12 +56,14 @@ DECLARATION = re.compile(r"\s*(?:pub )?([^\s:]+) : ")
 # declaration.
 UNCHECKED = re.compile(r"declarations? that depends? on")
 BLOCK = re.compile(
-    r"(?:impl(?:<.*?>)? |(?:pub(?:\([^)]*\))? )?trait )(?:(?:\w+::)*(?P<trait>\w+)(?:<.*?>)? for )?(?:\w+::)*(?P<type>\w+)"
+    r"(?:impl(?:<.*?>)? |(?:pub(?:\([^)]*\))? )?trait )(?:(?:\w+::)*(?P<trait>\w+)(?:<.*?>)? for"
+    r" )?(?:\w+::)*(?P<type>\w+)"
 )
 AT_ONCE = 30  # the most edits that one check tries
 # The message of rattle when it reaches its own limit and gives no verdict.
 LIMIT = re.compile(
-    r"antt ran out of (stack|the (steps|memory) that the check of one declaration may)|outgrew the memory limit|stopped at the step limit"
+    r"antt ran out of (stack|the (steps|memory) that the check of one declaration may)|outgrew the"
+    r" memory limit|stopped at the step limit"
 )
 
 
@@ -165,9 +168,11 @@ def edited_item(crate, edit):
         found.add(
             (
                 path,
-                None
-                if offset is None
-                else function_at(path, text, offset) or constant_at(text, offset),
+                (
+                    None
+                    if offset is None
+                    else function_at(path, text, offset) or constant_at(text, offset)
+                ),
             )
         )
     path, item = found.pop() if len(found) == 1 else (None, None)

@@ -145,7 +145,8 @@ class Browser:
                     node.get("description"),
                 )
         heard = self.run(
-            "return [...document.querySelectorAll('[role=status], [role=alert], [aria-live]')].map((each) => each.id)"
+            "return [...document.querySelectorAll('[role=status], [role=alert],"
+            " [aria-live]')].map((each) => each.id)"
         )
         check(live <= set(heard), "elements that announce changes to a screen reader", heard)
         return tree
@@ -202,7 +203,8 @@ class Browser:
         """Returns a PNG in base64 of the whole page, or of the part that begins at `top` and has
         the height `height`."""
         width, whole = self.run(
-            "const { offsetWidth, offsetHeight } = document.documentElement; return [offsetWidth, offsetHeight];"
+            "const { offsetWidth, offsetHeight } = document.documentElement; return [offsetWidth,"
+            " offsetHeight];"
         )
         clip = {"x": 0, "y": top, "width": width, "height": height or whole, "scale": 1}
         return self.command("Page.captureScreenshot", captureBeyondViewport=True, clip=clip)["data"]

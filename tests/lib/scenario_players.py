@@ -126,7 +126,10 @@ def listing(club, event):
             f"{facility:<24} {hour:02d}:00 {key:<24} {number:9d} {persons:2d} {charge:6d}"
             for facility, hour, key, number, persons, charge in rows
         ]
-        total = f"Total bookings {len(rows)}, persons {sum(it[4] for it in rows)}, charge {sum(it[5] for it in rows)}"
+        total = (
+            f"Total bookings {len(rows)}, persons {sum(it[4] for it in rows)}, charge"
+            f" {sum(it[5] for it in rows)}"
+        )
         return (
             (f"Day sheet {words[0]}", *found, total)
             if rows

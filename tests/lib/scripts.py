@@ -387,4 +387,7 @@ class Results:
         return sum(1 for it in self.all.values() if it["result"] == result)
 
     def __str__(self):
-        return f"{self.count('passed')} passed, {self.count('failed')} failed, {self.count('skipped')} skipped"
+        return (
+            f"{self.count('passed')} passed, {self.count('failed')} failed,"
+            f" {self.count('skipped')} skipped"
+        )

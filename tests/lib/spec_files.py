@@ -135,7 +135,10 @@ def spelled_out(text):
         )
 
     return re.sub(
-        r"^( *(?:unfoldable )?(?:pub )?(?:ghost )?use )(Rattle\.[^;{\n]*\{[^;\n]*[.{][^;\n]*\})(;?)\n",
+        (
+            r"^( *(?:unfoldable )?(?:pub )?(?:ghost )?use"
+            r" )(Rattle\.[^;{\n]*\{[^;\n]*[.{][^;\n]*\})(;?)\n"
+        ),
         flat,
         text,
         flags=re.MULTILINE,

@@ -163,7 +163,10 @@ def make_file(clubdesk, path, rows, has_big):
         statements += [
             f"""{numbers(BIG_ROWS)} INSERT INTO bookings
             SELECT 'big', i, 'court-2', 10957 + (i - 1) / 48, (i - 1) / 2 % 24, 1, 2, 46, 0, 0 FROM n""",
-            "INSERT INTO slots SELECT facility, day, hour, 0, sum(guests + 1) FROM bookings GROUP BY 1, 2, 3",
+            (
+                "INSERT INTO slots SELECT facility, day, hour, 0, sum(guests + 1) FROM bookings"
+                " GROUP BY 1, 2, 3"
+            ),
         ]
     with closing(sqlite3.connect(path)) as database:
         database.executescript(f"BEGIN; {'; '.join(statements)}; COMMIT")
@@ -364,7 +367,8 @@ def show_calls(clubdesk, path, asker):
         )
         often = "".join(f" {name} {count:.1f}" for name, count in each.items() if count >= 0.1)
         print(
-            f"{kind:12} reads {reads:.2f}, writes {writes:.2f}, all calls {sum(each.values()):.1f}:{often}"
+            f"{kind:12} reads {reads:.2f}, writes {writes:.2f}, all calls"
+            f" {sum(each.values()):.1f}:{often}"
         )
 
 
@@ -396,7 +400,8 @@ def main():
         desks, medians = {name: DESKS[name]() for name in given.desks}, {}
         names = (OURS, *desks, PLAIN)
         print(
-            f"load {os.getloadavg()[0]:.1f} on {os.cpu_count()} processors; microseconds, medians of {rounds} rounds, and clubdesk's ratio to each"
+            f"load {os.getloadavg()[0]:.1f} on {os.cpu_count()} processors; microseconds, medians"
+            f" of {rounds} rounds, and clubdesk's ratio to each"
         )
         print(
             f"{'bookings':>36} "

@@ -22,7 +22,10 @@ from reference.caveats import ACTIONS, day_of, listed, moment_of, number_of
 from reference.wire import STATUSES, TEXTS
 
 DAY, WINDOW = 1440, 86_400
-PRAGMAS = "PRAGMA locking_mode = EXCLUSIVE; PRAGMA journal_mode = WAL; PRAGMA synchronous = FULL; PRAGMA foreign_keys = ON; PRAGMA cache_size = 2000"
+PRAGMAS = (
+    "PRAGMA locking_mode = EXCLUSIVE; PRAGMA journal_mode = WAL; PRAGMA synchronous = FULL; PRAGMA"
+    " foreign_keys = ON; PRAGMA cache_size = 2000"
+)
 (
     KEY,
     OLDER_ROOT,

@@ -63,8 +63,8 @@ def line_of(words, given=""):
 def any_text(least, most):
     """Draws a text of characters with one to four bytes in UTF-8, including line feeds, quotes and
     backslashes."""
-    odd = (
-        lambda: draw.choice('\n"\\/<>&äß€�\U0001f3be')
+    odd = lambda: (
+        draw.choice('\n"\\/<>&äß€�\U0001f3be')
         if draw.random() < 0.5
         else chr(draw.randint(0xA0, 0xD7FF))
     )

@@ -91,7 +91,8 @@ def measure(room, rounds, count):
     for form in FORMS:
         theirs = middle["Python", f"pymacaroons {form}"]
         print(
-            f"pymacaroons / ours, {form}: in C {theirs / middle['C', form]:.1f}, in Python {theirs / middle['Python', form]:.1f}"
+            f"pymacaroons / ours, {form}: in C {theirs / middle['C', form]:.1f}, in Python"
+            f" {theirs / middle['Python', form]:.1f}"
         )
 
 

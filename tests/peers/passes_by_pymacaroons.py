@@ -133,9 +133,11 @@ class World(hostile.World):
     def caveats(self):
         count = self.draw.choice([0, 0, 1, 1, 2, 3])
         return [
-            self.draw.choice(NOT_UNDERSTOOD)
-            if self.draw.random() < 0.02
-            else self.caveat().decode()
+            (
+                self.draw.choice(NOT_UNDERSTOOD)
+                if self.draw.random() < 0.02
+                else self.caveat().decode()
+            )
             for _ in range(count)
         ]
 
@@ -177,8 +179,8 @@ class World(hostile.World):
         key, method, path, body = self.target()
         text, spoil = self.narrowed(self.texts[key, form], form, by_pymacaroons)
         data = (
-            b"%s %s HTTP/1.1\r\nHost: club\r\nAuthorization: Bearer %s\r\nContent-Length: %d\r\n\r\n%s"
-            % (method, path, text.encode(), len(body), body)
+            b"%s %s HTTP/1.1\r\nHost: club\r\nAuthorization: Bearer %s\r\nContent-Length:"
+            b" %d\r\n\r\n%s" % (method, path, text.encode(), len(body), body)
         )
         fault = wire.json_value(self.ask(server, data, self.moment).partition(b"\r\n\r\n")[2]).get(
             "fault", 0
@@ -201,7 +203,8 @@ def main(folder):
         row = {fault: n for (*its, fault), n in sorted(counted.items()) if its == [maker, form]}
         refused = ", ".join(f"{fault}: {n}" for fault, n in row.items() if fault)
         print(
-            f"{sum(row.values())} in {form} by {maker}: {row.get(0, 0)} served; refused as {refused}"
+            f"{sum(row.values())} in {form} by {maker}: {row.get(0, 0)} served; refused as"
+            f" {refused}"
         )
     print(f"{sum(counted.values())} replies match the rules")
 
