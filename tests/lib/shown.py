@@ -47,7 +47,7 @@ WRITTEN = {
     "passes.json_bytes_of": "pass_json.Json: IsField",
     "passes.json_caveat": "pass_json.Json: caveat_names IsCaveatObject",
     "passes.is_whole_two": "pass_json.Json: IsVersion",
-    "passes.read_json passes.json_value": (
+    "passes.read_json json_values.json_value": (
         "pass_json.Json: HasOnly pass_names AreCaveats IsCaveatList IsPass SpellsJson"
     ),
     "passes.from_base64": "pass_forms.Envelope: IsBase64",

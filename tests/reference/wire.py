@@ -6,7 +6,7 @@ from datetime import timedelta
 
 from .caveats import EPOCH, NAME, day_of, hour_of
 from .club import Refused, Request
-from .passes import NO_JSON, json_value
+from .json_values import NO_JSON, json_value
 
 MOST_HEAD, MOST_BODY, MOST_FIELDS = 16_384, 256, 32
 

@@ -66,6 +66,7 @@ class NotAnAsk(PassError):
     """A value of a request is out of range."""
 
 
+_FIRST = slice(8193)  # no text, part or caveat of a pass has more than 8,192 bytes
 _OK, _SHORT_BUFFER = 0, 6
 _ERRORS = {1: TooLong, 2: Malformed, 3: ThirdParty, 4: TooMany, 5: NoRoom, 9: NotAnAsk}
 _VERDICTS = {10: "not understood", 11: "denies"}
@@ -77,13 +78,14 @@ _KINDS = {None: 0, "court": 1, "boat": 2, "room": 3}
 
 def _bytes(value: Bytes, errors: str = "strict") -> bytes:
     """Returns a value as bytes whose `len` is the length of their memory. So a subclass of str may
-    not choose how it is encoded, and a subclass of bytes or bytearray is refused."""
+    not choose how it is encoded, and a subclass of bytes or bytearray is refused. A value that is
+    too long isn't copied whole: the library gives its first bytes the same answer."""
     if type(value) is bytes:
         return value
     if isinstance(value, str):
-        return str.encode(value, "utf-8", errors)
+        return str.encode(str.__getitem__(value, _FIRST), "utf-8", errors)
     if type(value) is bytearray:
-        return bytes(value)
+        return bytes(value[_FIRST])
     raise TypeError(f"bytes or str, not {type(value).__name__}")
 
 

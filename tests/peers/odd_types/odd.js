@@ -74,7 +74,7 @@ const shown = (found) => (found instanceof Pass ? `${found}` : JSON.stringify(fo
 const told = (place, name) => {
   const [plain, call, usual = plain] = PLACES[place];
   const value = VALUES[name](plain), wanted = shown(call(usual));
-  const begun = process.hrtime.bigint();
+  const begun = process.cpuUsage();
   let answer;
   try {
     const found = call(value);
@@ -84,7 +84,8 @@ const told = (place, name) => {
     else if (error instanceof TypeError) answer = "type";
     else throw error;
   }
-  const seconds = Number(process.hrtime.bigint() - begun) / 1e9;
+  const { user, system } = process.cpuUsage(begun);
+  const seconds = (user + system) / 1e6;
   return seconds < LONGEST_SECONDS ? answer : `${answer} after ${seconds.toFixed(1)} s`;
 };
 

@@ -96,7 +96,7 @@ PLACES = {
 def answer(place, name):
     plain, call, usual = (*PLACES[place], PLACES[place][0])[:3]
     value, wanted = VALUES[name](plain), call(usual)
-    begun = time.monotonic()
+    begun = time.process_time()
     try:
         found = call(value)
         told = "no" if found is False else "ok" if found == wanted else "differs"
@@ -104,7 +104,7 @@ def answer(place, name):
         told = "type"
     except clubpass.PassError as fault:
         told = str(FAULTS[type(fault).__name__])
-    seconds = time.monotonic() - begun
+    seconds = time.process_time() - begun
     return told if seconds < LONGEST_SECONDS else f"{told} after {seconds:.1f} s"
 
 
