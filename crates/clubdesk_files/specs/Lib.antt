@@ -1,2 +1,4 @@
+pub mod Folder
+pub mod Kinds
 pub mod Retried
 pub mod Named

@@ -1,6 +1,7 @@
 //! The door of a server. The door is a socket next to the database, and only the socket's owner can
 //! use it.
 
+use crate::folder::has_door;
 use crate::place::{IN_MEMORY, OWNERS_MODE, Place, SocketFile};
 use desk_server::Door;
 use libc::{fchmod, net as c};
@@ -18,7 +19,7 @@ const BACKLOG: i32 = 128;
 /// now belongs to another server's door. A database in memory has no door.
 pub struct FileDoor<'a> {
     rt: &'a HostRuntime,
-    at: Option<(Place, SocketFile, UnixListener)>,
+    at: Option<(Place<'a>, SocketFile, UnixListener)>,
 }
 
 impl<'a> FileDoor<'a> {
@@ -35,8 +36,8 @@ impl<'a> FileDoor<'a> {
             return Ok(FileDoor { rt, at: None });
         }
         let place = Place::find(rt, file)?;
-        let path = place.door(rt)?;
-        if place.has_door(rt)? {
+        let path = place.door()?;
+        if has_door(&place)? {
             fs::remove_file(rt, path.as_str())?;
         }
         let listener = bind_private(rt, path.as_str())?;
@@ -76,7 +77,7 @@ impl Drop for FileDoor<'_> {
     fn drop(self) {
         let FileDoor { rt, at } = self;
         if let Some((place, made, _listener)) = at {
-            if let Ok(path) = place.door(rt) {
+            if let Ok(path) = place.door() {
                 made.remove(rt, path.as_str());
             }
         }

@@ -1,12 +1,16 @@
 //! Connects to a server, and sends a command to it.
 
-use crate::handover::greeted;
+ghost use Rattle.std.specs.Prelude.{Bool};
+ghost use Rattle.clubdesk_files.specs.Retried.{IsHandedOn, IsHandedTo, SendsOver};
+
+use crate::folder::has_door;
+use crate::handover::{AnswerReader, CommandWriter, greeted};
+use crate::kinds::{is_cut_short, is_nobody};
 use crate::place::{Place, fault_of};
 use crate::retried::{Servers, hand_over_to, hand_over_until_done};
 use club_core::StoreFault;
 use desk_server::Visit;
-use std::io;
-use std::io::ErrorKind;
+use std::io::{self, ErrorKind, Read, Write};
 use std::os::unix::net::UnixStream;
 use std::time::Duration;
 
@@ -65,18 +69,11 @@ pub(crate) fn find_server<'a>(rt: &'a HostRuntime, file: &str) -> Result<Found<'
     match connect(rt, file) {
         Ok(stream) => match FileVisit::over(rt, file, stream) {
             Ok(visit) => Ok(Found::Server(visit)),
-            Err(error) => match error.kind() {
-                ErrorKind::UnexpectedEof | ErrorKind::ConnectionReset => Ok(Found::Ended),
-                _ => Err(fault_of(&error)),
-            },
+            Err(error) if is_cut_short(error.kind()) => Ok(Found::Ended),
+            Err(error) => Err(fault_of(&error)),
         },
-        Err(error) => match error.kind() {
-            ErrorKind::NotFound
-            | ErrorKind::ConnectionRefused
-            | ErrorKind::InvalidInput
-            | ErrorKind::PermissionDenied => Ok(Found::Nobody),
-            _ => Err(fault_of(&error)),
-        },
+        Err(error) if is_nobody(error.kind()) => Ok(Found::Nobody),
+        Err(error) => Err(fault_of(&error)),
     }
 }
 
@@ -92,10 +89,10 @@ pub(crate) fn find_server<'a>(rt: &'a HostRuntime, file: &str) -> Result<Found<'
 /// - Fails with another error if the door can't be used for another reason.
 pub fn connect(rt: &HostRuntime, file: &str) -> io::Result<UnixStream> {
     let place = Place::find(rt, file)?;
-    if !place.has_door(rt)? {
+    if !has_door(&place)? {
         return Err(io::Error::from(ErrorKind::NotFound));
     }
-    let path = place.door(rt)?;
+    let path = place.door()?;
     UnixStream::connect(rt, path.as_str())
 }
 
@@ -116,9 +113,14 @@ impl FileVisit<'_> {
     }
 }
 
-/// The contract states nothing about a server's answers.
+/// The contract states nothing about which servers there are.
 impl Servers for FileVisit<'_> {
-    ghost hands = { λ _ _ _ _. Unit {0} };
+    ghost hands = { λ _ command answer _. (is_there : Bool) × IsHandedTo
+        (SendsOver ⟦<&'static UnixStream as Read>⟧.remaining
+        ⟦<&'static UnixStream as Write>⟧.contents
+        ⟦<&'static UnixStream as CommandWriter>⟧.ends
+        ⟦<&'static UnixStream as AnswerReader>⟧.fails
+        ⟦<&'static UnixStream as CommandWriter>⟧.fails command) is_there answer };
 
     fn hand_over(&mut self, command: &[u8]) -> Option<(u8, String)> {
         let server = self.next();
@@ -126,9 +128,12 @@ impl Servers for FileVisit<'_> {
     }
 }
 
-/// The contract states nothing about a server's answers.
+/// Each answer but the last one has the status `NOTHING_DONE`.
 impl Visit for FileVisit<'_> {
-    ghost gives = { λ _ _ _. Unit {0} };
+    ghost use Rattle.clubdesk_files.specs.declared.file_visit.FileVisit.{FileVisit};
+
+    ghost gives = { λ visit command answer. (last : FileVisit)
+        × IsHandedOn ⟦<FileVisit<'static> as Servers>⟧.hands command visit answer last };
 
     fn give(mut self, command: &[u8]) -> Option<(u8, String)> {
         let rt = self.rt;

@@ -1,7 +1,6 @@
 //! The files in the folder of a database.
 
-ghost use Rattle.std.specs.Prelude.{◌≡◌, ◌↔◌, ◌⊎◌, IsTrue};
-
+use crate::folder::{Folder, FolderEntry, OFFICE};
 use club_core::StoreFault;
 use libc::geteuid;
 use std::alloc::AllocError;
@@ -21,27 +20,22 @@ pub(crate) const IN_MEMORY: &str = ":memory:";
 /// The path of the current folder.
 const HERE: &str = ".";
 
-/// The suffix of the door's name. The door is a server's socket. The name of the door is the
-/// database's name with this suffix.
-const OFFICE: &str = "-office";
-
-/// The user id of root.
-const ROOT: u32 = 0;
-
 /// The open folder of a database, and the name of the database's file in this folder. If a link
 /// leads to the file, the folder and the name are those of the file, not of the link. Paths go
 /// through the folder's descriptor, because the folder's own path may be too long for a socket's
 /// address.
 #[derive(Drop)]
-pub(crate) struct Place {
+pub(crate) struct Place<'a> {
+    rt: &'a HostRuntime,
     folder: File,
     name: String,
+    caller: u32,
 }
 
-impl Place {
+impl<'a> Place<'a> {
     /// Finds the folder and the name of the database at this path. The folder must exist. The file
     /// may be missing, because a server can still have a removed file open.
-    pub fn find(rt: &HostRuntime, file: &str) -> io::Result<Place> {
+    pub fn find(rt: &'a HostRuntime, file: &str) -> io::Result<Place<'a>> {
         match fs::canonicalize(rt, file) {
             Ok(whole) => Place::of(rt, whole.as_path()),
             Err(error) if error.kind() == ErrorKind::NotFound => Place::of(rt, Path::new(file)),
@@ -49,7 +43,7 @@ impl Place {
         }
     }
 
-    fn of(rt: &HostRuntime, file: Path<'_>) -> io::Result<Place> {
+    fn of(rt: &'a HostRuntime, file: Path<'_>) -> io::Result<Place<'a>> {
         let Some(name) = file.file_name() else {
             return Err(io::Error::from(ErrorKind::InvalidInput));
         };
@@ -59,61 +53,51 @@ impl Place {
             _ => Path::new(HERE),
         };
         let folder = File::open(rt, folder)?;
-        Ok(Place { folder, name })
+        let caller = geteuid();
+        Ok(Place {
+            rt,
+            folder,
+            name,
+            caller,
+        })
     }
 
     /// Returns the path of the door's socket.
-    pub fn door(&self, rt: &HostRuntime) -> Result<String, AllocError> {
-        self.path(rt, OFFICE)
+    pub fn door(&self) -> Result<String, AllocError> {
+        self.path(OFFICE)
     }
 
     // Returns the database's path with this suffix.
-    fn path(&self, rt: &HostRuntime, ending: &str) -> Result<String, AllocError> {
+    fn path(&self, suffix: &str) -> Result<String, AllocError> {
         let descriptor = self.folder.as_raw_fd();
         let name = self.name.as_str();
-        format!(in rt.alloc(); "/proc/self/fd/{descriptor}/{name}{ending}")
-    }
-
-    // Returns the user id of the database's owner, or the caller's user id if the file is missing.
-    fn owner(&self, rt: &HostRuntime) -> io::Result<u32> {
-        let path = self.path(rt, "")?;
-        match fs::symlink_metadata(rt, path.as_str()) {
-            Ok(found) => Ok(found.uid()),
-            Err(error) if error.kind() == ErrorKind::NotFound => Ok(geteuid()),
-            Err(error) => Err(error),
-        }
-    }
-
-    /// Returns true if a socket has the door's name.
-    ///
-    /// # Errors
-    ///
-    /// Fails with `InvalidData` if another kind of file has the door's name, or if the socket
-    /// belongs to a user who may not make the door.
-    pub fn has_door(&self, rt: &HostRuntime) -> io::Result<bool> {
-        let path = self.door(rt)?;
-        match fs::symlink_metadata(rt, path.as_str()) {
-            Ok(found) => {
-                let owner = self.owner(rt)?;
-                if found.file_type().is_socket() && may_make_door(found.uid(), owner, geteuid()) {
-                    Ok(true)
-                } else {
-                    Err(io::Error::from(ErrorKind::InvalidData))
-                }
-            }
-            Err(error) if error.kind() == ErrorKind::NotFound => Ok(false),
-            Err(error) => Err(error),
-        }
+        format!(in self.rt.alloc(); "/proc/self/fd/{descriptor}/{name}{suffix}")
     }
 }
 
-/// Returns true if a user may make the door of a database. The database's owner, the caller and
-/// root may make the door. Without this check, anyone who can write to the folder could put a
-/// socket there and receive the office's commands.
-pub fn may_make_door(user: u32, owner: u32, caller: u32) -> bool
-    ensures { IsTrue result ↔ ((user ≡ owner) ⊎ (user ≡ caller) ⊎ (user ≡ ROOT)) }
-{
-    user == owner || user == caller || user == ROOT
+/// No contract states what the file system contains.
+impl Folder for Place<'_> {
+    ghost shows = { λ _ _ _. Unit {0} };
+
+    ghost fails = { λ _ _. Unit {0} };
+
+    ghost user = { λ place. place.caller };
+
+    fn entry(&self, suffix: &str) -> io::Result<Option<FolderEntry>> {
+        let path = self.path(suffix)?;
+        match fs::symlink_metadata(self.rt, path.as_str()) {
+            Ok(found) => Ok(Some(FolderEntry {
+                is_socket: found.file_type().is_socket(),
+                owner: found.uid(),
+            })),
+            Err(error) if error.kind() == ErrorKind::NotFound => Ok(None),
+            Err(error) => Err(error),
+        }
+    }
+
+    fn caller(&self) -> u32 {
+        self.caller
+    }
 }
 
 /// Returns the store's fault for a door that can't be made or used.

@@ -1,20 +1,19 @@
 //! Sends a command to one server after another, until a server receives all of the command.
 
-ghost use Rattle.std.specs.Prelude.{◌≡◌, ◌↔◌, ℕ, List, IsTrue, Some};
-ghost use Rattle.clubdesk_files.specs.Retried.{IsHandedOn, IsNothingDone};
+ghost use Rattle.std.specs.Prelude.{◌≡◌, ◌↔◌, ℕ, List, IsTrue, Some, is_some};
+ghost use Rattle.clubdesk_files.specs.Retried.{IsHandedOn, IsHandedTo, IsNothingDone};
+ghost use Rattle.clubdesk_files.specs.Retried.{IsNothingDoneOrNone, SendsOnce, SendsOver};
 ghost use Rattle.desk_server.specs.Server.{in_bytes};
 
 use crate::attempts::{ATTEMPTS_A_SECOND, SLEEP_MILLIS};
-use crate::handover::answered;
+use crate::handover::{AnswerReader, CommandWriter, answered, limit_answer};
+use crate::kinds::is_unread;
 use desk_server::{MonotonicClock, NOTHING_DONE, NOTHING_DONE_TEXT};
 use std::alloc::Global;
-use std::io::{self, ErrorKind};
+use std::io::{Read, Write};
 use std::os::unix::net::UnixStream;
 use std::thread;
 use std::time::{Clock, Duration, Instant};
-
-/// The time that a server has to read a command and to answer it, in seconds.
-const ANSWER_SECONDS: u64 = 600;
 
 /// The time during which the program retries a command, in seconds.
 const RETRY_SECONDS: u64 = 10;
@@ -87,31 +86,51 @@ pub fn hand_over_to(
     alloc: Global,
     server: Option<UnixStream>,
     command: &[u8],
-) -> Option<(u8, String)> {
+) -> Option<(u8, String)>
+    ensures { IsHandedTo (SendsOver ⟦<&'static UnixStream as Read>⟧.remaining
+        ⟦<&'static UnixStream as Write>⟧.contents
+        ⟦<&'static UnixStream as CommandWriter>⟧.ends
+        ⟦<&'static UnixStream as AnswerReader>⟧.fails
+        ⟦<&'static UnixStream as CommandWriter>⟧.fails command.now)
+        (is_some server) (in_bytes result) }
+{
     let Some(stream) = server else {
         return nothing_done(alloc);
     };
-    limit_answer(&stream).ok()?;
-    match answered(alloc, &mut &stream, &mut &stream, command) {
+    match limit_answer(&stream) {
+        Ok(()) => hand_over_by(alloc, &mut &stream, &mut &stream, command),
+        Err(_) => None,
+    }
+}
+
+/// Sends a command once through a writer, and reads the answer. If an error shows that the server
+/// didn't read all of the command, the answer has the status `NOTHING_DONE`. Returns `None` after
+/// any other error, because the server may have carried out the command.
+pub fn hand_over_by<R: AnswerReader, W: CommandWriter>(
+    alloc: Global,
+    reader: &mut R,
+    writer: &mut W,
+    command: &[u8],
+) -> Option<(u8, String)>
+    ensures { SendsOnce R.remaining W.contents W.ends R.AnswerReader.fails W.CommandWriter.fails
+        command.now reader.old writer.old (in_bytes result) reader.new writer.new }
+{
+    match answered(alloc, reader, writer, command) {
         Ok(answer) => Some(answer),
-        // The server closed the connection before it had read all of the command. The server
-        // therefore can't carry out the command.
-        Err(error) => match error.kind() {
-            ErrorKind::BrokenPipe | ErrorKind::ConnectionReset => nothing_done(alloc),
-            _ => None,
-        },
+        Err(error) => {
+            if is_unread(error.kind()) {
+                nothing_done(alloc)
+            } else {
+                None
+            }
+        }
     }
 }
 
 // Returns the answer for a command that no server received completely.
-fn nothing_done(alloc: Global) -> Option<(u8, String)> {
+fn nothing_done(alloc: Global) -> Option<(u8, String)>
+    ensures { IsNothingDoneOrNone (in_bytes result) }
+{
     let text = format!(in alloc; "{NOTHING_DONE_TEXT}").ok()?;
     Some((NOTHING_DONE, text))
-}
-
-// Sets the timeouts for sending the command and for receiving the answer.
-fn limit_answer(stream: &UnixStream) -> io::Result<()> {
-    let most = Some(Duration::from_secs(ANSWER_SECONDS));
-    stream.set_read_timeout(most)?;
-    stream.set_write_timeout(most)
 }

@@ -5,6 +5,7 @@ use crate::files::{AMY, new_club};
 use crate::runs::{ClubFile, expect_eq};
 use clubdesk_files::{
     Attempts, FileDoor, FileVisit, Servers, connect, gain, hand_over_to, hand_over_until_done,
+    limit_answer,
 };
 use desk_server::{Door, Visit};
 use std::alloc::Global;
@@ -13,6 +14,7 @@ use std::net::Shutdown;
 use std::os::unix::fs::symlink;
 use std::os::unix::net::UnixStream;
 use std::test::Fail;
+use std::time::Duration;
 
 const COMMAND: &[u8] = br#"["","clubdesk","add-member","club","amy","5"]"#;
 
@@ -148,6 +150,15 @@ fn nothing_was_done_by_a_server_that_is_gone(rt: HostRuntime) -> Result<(), Fail
     let clock = Machine::new(Some(0), 0);
     let answer = hand_over_until_done(&clock, &mut greeted, COMMAND);
     expect_answer(&rt, &answer, Some((0, "done\n")))
+}
+
+#[test]
+fn gives_a_server_ten_minutes(rt: HostRuntime) -> Result<(), Fail> {
+    let (client, _server) = UnixStream::pair(&rt)?;
+    limit_answer(&client)?;
+    let most = Some(Duration::from_secs(600));
+    expect_eq(&rt, client.read_timeout()?, most)?;
+    expect_eq(&rt, client.write_timeout()?, most)
 }
 
 /// The system resets a connection that is closed with unread bytes, so each greeting has at most
