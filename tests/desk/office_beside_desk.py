@@ -44,6 +44,7 @@ pytestmark = [
 ]
 
 PASSES = {place: text(key_pass(f"k{place}")) for place in range(1, 5)}
+BOOKING = book(1, TWO, slot(facility="court-1"))
 DONE, FAILED = (0, "done\n", ""), (5, "", "storage failed\n")
 DRIP = lambda client: desk.drip(client, b"GET /a")
 
@@ -232,22 +233,21 @@ def test_what_others_meet_beside_a_server(club):
 
 @pytest.mark.parametrize("is_replaced", [True, False], ids=["replaced", "removed"])
 def test_file_that_is_gone(made, is_replaced):
-    """After someone removes the file of a running server, the server acknowledges no change. If
-    someone puts a new file at the old file's path, the server leaves the new file unchanged."""
+    """After someone removes the file of a running server, the server acknowledges no change. It
+    still answers what changes nothing. If someone puts a new file at the old file's path, the server
+    leaves the new file unchanged."""
     club = made.copied_to(made.file.with_name("gone"))
     with club.served() as server:
-        assert server.exchange(ACCOUNT.under(PASSES[1]).data).startswith(b"HTTP/1.1 200 ")
+        account = server.exchange(ACCOUNT.under(PASSES[1]).data)
+        assert account.startswith(b"HTTP/1.1 200 ")
         club.file.unlink()
         if is_replaced:
             shutil.copy(made.file, club.file)
-        assert server.exchange(ACCOUNT.under(PASSES[1]).data).startswith(b"HTTP/1.1 503 ")
-        for words in (
-            ("credit", "m2", "1"),
-            ("add-member", "new", "1"),
-            ("sheet", "2026-05-01"),
-            ("show-account", "k2", "--at", NOON),
-        ):
+        assert server.exchange(ACCOUNT.under(PASSES[1]).data) == account
+        assert server.exchange(BOOKING.under(PASSES[1]).data).startswith(b"HTTP/1.1 503 ")
+        for words in (("credit", "m2", "1"), ("add-member", "new", "1")):
             assert club.command(*words) == FAILED, words
+        assert club.command("show-account", "k2", "--at", NOON)[0] == 0
         assert club.file.exists() == is_replaced
         assert not is_replaced or club.file.read_bytes() == made.file.read_bytes()
 
@@ -259,7 +259,7 @@ def test_server_whose_file_was_replaced_leaves_the_door_of_the_next(made):
     with club.served(count=1) as first:
         made.copied_to(club.file)
         with club.served():
-            assert first.exchange(ACCOUNT.under(PASSES[1]).data).startswith(b"HTTP/1.1 503 ")
+            assert first.exchange(BOOKING.under(PASSES[1]).data).startswith(b"HTTP/1.1 503 ")
             assert first.process.wait(10) == 0
             ends(DONE, 1, club.program, "credit", club.file, "m2", "1")
 

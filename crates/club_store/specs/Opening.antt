@@ -3,8 +3,8 @@
 use Rattle.sqlite_disk.specs.declared.Disk as disk
 use Rattle.sqlite.specs.FileStore as file
 use Rattle.club_store.specs.declared.failed_opening.FailedOpening.TheVariants as failed
-use Rattle.std.specs.Prelude.{List, [], ◌∷◌, ◌⊎◌, IsTrue, ◌≡◌, ◌≢◌, Option, None, false, IfSome}
-use Rattle.club_core.specs.{Club.{Club, empty_club}, Store.KeepsClub, declared.store.StoreFault.{StoreFault, TheVariants.Memory}}
+use Rattle.std.specs.Prelude.{List, [], ◌∷◌, All, ◌⊎◌, IsTrue, ◌≡◌, ◌≢◌, Option, None, false, IfSome}
+use Rattle.club_core.specs.{Club.{Club, IsSound, empty_club}, Store.KeepsClub, declared.store.StoreFault.{StoreFault, TheVariants.Memory}}
 use Rattle.club_store.specs.declared.failed_opening.FailedOpening.{FailedOpening}
 use Rattle.club_tables.specs.{Opening.{AcceptsTables, IsOpeningBatch, IsOpeningFault}, ReadsAndChanges.found_in, Tables.{IsLeftOf, Represents, IsFound}}
 use Rattle.club_tables.specs.Transaction.{MayCommit, IsKept, fault_by}
@@ -17,6 +17,12 @@ use Rattle.sqlite_disk.specs.declared.Files.{Files}
 -- If the disk is clean, the store contains the database of one of these clubs after any crash.
 abbrev pub LeavesOneOf : {S : Type 0} → Ghosts S → S → List Club → Type 0
 LeavesOneOf g store clubs = IsClean (g.view store) → (trees : Trees) → g.recovers store trees → IsLeftOf trees clubs
+
+-- Each of these clubs is sound. If the store's disk has been clean so far, a crash leaves the
+-- database of one of these clubs.
+abbrev pub leaves_sound_in : {S : Type 0} → Ghosts S → S → Club → List Club → Type 0
+leaves_sound_in g store club others =
+    All IsSound (club ∷ others) × IsTrue (g.view store).is_numbered × LeavesOneOf g store (club ∷ others)
 
 -- A newly opened connection to the database of one of these clubs.
 pub record IsOpenedOn (state : State) (clubs : List Club) : Type 0 where

@@ -5,7 +5,9 @@
 mod club;
 mod failed_opening;
 pub mod laws;
+mod storage;
 mod store;
 
 pub use failed_opening::FailedOpening;
+pub use storage::{CrashStates, OverStorage};
 pub use store::Store;

@@ -1,15 +1,15 @@
 //! A club's store in a file that another program can remove.
 
-ghost use Rattle.std.specs.{Bool.OnFalse, Prelude.{◌≡◌, IfErr, IfOk, IsTrue, option_map}};
-ghost use Rattle.club_core.specs.{Basis.account_named, Club.{facility_named, key_named}};
-ghost use Rattle.club_core.specs.{Sheet.AreRowsOf, Store.ReadsStore};
+ghost use Rattle.std.specs.{Bool.OnFalse, Prelude.{◌≡◌, IfErr, IfOk, IsTrue, Some}};
+ghost use Rattle.club_core.specs.Store.{Changes};
 ghost use Rattle.club_core.specs.declared.store.StoreFault.TheVariants.{Storage};
-ghost use Rattle.club_rows.specs.Rows.{row_of_key};
-ghost use Rattle.clubdesk_files.specs.Named.{with_name};
+ghost use Rattle.clubdesk_files.specs.Named.{FailsOrIsLost, with_name};
 
 use club_core::{Change, ClubStore, MemberAccount, SlotUse, StoreFault};
 use club_rows::{Booking, BookingNumber, Facility, KeyRow, OlderRoot};
+use club_store::{CrashStates, OverStorage};
 use club_values::{Day, Moment, Name, Slot};
+use sqlite::Alter;
 
 /// An open file that another program can remove from the file system.
 pub trait Removable {
@@ -26,8 +26,8 @@ pub trait Removable {
         ensures found { IsTrue result → is_found self.now };
 }
 
-/// A store over a file. If the file has lost its name, the first read of each request or command
-/// fails. Other programs can therefore find every change that the store confirms.
+/// A store over a file. If the file has lost its name, each change fails. Other programs can
+/// therefore find every change that the store confirms.
 #[derive(Drop)]
 pub struct NamedStore<S, F> {
     pub store: S,
@@ -48,19 +48,14 @@ impl<S, F: Removable> NamedStore<S, F> {
     }
 }
 
-/// The first read of each request or command is `key_row`, `facility`, `account` or `day`. These
-/// functions fail if the file has lost its name.
-impl<S: ClubStore, F: Removable> ClubStore for NamedStore<S, F> {
+/// A change fails if the file has lost its name. A read doesn't check the file, because the store
+/// has the file open.
+impl<S: CrashStates, F: Removable> ClubStore for NamedStore<S, F> {
     ghost ghosts = { with_name S.ghosts F.is_lost };
 
     ghost sound = { λ named club others represents. S.sound named.store club others represents };
 
-    fn key_row(&mut self, name: &Name) -> Result<Option<KeyRow>, StoreFault>
-        ensures reads { ReadsStore (with_name S.ghosts F.is_lost) self.old self.new result
-            (λ club row. row ≡ option_map row_of_key (key_named name.now club)) }
-        ensures found { IfOk result (λ _. F.is_found self.old.file) }
-    {
-        self.look()?;
+    fn key_row(&mut self, name: &Name) -> Result<Option<KeyRow>, StoreFault> {
         self.store.key_row(name)
     }
 
@@ -68,12 +63,7 @@ impl<S: ClubStore, F: Removable> ClubStore for NamedStore<S, F> {
         self.store.older_root(name)
     }
 
-    fn facility(&mut self, name: &Name) -> Result<Option<Facility>, StoreFault>
-        ensures reads { ReadsStore (with_name S.ghosts F.is_lost) self.old self.new result
-            (λ club facility. facility ≡ facility_named name.now club) }
-        ensures found { IfOk result (λ _. F.is_found self.old.file) }
-    {
-        self.look()?;
+    fn facility(&mut self, name: &Name) -> Result<Option<Facility>, StoreFault> {
         self.store.facility(name)
     }
 
@@ -93,12 +83,7 @@ impl<S: ClubStore, F: Removable> ClubStore for NamedStore<S, F> {
         self.store.booking(key, number)
     }
 
-    fn account(&mut self, member: &Name) -> Result<Option<MemberAccount>, StoreFault>
-        ensures reads { ReadsStore (with_name S.ghosts F.is_lost) self.old self.new result
-            (λ club account. account ≡ account_named member.now club) }
-        ensures found { IfOk result (λ _. F.is_found self.old.file) }
-    {
-        self.look()?;
+    fn account(&mut self, member: &Name) -> Result<Option<MemberAccount>, StoreFault> {
         self.store.account(member)
     }
 
@@ -110,16 +95,36 @@ impl<S: ClubStore, F: Removable> ClubStore for NamedStore<S, F> {
         self.store.spent(key)
     }
 
-    fn day(&mut self, day: Day) -> Result<Vec<Booking>, StoreFault>
-        ensures reads { ReadsStore (with_name S.ghosts F.is_lost) self.old self.new result
-            (λ club rows. AreRowsOf club day rows.items) }
-        ensures found { IfOk result (λ _. F.is_found self.old.file) }
-    {
-        self.look()?;
+    fn day(&mut self, day: Day) -> Result<Vec<Booking>, StoreFault> {
         self.store.day(day)
     }
 
-    fn apply(&mut self, change: &Change) -> Result<(), StoreFault> {
+    fn apply(&mut self, change: &Change) -> Result<(), StoreFault>
+        ensures was_clean { S.ghosts.is_clean self.new.store → S.ghosts.is_clean self.old.store }
+        ensures changed { S.ghosts.is_clean self.new.store →
+            Changes (λ named. S.ghosts.represents named.store) change.now self.old self.new
+            result }
+        ensures failed { S.ghosts.is_clean self.new.store → IfErr result
+            (λ fault. FailsOrIsLost S.ghosts F.is_lost (Some change.now) self.old fault
+            self.new) }
+        ensures found { IfOk result (λ _. F.is_found self.old.file) }
+    {
+        self.look()?;
         self.store.apply(change)
+    }
+}
+
+/// Each sound club may be added to the crash states of the store.
+impl<S: CrashStates, F: Removable> CrashStates for NamedStore<S, F> {
+    ghost widened = { λ named club others more. S.widened named.store club others more };
+}
+
+/// The storage of the SQLite engine is that of the store.
+impl<T: Alter, S: OverStorage<T> + CrashStates, F: Removable + Drop> OverStorage<T>
+    for NamedStore<S, F>
+{
+    fn into_storage(self) -> T {
+        let NamedStore { store, file: _ } = self;
+        store.into_storage()
     }
 }

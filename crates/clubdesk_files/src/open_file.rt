@@ -1,5 +1,7 @@
 //! The file that a store has open.
 
+ghost use Rattle.clubdesk_files.specs.Named.{IsWatched};
+
 use crate::named::Removable;
 use crate::place::IN_MEMORY;
 use std::fs::File;
@@ -45,14 +47,16 @@ impl OpenFile {
 
     /// Returns a file that is never checked. The office's commands use such a file, because they
     /// have the database open only briefly.
-    pub(crate) fn unwatched() -> OpenFile {
+    pub(crate) fn unwatched() -> OpenFile
+        ensures { ¬ IsWatched result }
+    {
         OpenFile { file: None }
     }
 }
 
-/// The contract states nothing about the system's answers.
+/// Only a watched file can be lost. The contract states nothing about the system's answers.
 impl Removable for OpenFile {
-    ghost is_lost = { λ _. Unit {0} };
+    ghost is_lost = { IsWatched };
 
     ghost is_found = { λ _. Unit {0} };
 
