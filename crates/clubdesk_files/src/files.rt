@@ -1,7 +1,9 @@
 //! Databases in files. The name of a database is the path of its file.
 
-ghost use Rattle.std.specs.Prelude.{◌≡◌};
+ghost use Rattle.std.specs.Prelude.{◌≡◌, IfOk};
+ghost use Rattle.clubdesk_files.specs.Opened.{IsOpenedByOffice, OpensServer};
 ghost use Rattle.desk_server.specs.Served.{CountsOn};
+ghost use Rattle.sqlite.specs.WalFiles.{image_at};
 
 use crate::attempts::{ATTEMPTS_A_SECOND, gain};
 use crate::door::FileDoor;
@@ -11,6 +13,7 @@ use crate::openings::{FileClub, OfficeOpenings, ServerOpenings};
 use crate::place::fault_of;
 use club_core::StoreFault;
 use desk_server::{Databases, Reached};
+use sqlite::{Start, Unknown};
 
 /// The number of attempts to open a file that another program has open. All attempts together take
 /// ten seconds.
@@ -48,10 +51,12 @@ impl<'a> Databases for Files<'a> {
     type Visit = FileVisit<'a>;
 
     ghost opens = { λ old name given new.
-        CountsOn old.tried 1 new.tried × (new.closed ≡ old.closed) };
+        CountsOn old.tried 1 new.tried × (new.closed ≡ old.closed)
+        × OpensServer (image_at ⟦<Unknown as Start>⟧) given };
 
     ghost reaches = { λ old name given new.
-        CountsOn old.tried 1 new.tried × (new.closed ≡ old.closed) };
+        CountsOn old.tried 1 new.tried × (new.closed ≡ old.closed)
+        × IfOk given (IsOpenedByOffice (image_at ⟦<Unknown as Start>⟧)) };
 
     ghost closes = { λ old store new.
         CountsOn old.closed 1 new.closed × (new.tried ≡ old.tried) };

@@ -1,5 +1,9 @@
 //! Attempts to open a database that another program may have open.
 
+ghost use Rattle.std.specs.Prelude.{IfOk, IfSome};
+ghost use Rattle.clubdesk_files.specs.Opened.{IsOpenedByOffice, IsOpenedFrom, OpensServer};
+ghost use Rattle.sqlite.specs.WalFiles.{image_at};
+
 use crate::attempts::Attempts;
 use crate::file_visit::{FileVisit, Found, find_server};
 use crate::named::NamedStore;
@@ -8,7 +12,7 @@ use crate::place::{fault_of, make_private};
 use club_core::StoreFault;
 use club_store::{FailedOpening, Store};
 use desk_server::Reached;
-use sqlite::{FileFrom, FileStore, Unknown};
+use sqlite::{FileFrom, FileStore, Start, Unknown};
 
 /// The store of a club in a file. [`Unknown`] means that a torn write leaves each byte either old
 /// or new.
@@ -19,7 +23,10 @@ pub type FileClub = NamedStore<FileStoreOfClub, OpenFile>;
 
 // Opens the database in a file. If the file is missing, creates a file that only its owner can use.
 // Returns `None` while another program has the file open.
-fn try_open(rt: &HostRuntime, name: &str) -> Option<Result<FileStoreOfClub, StoreFault>> {
+fn try_open(rt: &HostRuntime, name: &str) -> Option<Result<FileStoreOfClub, StoreFault>>
+    ensures { IfSome result (λ opened. IfOk opened
+        (IsOpenedFrom (image_at ⟦<Unknown as Start>⟧))) }
+{
     make_private(rt, name);
     match Store::open_file(rt, name, Unknown) {
         Ok(store) => Some(Ok(store)),
@@ -38,7 +45,8 @@ pub struct ServerOpenings<'a, 'n> {
 impl<'a> Attempts for ServerOpenings<'a, '_> {
     type Gain = Result<FileClub, StoreFault>;
 
-    ghost gains = { λ _ _ _. Unit {0} };
+    ghost gains = { λ _ gained _. IfSome gained
+        (OpensServer (image_at ⟦<Unknown as Start>⟧)) };
 
     fn attempt(&mut self) -> Option<Result<FileClub, StoreFault>> {
         match try_open(self.rt, self.name)? {
@@ -63,7 +71,8 @@ pub struct OfficeOpenings<'a, 'n> {
 impl<'a> Attempts for OfficeOpenings<'a, '_> {
     type Gain = Result<Reached<FileClub, FileVisit<'a>>, StoreFault>;
 
-    ghost gains = { λ _ _ _. Unit {0} };
+    ghost gains = { λ _ gained _. IfSome gained (λ reached. IfOk reached
+        (IsOpenedByOffice (image_at ⟦<Unknown as Start>⟧))) };
 
     fn attempt(&mut self) -> Option<Result<Reached<FileClub, FileVisit<'a>>, StoreFault>> {
         match find_server(self.rt, self.name) {
