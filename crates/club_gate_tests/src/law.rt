@@ -67,7 +67,7 @@ fn files_left<D: Disk + Drop>(
     let connection = Connection::open_files(rt.alloc(), files, Options::new(7)).ok();
     let desk = desk_over(rt, connection.expect(rt, "a database"));
     let (events, want) = events_and_replies(rt, rows);
-    let run = run_and_leave::<D, D>(desk, events.as_slice());
+    let run = run_and_leave::<D, D, _>(desk, events.as_slice());
     let (replies, store) = run.expect(rt, "replies");
     expect_eq(rt, replies.as_slice(), want.as_slice());
     Some(store.close())

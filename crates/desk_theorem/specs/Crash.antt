@@ -2,13 +2,13 @@
 use Rattle.sqlite_disk.specs.declared.Disk as disk
 use Rattle.sqlite.specs.FileStore as file
 use Rattle.club_core.specs.Run as machine
-use Rattle.std.specs.Prelude.{◌≡◌, ◌⊎◌, List, [], ◌∷◌, All, Contains, IsTrue}
-use Rattle.club_core.specs.Club.{Club, IsSound}
+use Rattle.std.specs.Prelude.{◌≡◌, ◌⊎◌, List, [], Contains}
+use Rattle.club_core.specs.Club.{Club}
 use Rattle.club_gate.specs.Runs.{IsWithinOneEvent, MayBeLeft, DeskResponse, club_left}
 use Rattle.club_laws.specs.RunsWithFailures.{RepeatsServedReplies}
-use Rattle.club_store.specs.Opening.{CrashLeaves, IsOpenedOn, LeavesOneOf, RepresentsOne, OpensFrom}
+use Rattle.club_store.specs.Opening.{CrashLeaves, IsOpenedOn, RepresentsOne, OpensFrom}
 use Rattle.club_tables.specs.{ReadsAndChanges.sound_in, Tables.Represents}
-use Rattle.sqlite.specs.{Files.{file_state, over_files, IsOpened}, Held.Held, Recovery.Image, Start.FindsIn, State.State, Store.Ghosts, View.IsClean}
+use Rattle.sqlite.specs.{Files.{file_state, over_files, IsOpened}, Held.Held, Recovery.Image, Start.FindsIn, State.State, View.IsClean}
 use Rattle.sqlite.specs.declared.FileStore.{FileStore}
 
 -- The state represents exactly one of these clubs, and no later crash changes the club. In this
@@ -41,12 +41,6 @@ pub record IsAdoptedFrom {E : Type 0} {e : disk.Ghosts E} (start : Image) (now :
 -- `Store::open_file` or `Store::adopt` opened the store on a file and a log with this image.
 abbrev pub IsReopened : {E : Type 0} {e : disk.Ghosts E} → Image → Held (FileStore E e) → Type 0
 IsReopened start now = OpensFrom start now ⊎ IsAdoptedFrom start now
-
--- Each of these clubs is sound. If the store's disk has been clean so far, a crash leaves the
--- database of one of these clubs.
-abbrev pub leaves_sound_in : {S : Type 0} → Ghosts S → S → Club → List Club → Type 0
-leaves_sound_in g store club others =
-    All IsSound (club ∷ others) × IsTrue (g.view store).is_numbered × LeavesOneOf g store (club ∷ others)
 
 -- After a run and a crash, a reopened store represents exactly one club, which no later crash
 -- changes. This club is the club after the answered events, or another club that the crash may have
