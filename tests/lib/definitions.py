@@ -196,10 +196,12 @@ class CodeFile:
         walk.scopes[0].update(
             re.findall(r"\b(?:mut )?([a-z_]+):", signature[: signature.find("ensures")])
         )
-        # `⟦<TYPE as TRAIT>⟧.GHOST`
+        # `⟦<TYPE as TRAIT>⟧.GHOST`. A trait of the standard library has no definition here.
         for trait, name in re.findall(r"⟦<[^⟧]* as (\w+)>⟧\.(\w+)", text):
-            walk.cited.append(self.book.ghost(self.rust_type(trait), name))
-        walk.expression(tokens_of(re.sub(r"⟦[^⟧]*⟧\.\w+", "", text)))
+            ghost = self.book.ghost(self.rust_type(trait), name)
+            if ghost:
+                walk.cited.append(ghost)
+        walk.expression(tokens_of(re.sub(r"⟦[^⟧]*⟧(\.\w+)?", "", text)))
         return walk.cited, walk.unknown
 
 
