@@ -12,5 +12,5 @@ sound_widened state club others more sound (all, represents) = (
     held = represents.held;
     idle = represents.idle;
     left = λ clean trees may. elim (represents.left clean trees may) [ inl here ↦ inl here | inr there ↦ inr (inr there) ];
-  }
+  },
 )

@@ -121,8 +121,7 @@ impl<S: CrashStates, F: Removable> CrashStates for NamedStore<S, F> {
 
 /// The storage of the SQLite engine is that of the store.
 impl<T: Alter, S: OverStorage<T> + CrashStates, F: Removable + Drop> OverStorage<T>
-    for NamedStore<S, F>
-{
+    for NamedStore<S, F> {
     fn into_storage(self) -> T {
         let NamedStore { store, file: _ } = self;
         store.into_storage()
