@@ -6,6 +6,7 @@ use super::runs::*;
 use crate::expect::{Host, arguments_of, expect_case, joined, text_of};
 use command_line::given_arguments;
 use passtool_commands::{BadValue, Name, run_process};
+use std::env::Env;
 use std::fmt::Write;
 use std::io::Read;
 use test_kit::Process;
@@ -13,10 +14,20 @@ use test_kit::Process;
 /// The status, the standard output and the standard error.
 type Ended = (u8, String, String);
 
+fn status_of<P: Env + Eprint + AllocGlobal>(
+    rt: &impl Host,
+    process: &P,
+    input: &mut impl Read,
+    written: &mut Vec<u8>,
+) -> u8 {
+    let mut process = process;
+    run_process(rt.alloc(), &mut process, input, written)
+}
+
 fn end_of(rt: &impl Host, arguments: &[&[u8]], input: &mut impl Read) -> Ended {
     let process = Process::new(rt.alloc(), arguments);
     let mut written = Vec::new(rt.alloc());
-    let status = run_process(rt.alloc(), &mut &process, input, &mut written);
+    let status = status_of(rt, &process, input, &mut written);
     let written = String::from_utf8(written).ok().expect(rt, "text");
     (status, written, process.into_printed())
 }
