@@ -12,6 +12,7 @@ The program prints each slip with its place. The status is 1 if there is a slip.
 - A function's body has 40 lines or more, a file of code has 800 or more, or a file of proofs has
   400 or more.
 - A crate has more than 100 functions.
+- Python, JavaScript, shell or CSS in the folders of SIZED exceeds the limits of tests/lib/sizes.py.
 - A public docstring has a number but no unit.
 - The version in the newest heading of CHANGELOG.md differs from the code's version.
 - A module in specs/ or proofs/ is never imported, a file of code has no `mod` line, or no page
@@ -44,10 +45,13 @@ sys.path.insert(0, str(Path(__file__).resolve().parent / "lib"))
 import more_edits
 import planted
 import prose
+import sizes
 from spec_files import spelled_out
 
 ROOT = Path(__file__).resolve().parent.parent
 os.chdir(ROOT)
+# Folders whose Python, JavaScript, shell and CSS is within the limits of tests/lib/sizes.py.
+SIZED = ("bindings", "examples", "tests/reference")
 # Names that two modules in specs/ may define, each with the reason.
 TWINS = {
     "◌>>=◌": "the bind of `do`, which each kind of result defines",
@@ -299,6 +303,11 @@ def unnamed_scripts():
             yield f"no page mentions: {script}"
 
 
+def too_large_elsewhere():
+    for folder in SIZED:
+        yield from sizes.below(Path(folder))
+
+
 def install_aspell():
     """Installs aspell if it is missing, the caller is root, and the system has apt-get."""
     if not shutil.which("aspell") and os.geteuid() == 0 and shutil.which("apt-get"):
@@ -358,7 +367,8 @@ def main():
             *unused_code(crate),
             *stale_edits(crate),
         ]
-    slips += [] if named else [*other_versions(), *unnamed_scripts(), *stale_plants()]
+    if not named:
+        slips += [*other_versions(), *unnamed_scripts(), *stale_plants(), *too_large_elsewhere()]
     slips += worded(named, given.since)
     print(*slips, f"{len(slips)} slips", sep="\n")
     return 1 if slips else 0
