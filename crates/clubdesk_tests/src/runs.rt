@@ -6,9 +6,11 @@ use club_core::StoreFault;
 use club_http::WriteOutlet;
 use clubdesk_commands::run_process;
 use clubdesk_files::{DatabasesUser, run_over_files};
-use desk_server::{Databases, LogLines, Reached};
+use desk_server::{Databases, Log, LogLines, Reached};
 use std::alloc::AllocError;
+use std::env::Env;
 use std::fmt::Debug;
+use std::io::{Read, Write};
 use std::test::Fail;
 use std::time::Clock;
 use std::{env, fs, process};
@@ -96,6 +98,19 @@ fn arguments_of<'l>(rt: &HostRuntime, line: &'l str) -> Result<Vec<&'l [u8]>, Al
         .collect(rt.alloc())
 }
 
+fn status_of<P: Env + Eprint + AllocGlobal, C: Clock, D: Databases, R: Read, W: Write, G: Log>(
+    rt: &HostRuntime,
+    process: &P,
+    machine: &C,
+    databases: &mut D,
+    reader: &mut R,
+    writer: &mut W,
+    lines: &mut G,
+) -> u8 {
+    let mut process = process;
+    run_process(rt, &mut process, machine, databases, reader, writer, lines)
+}
+
 fn run_over<C: Clock, D: Databases>(
     rt: &HostRuntime,
     machine: &C,
@@ -112,15 +127,7 @@ fn run_over<C: Clock, D: Databases>(
     let mut lines = LogLines::new(WriteOutlet::new(&mut log), machine);
     let reader = &mut input;
     let writer = &mut caller;
-    let status = run_process(
-        rt,
-        &mut &process,
-        machine,
-        databases,
-        reader,
-        writer,
-        &mut lines,
-    );
+    let status = status_of(rt, &process, machine, databases, reader, writer, &mut lines);
     let printed = process.into_printed();
     Ok(Output {
         returned: text_of(rt, status, printed.as_str(), caller.written_bytes())?,
