@@ -13,7 +13,6 @@ from concurrent.futures import ThreadPoolExecutor
 
 import pytest
 
-import desk
 from reference import passes
 
 pytestmark = [pytest.mark.programs, pytest.mark.quick, pytest.mark.needs("passtool")]
