@@ -133,7 +133,21 @@ export async function booked(slot = SLOT, guests = 1) {
   return state.entries.find(({ number }) => number === made.number);
 }
 
-// Waits until the page has done what it does after a press: no request is open for a while.
+// A digest or signature that runs counts like an open request, because the page goes on after it.
+for (const name of ["digest", "importKey", "sign"]) {
+  const compute = crypto.subtle[name].bind(crypto.subtle);
+  crypto.subtle[name] = async (...given) => {
+    open += 1;
+    try {
+      return await compute(...given);
+    } finally {
+      open -= 1;
+    }
+  };
+}
+
+// Waits until the page has done what it does after a press: for a while, no request is open and no
+// signature is computed.
 export async function settled() {
   for (let quiet = 0; quiet < 25; quiet += 1) {
     await new Promise((done) => { setTimeout(done, 1); });
