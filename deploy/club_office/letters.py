@@ -16,7 +16,7 @@ from club_office.spares import spare_keys
 from club_office.texts import language, say
 from club_office.values import NAME
 
-# A sheet fits on a page of A4 and of Letter, so the style names no paper.
+# A sheet is laid out for a page of A4 or of Letter, so the style names no size.
 STYLE = """
 @page { margin: 12mm; }
 body { margin: 0; color: #111; font: 10.5pt/1.4 system-ui, "DejaVu Sans", sans-serif; }
